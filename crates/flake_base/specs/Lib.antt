@@ -1,0 +1,4 @@
+pub mod Causes
+pub mod Growth
+pub mod Reads
+pub mod Roomy
