@@ -1,3 +1,4 @@
 pub mod Grammar
 pub mod OneSession
 pub mod OneOrder
+pub mod OneThread
