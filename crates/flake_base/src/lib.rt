@@ -2,9 +2,15 @@
 //! and the outside as traits, each with a form in memory.
 #![tactic(auto)]
 
+mod calls;
 mod fault;
 mod host;
 mod journal;
+mod kept;
+mod memory_file;
+mod memory_host;
+mod memory_source;
+mod memory_wire;
 mod reply;
 mod segment;
 mod sequence;
@@ -15,6 +21,9 @@ mod wire;
 pub use fault::{Failed, Memory};
 pub use host::Host;
 pub use journal::Entry;
+pub use memory_host::MemoryHost;
+pub use memory_source::MemorySource;
+pub use memory_wire::MemoryWire;
 pub use reply::ErrorKind;
 pub use segment::Seg;
 pub use sequence::Sequence;
