@@ -7,7 +7,7 @@ use std::alloc::Global;
 use std::marker::Model;
 
 /// Keeps what is put, in room that is taken at once.
-#[derive(Drop)]
+#[derive(Debug, Drop)]
 pub struct Kept {
     bytes: Bytes,
     room: usize,

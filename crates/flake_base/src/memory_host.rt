@@ -17,7 +17,7 @@ use std::marker::Model;
 /// Files in memory, and room for what is said. An open takes the first file of its name out, once. A say keeps what
 /// a put on a `MemoryWire` keeps. Opens and says are numbered together, from 0; those whose numbers stand in `fails`
 /// fail.
-#[derive(Drop)]
+#[derive(Debug, Drop)]
 pub struct MemoryHost {
     files: Vec<MemoryFile>,
     said: Kept,
@@ -130,6 +130,7 @@ impl Host for MemoryHost {
         // Which opens fail, and what the others give and leave.
         ensures source { result_ok result ≡ (if fails_at self.old.fails self.old.calls then None else option_map source_of (contents_of self.old.files name.now)) }
         ensures files { self.new.files ≡ (if fails_at self.old.fails self.old.calls then self.old.files else opened self.old.files name.now) }
+        ensures faults { self.new.open_faults ≡ (if is_err result then counted self.old.open_faults else self.old.open_faults) }
         ensures calls { self.new.calls ≡ counted self.old.calls }
         ensures same { (self.new.said ≡ self.old.said) × (self.new.room ≡ self.old.room) × (self.new.fails ≡ self.old.fails) }
         ensures say_faults { self.new.say_faults ≡ self.old.say_faults }
@@ -153,6 +154,7 @@ impl Host for MemoryHost {
         ensures fails { is_err result ≡ say_fails self.old piece.now }
         ensures kept { self.new.said ≡ self.old.said ++ say_keeps self.old piece.now }
         ensures quiet { self.old.fails ≡ [] → length self.old.said + length piece.now ≤ self.old.room → IsOk result }
+        ensures faults { self.new.say_faults ≡ (if is_err result then counted self.old.say_faults else self.old.say_faults) }
         ensures calls { self.new.calls ≡ counted self.old.calls }
         ensures same { (self.new.files ≡ self.old.files) × (self.new.room ≡ self.old.room) × (self.new.fails ≡ self.old.fails) }
         ensures open_faults { self.new.open_faults ≡ self.old.open_faults }

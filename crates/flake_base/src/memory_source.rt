@@ -1,4 +1,4 @@
-ghost use Rattle.std.specs.Prelude.{◌≡◌, ◌≤◌, ◌<◌, [], length, Some, IsOk, is_err, IfOk, OnErr};
+ghost use Rattle.std.specs.Prelude.{◌≡◌, ◌≤◌, ◌<◌, [], length, Some, IsOk, is_err, if◌then◌else◌, IfOk, OnErr};
 ghost use Rattle.flake_base.specs.Calls.{fails_at, counted};
 ghost use Rattle.flake_base.specs.Causes.{HasCause};
 ghost use Rattle.flake_base.specs.MemorySource.{given_count};
@@ -9,7 +9,7 @@ use crate::{Bytes, Failed, Fails, Source};
 use std::marker::Model;
 
 /// Bytes in memory, of which a read gives at most `step`. The reads whose numbers, from 0, stand in `fails` fail.
-#[derive(Drop)]
+#[derive(Debug, Drop)]
 pub struct MemorySource {
     bytes: Bytes,
     at: usize,
@@ -68,6 +68,7 @@ impl Source for MemorySource {
         ensures fails { is_err result ≡ fails_at self.old.fails self.old.reads }
         ensures count { IfOk result (λ n. n ≡ given_count self.old (length room.new)) }
         ensures quiet { self.old.fails ≡ [] → IsOk result }
+        ensures faults { self.new.faults ≡ (if is_err result then counted self.old.faults else self.old.faults) }
         ensures reads { self.new.reads ≡ counted self.old.reads }
         ensures same { (self.new.step ≡ self.old.step) × (self.new.fails ≡ self.old.fails) }
     {

@@ -1,4 +1,4 @@
-ghost use Rattle.std.specs.Prelude.{◌≡◌, ◌≤◌, ◌<◌, ◌+◌, ◌++◌, [], length, Some, true, false, is_err, IsOk, IfOk, OnOk, OnErr};
+ghost use Rattle.std.specs.Prelude.{◌≡◌, ◌≤◌, ◌<◌, ◌+◌, ◌++◌, [], length, Some, true, false, is_err, if◌then◌else◌, IsOk, IfOk, OnOk, OnErr};
 ghost use Rattle.flake_base.specs.Calls.{counted};
 ghost use Rattle.flake_base.specs.Causes.{HasCause};
 ghost use Rattle.flake_base.specs.Growth.{Grew};
@@ -12,7 +12,7 @@ use std::marker::Model;
 
 /// Keeps what is put, in room that is taken at once. A put past the room fails and keeps nothing. Any other put
 /// whose number, from 0, stands in `fails` fails and keeps the first half of its piece, rounded down.
-#[derive(Drop)]
+#[derive(Debug, Drop)]
 pub struct MemoryWire {
     kept: Kept,
     calls: Calls,
@@ -68,6 +68,7 @@ impl Wire for MemoryWire {
         ensures fails { is_err result ≡ put_fails self.old piece.now }
         ensures kept { self.new.sent ≡ self.old.sent ++ put_keeps self.old piece.now }
         ensures quiet { self.old.fails ≡ [] → length self.old.sent + length piece.now ≤ self.old.room → IsOk result }
+        ensures faults { self.new.faults ≡ (if is_err result then counted self.old.faults else self.old.faults) }
         ensures puts { self.new.puts ≡ counted self.old.puts }
         ensures same { (self.new.room ≡ self.old.room) × (self.new.fails ≡ self.old.fails) }
     {
