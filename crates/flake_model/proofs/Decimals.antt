@@ -1,5 +1,5 @@
 -- What `decimal` writes of numbers of any size.
-use Rattle.std.proofs.Common.{◌≡◌, ℕ, ◌+◌, ◌*◌, ◌/◌, ◌%◌, ◌<◌, ◌≤◌, ◌^◌, ◌⊎◌, inl, inr, zero, suc, true, false, nat_eq, nat_lt, if◌then◌else◌, List, [], ◌∷◌, length, arith, refl, ap, sym, ◌∙◌, subst, lit<, lit≤}
+use Rattle.std.proofs.Common.{◌≡◌, ℕ, ◌+◌, ◌*◌, ◌/◌, ◌%◌, ◌<◌, ◌≤◌, ◌^◌, inl, inr, zero, suc, true, false, nat_eq, if◌then◌else◌, List, [], ◌∷◌, length, arith, ap, sym, ◌∙◌, lit<}
 use Rattle.std.specs.Fmt.{decimal, digits, digits_onto, digit_glyph}
 use Rattle.std.specs.Char.{digit_value}
 use Rattle.std.specs.Str.Parse.{AllDigits, digits_value}
@@ -16,7 +16,7 @@ onto_digits zero n acc all = all
 onto_digits (suc k) n acc all =
     let last : digit_value (digit_glyph false (n % 10)) < 10 = glyph_is_digit (n % 10) (omega arith) in
     elim (nat_eq (n / 10) 0) as (λ b. AllDigits 10 (if b then digit_glyph false (n % 10) ∷ acc else digits_onto k 10 false (n / 10) (digit_glyph false (n % 10) ∷ acc))) [
-      true ↦ (last, all)
+      | true ↦ (last, all)
       | false ↦ onto_digits k (n / 10) (digit_glyph false (n % 10) ∷ acc) (last, all)
     ]
 
@@ -49,6 +49,6 @@ long n large = onto_length 64 n [] large
 pub same_decimal : (m n : ℕ) → n < 2 ^ 64 → decimal m ≡ decimal n → m ≡ n
 same_decimal m n small e =
     elim (cases_lt m (10 ^ 64)) [
-      inl less ↦ sym (decimal_is_IsNumeral_wide m less).1 ∙ ap (digits_value 10) e ∙ (decimal_is_IsNumeral_wide n (omega arith)).1
+      | inl less ↦ sym (decimal_is_IsNumeral_wide m less).1 ∙ ap (digits_value 10) e ∙ (decimal_is_IsNumeral_wide n (omega arith)).1
       | inr large ↦ absurd (let short : length (decimal n) ≤ 20 = length-decimal-le 20 n (lit< tt) (omega arith) small in let is : length (decimal m) ≡ 64 = long m large in let same : length (decimal m) ≡ length (decimal n) = ap length e in omega arith)
     ]

@@ -1,5 +1,5 @@
 -- Which bytes may stand behind the first ones of a number and its line end.
-use Rattle.std.proofs.Common.{◌≡◌, ◌≢◌, ℕ, ◌+◌, ◌*◌, ◌<◌, ◌≤◌, ◌^◌, ◌⊎◌, inl, inr, zero, suc, List, [], ◌∷◌, ◌++◌, length, take, get_or, arith, refl, ap, sym, ◌∙◌, subst, append_assoc, lit<, lit≤}
+use Rattle.std.proofs.Common.{◌≡◌, ◌≢◌, ℕ, ◌<◌, ◌≤◌, ◌^◌, ◌⊎◌, inl, inr, zero, suc, List, [], ◌∷◌, ◌++◌, length, take, get_or, arith, refl, ap, sym, ◌∙◌, subst, append_assoc, lit<, lit≤}
 use Rattle.std.specs.Fmt.{decimal}
 use Rattle.std.specs.Char.{digit_value}
 use Rattle.std.specs.Str.Parse.{AllDigits, digits_value}
@@ -7,7 +7,6 @@ use Rattle.std.specs.List.{AllByRecursion, Contains, slice_index_or}
 use Rattle.std.proofs.lemmas.List.{take_at}
 use Rattle.std.proofs.lemmas.Fmt.{decimal_is_IsNumeral, decimal_digit, first_decimal}
 use Rattle.std.proofs.lemmas.Str.Parse.{digits_value-take-le}
-use Rattle.flake_model.specs.Resp.{crlf}
 use Rattle.flake_model.proofs.Grammar.{NoCr, NoCr-digits, NoCr-decimal, before_cr, not_minus}
 
 -- No number up to the limit, with its line end, has this line and this byte in front.
@@ -46,7 +45,7 @@ line_goes_on (c ∷ all) (d ∷ line) byte behind rest clear e =
     let same : c ≡ d = cc in
     let tails : all ++ 13 ∷ behind ≡ line ++ byte ∷ rest = cc in
     elim (line_goes_on all line byte behind rest clear.1 tails) [
-      inl whole ↦ (let lines : line ≡ all = whole.0 in inl (cc, whole.1, whole.2))
+      | inl whole ↦ (let lines : line ≡ all = whole.0 in inl (cc, whole.1, whole.2))
       | inr more ↦ (let lines : all ≡ line ++ byte ∷ more.0 = more.1 in inr (more.0, cc))
     ]
 
@@ -54,9 +53,9 @@ line_goes_on (c ∷ all) (d ∷ line) byte behind rest clear e =
 pub not_a_digit : (limit : ℕ) (line : List ℕ) (byte : ℕ) → limit < 2 ^ 64 → AllDigits 10 line → byte ≢ 13 → 10 ≤ digit_value byte → NoNumber limit line byte
 not_a_digit limit line byte small digits no_end no_digit n behind rest below e =
     elim (line_goes_on (decimal n) line byte (10 ∷ behind) rest (NoCr-digits line digits) e) [
-      inl whole ↦ no_end whole.1
+      | inl whole ↦ no_end whole.1
       | inr more ↦ (let all = (decimal_is_IsNumeral n (omega arith)).0.1 in
-        let is : digit_value byte < 10 = front_digits line byte more.0 (subst (AllDigits 10) more.1 all) in omega arith)
+          let is : digit_value byte < 10 = front_digits line byte more.0 (subst (AllDigits 10) more.1 all) in omega arith)
     ]
 
 -- a line end where there is no digit yet
@@ -64,7 +63,7 @@ pub no_digits : (limit : ℕ) → limit < 2 ^ 64 → NoNumber limit [] 13
 no_digits limit small n behind rest below e =
     let number = decimal_is_IsNumeral n (omega arith) in
     elim (line_goes_on (decimal n) [] 13 (10 ∷ behind) rest tt e) [
-      inl whole ↦ (let some = number.0.0 in let none : length (decimal n) ≡ 0 = ap length (sym whole.0) in omega arith)
+      | inl whole ↦ (let some = number.0.0 in let none : length (decimal n) ≡ 0 = ap length (sym whole.0) in omega arith)
       | inr more ↦ (let is : digit_value 13 < 10 = front_digits [] 13 more.0 (subst (AllDigits 10) more.1 number.0.1) in omega arith)
     ]
 
@@ -72,7 +71,7 @@ no_digits limit small n behind rest below e =
 pub behind_zero : (limit byte : ℕ) → limit < 2 ^ 64 → byte ≢ 13 → NoNumber limit (48 ∷ []) byte
 behind_zero limit byte small no_end n behind rest below e =
     elim (line_goes_on (decimal n) (48 ∷ []) byte (10 ∷ behind) rest (λ e. absurd (omega (arith, e)), tt) e) [
-      inl whole ↦ no_end whole.1
+      | inl whole ↦ no_end whole.1
       | inr more ↦ no_leading_zero n byte more.0 (omega arith) more.1
     ]
 
@@ -80,7 +79,7 @@ behind_zero limit byte small no_end n behind rest below e =
 pub too_large : (limit : ℕ) (line : List ℕ) (byte : ℕ) → limit < 2 ^ 64 → AllDigits 10 line → byte ≢ 13 → limit < digits_value 10 (line ++ byte ∷ []) → NoNumber limit line byte
 too_large limit line byte small digits no_end large n behind rest below e =
     elim (line_goes_on (decimal n) line byte (10 ∷ behind) rest (NoCr-digits line digits) e) [
-      inl whole ↦ no_end whole.1
+      | inl whole ↦ no_end whole.1
       | inr more ↦ (let least : digits_value 10 (line ++ byte ∷ []) ≤ n = at_least n (line ++ byte ∷ []) more.0 (omega arith) (more.1 ∙ sym (append_assoc line (byte ∷ []) more.0)) in omega arith)
     ]
 
@@ -102,7 +101,7 @@ NoLf-digits : (digits : List ℕ) → AllDigits 10 digits → AllByRecursion (λ
 NoLf-digits [] all = tt
 NoLf-digits (c ∷ digits) all = (λ e. absurd (omega (arith, subst (λ b. digit_value b < 10) e all.0)), NoLf-digits digits all.1)
 
-not_at : (byte : ℕ) (bytes : List ℕ) → AllByRecursion (λ b. b ≢ byte) bytes → (k : ℕ) → k < length bytes → slice_index_or bytes k byte ≡ byte → ⊥
+pub not_at : (byte : ℕ) (bytes : List ℕ) → AllByRecursion (λ b. b ≢ byte) bytes → (k : ℕ) → k < length bytes → slice_index_or bytes k byte ≡ byte → ⊥
 not_at byte [] all k below is = absurd (omega arith)
 not_at byte (c ∷ bytes) all zero below is = all.0 is
 not_at byte (c ∷ bytes) all (suc k) below is = not_at byte bytes all.1 k (omega arith) is

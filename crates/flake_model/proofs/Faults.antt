@@ -1,5 +1,5 @@
 -- An error, from a front and the byte that no element has behind it.
-use Rattle.std.proofs.Common.{◌≡◌, ℕ, List, [], ◌∷◌, ◌++◌, length, refl, append_assoc, sym}
+use Rattle.std.proofs.Common.{ℕ, List, ◌∷◌, ◌++◌, length, refl, append_assoc, sym}
 use Rattle.flake_model.specs.Resp.{Element, AllElements, stream, requests_of, IsCutShort, FaultKind, IsFaulty}
 use Rattle.flake_model.proofs.Fronts.{NoElementGoesOn}
 

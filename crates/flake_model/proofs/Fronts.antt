@@ -1,5 +1,5 @@
 -- Where an element may go on, and where no element does.
-use Rattle.std.proofs.Common.{◌≡◌, ◌≢◌, ℕ, ◌+◌, ◌-◌, ◌<◌, ◌≤◌, ◌^◌, zero, suc, List, [], ◌∷◌, ◌++◌, length, replicate, flat_map, arith, refl, ap, sym, ◌∙◌, subst, append_assoc, append-nil, length-append, lit<, lit≤}
+use Rattle.std.proofs.Common.{◌≡◌, ◌≢◌, ℕ, ◌-◌, ◌<◌, ◌≤◌, zero, suc, List, [], ◌∷◌, ◌++◌, length, replicate, flat_map, arith, refl, ap, sym, ◌∙◌, subst, append_assoc, append-nil, length-append, lit≤}
 use Rattle.std.specs.Fmt.{decimal}
 use Rattle.std.specs.Char.{digit_value}
 use Rattle.std.specs.Str.Parse.{AllDigits}
@@ -48,6 +48,15 @@ not_null_line c line byte other rest e = other (sym cc)
 
 pub not_null_mark : (byte : ℕ) → byte ≢ 45 → NoNull [] byte
 not_null_mark byte other rest e = other (sym cc)
+
+pub not_null_one : (byte : ℕ) → byte ≢ 49 → NoNull (45 ∷ []) byte
+not_null_one byte other rest e = other (sym cc)
+
+pub not_null_line_end : (byte : ℕ) → byte ≢ 13 → NoNull (45 ∷ 49 ∷ []) byte
+not_null_line_end byte other rest e = other (sym cc)
+
+pub not_null_line_feed : (byte : ℕ) → byte ≢ 10 → NoNull (45 ∷ 49 ∷ 13 ∷ []) byte
+not_null_line_feed byte other rest e = other (sym cc)
 
 pub not_null_digits : (line : List ℕ) (byte : ℕ) → 0 < length line → AllDigits 10 line → NoNull line byte
 not_null_digits [] byte some digits rest e = omega arith
@@ -124,10 +133,13 @@ all_empty (suc n) = (lit≤ tt, all_empty n)
 pub cut_in_count : (n : ℕ) (line more : List ℕ) → n ≤ 1024 → line ++ more ≡ decimal n ++ crlf → 0 < length more → IsCutShort (42 ∷ line)
 cut_in_count n line more most e some =
     let words : List (List ℕ) = replicate n [] in
-    let count : length words ≡ n = length-replicate n [] in
-    (array words, more ++ flat_map bulk_string words, (omega (arith, count), all_empty n),
-        ap (λ (m : ℕ). 42 ∷ decimal m ++ crlf ++ flat_map bulk_string words) count ∙ ap (λ bytes. 42 ∷ bytes ++ flat_map bulk_string words) (sym e) ∙ ap (λ bytes. 42 ∷ bytes) (append_assoc line more (flat_map bulk_string words)),
-        omega (arith, length-append more (flat_map bulk_string words)))
+    let count : length words ≡ n = length-replicate n [] in (
+      array words,
+      more ++ flat_map bulk_string words,
+      (omega (arith, count), all_empty n),
+      ap (λ (m : ℕ). 42 ∷ decimal m ++ crlf ++ flat_map bulk_string words) count ∙ ap (λ bytes. 42 ∷ bytes ++ flat_map bulk_string words) (sym e) ∙ ap (λ bytes. 42 ∷ bytes) (append_assoc line more (flat_map bulk_string words)),
+      omega (arith, length-append more (flat_map bulk_string words)),
+    )
 
 -- and so is an array behind some of its words and a front of the next
 pub cut_in_word : (n : ℕ) (words : List (List ℕ)) (word front more : List ℕ) → n ≤ 1024 → AllByRecursion IsWord words → length words < n → IsWord word → bulk_string word ≡ front ++ more → 0 < length more
@@ -137,11 +149,14 @@ cut_in_word n words word front more most allowed less is e some =
     let all = words ++ word ∷ left in
     let count : length all ≡ n = omega (arith, length-append words (word ∷ left), length-replicate {A = List ℕ} (n - length words - 1) []) in
     let texts : flat_map bulk_string all ≡ flat_map bulk_string words ++ (bulk_string word ++ flat_map bulk_string left) = flat_map-append bulk_string words (word ∷ left) in
-    let tail : bulk_string word ++ flat_map bulk_string left ≡ front ++ (more ++ flat_map bulk_string left) = ap (λ bytes. bytes ++ flat_map bulk_string left) e ∙ append_assoc front more (flat_map bulk_string left) in
-    (array all, more ++ flat_map bulk_string left, (omega (arith, count), all_append IsWord words (word ∷ left) allowed (is, all_empty (n - length words - 1))),
-        ap (λ (m : ℕ). array_head m ++ flat_map bulk_string all) count ∙ ap (λ bytes. array_head n ++ bytes) (texts ∙ ap (λ bytes. flat_map bulk_string words ++ bytes) tail)
-            ∙ sym (append_assoc (array_head n) (flat_map bulk_string words) (front ++ (more ++ flat_map bulk_string left))) ∙ sym (append_assoc (array_front n words) front (more ++ flat_map bulk_string left)),
-        omega (arith, length-append more (flat_map bulk_string left)))
+    let tail : bulk_string word ++ flat_map bulk_string left ≡ front ++ (more ++ flat_map bulk_string left) = ap (λ bytes. bytes ++ flat_map bulk_string left) e ∙ append_assoc front more (flat_map bulk_string left) in (
+      array all,
+      more ++ flat_map bulk_string left,
+      (omega (arith, count), all_append IsWord words (word ∷ left) allowed (is, all_empty (n - length words - 1))),
+      ap (λ (m : ℕ). array_head m ++ flat_map bulk_string all) count ∙ ap (λ bytes. array_head n ++ bytes) (texts ∙ ap (λ bytes. flat_map bulk_string words ++ bytes) tail)
+          ∙ sym (append_assoc (array_head n) (flat_map bulk_string words) (front ++ (more ++ flat_map bulk_string left))) ∙ sym (append_assoc (array_front n words) front (more ++ flat_map bulk_string left)),
+      omega (arith, length-append more (flat_map bulk_string left)),
+    )
 
 pub cut_at_word : (n : ℕ) (words : List (List ℕ)) → n ≤ 1024 → AllByRecursion IsWord words → length words < n → IsCutShort (array_front n words)
 cut_at_word n words most allowed less = subst IsCutShort (append-nil (array_front n words)) (cut_in_word n words [] [] (bulk_string []) most allowed less (lit≤ tt) refl (omega arith))

@@ -1,12 +1,12 @@
 -- A byte that isn't allowed has one kind of error, by the front before it.
-use Rattle.std.proofs.Common.{◌≡◌, ℕ, ◌+◌, ◌<◌, ◌≤◌, ◌^◌, ◌⊎◌, inl, inr, List, [], ◌∷◌, ◌++◌, length, flat_map, arith, refl, ap, sym, ◌∙◌, subst, append_assoc, append-nil, length-append}
+use Rattle.std.proofs.Common.{◌≡◌, ℕ, ◌<◌, ◌^◌, inl, inr, List, [], ◌∷◌, ◌++◌, length, flat_map, arith, refl, ap, sym, ◌∙◌, subst, append_assoc, append-nil, length-append}
 use Rattle.std.specs.Fmt.{decimal}
 use Rattle.std.specs.Char.{digit_value}
 use Rattle.std.specs.Str.Parse.{AllDigits}
 use Rattle.std.specs.List.{AllByRecursion, Contains}
-use Rattle.std.proofs.lemmas.List.{append_cancel_left, append_cancel_right, get_or_at}
+use Rattle.std.proofs.lemmas.List.{append_cancel_right, get_or_at}
 use Rattle.std.proofs.lemmas.Grind.{flat_map-append}
-use Rattle.flake_model.specs.Resp.{Words, crlf, bulk_string, array_head, Element, array, null_array, element_text, IsWord, IsElement, IsCutShort, FaultKind, inline, in_count, at_word, in_word}
+use Rattle.flake_model.specs.Resp.{Words, bulk_string, Element, array, null_array, element_text, IsWord, IsElement, IsCutShort, FaultKind, inline, in_count, at_word, in_word}
 use Rattle.flake_model.proofs.Grammar.{before_cr, fronts, same_length_front}
 use Rattle.flake_model.proofs.Decimals.{NoCr-any, same_decimal, all_digits}
 use Rattle.flake_model.proofs.Fronts.{array_front, word_shape, count_shape}
@@ -93,24 +93,24 @@ before_or_inside element rest m n words others word begun more is e same begins 
     let alls : here.0 ≡ there.0 = cc in
     let both : words ++ here.1 ≡ others ++ there.1 = sym here.4 ∙ alls ∙ there.4 in
     elim (fronts words others here.1 there.1 both) [
-      inl first ↦ (
-        let texts : flat_map bulk_string first.0 ++ rest ≡ 36 ∷ begun ++ rest =
-            ap (λ bytes. flat_map bulk_string first.0 ++ bytes) here.5 ∙ sym (flat_map-append bulk_string first.0 here.1) ∙ ap (flat_map bulk_string) (sym first.2) ∙ sym there.5 in
-        whole_words first.0 there.1 here.1 word begun more there.3 first.2 (append_cancel_right (flat_map bulk_string first.0) (36 ∷ begun) rest texts) begins some)
+      | inl first ↦ (
+          let texts : flat_map bulk_string first.0 ++ rest ≡ 36 ∷ begun ++ rest =
+          ap (λ bytes. flat_map bulk_string first.0 ++ bytes) here.5 ∙ sym (flat_map-append bulk_string first.0 here.1) ∙ ap (flat_map bulk_string) (sym first.2) ∙ sym there.5 in
+          whole_words first.0 there.1 here.1 word begun more there.3 first.2 (append_cancel_right (flat_map bulk_string first.0) (36 ∷ begun) rest texts) begins some)
       | inr second ↦ (
-        let texts : rest ≡ flat_map bulk_string (second.0 ∷ second.1) ++ (36 ∷ begun ++ rest) =
-            here.5 ∙ ap (flat_map bulk_string) second.3 ∙ flat_map-append bulk_string (second.0 ∷ second.1) there.1 ∙ ap (λ bytes. flat_map bulk_string (second.0 ∷ second.1) ++ bytes) (sym there.5) in
-        omega (arith, ap length texts, length-append (flat_map bulk_string (second.0 ∷ second.1)) (36 ∷ begun ++ rest), length-append begun rest))
+          let texts : rest ≡ flat_map bulk_string (second.0 ∷ second.1) ++ (36 ∷ begun ++ rest) =
+          here.5 ∙ ap (flat_map bulk_string) second.3 ∙ flat_map-append bulk_string (second.0 ∷ second.1) there.1 ∙ ap (λ bytes. flat_map bulk_string (second.0 ∷ second.1) ++ bytes) (sym there.5) in
+          omega (arith, ap length texts, length-append (flat_map bulk_string (second.0 ∷ second.1)) (36 ∷ begun ++ rest), length-append begun rest))
     ] where
-  -- whole words aren't the front of one
-  whole_words : (words all rest : Words) (word begun more : List ℕ) → AllByRecursion IsWord all → all ≡ words ++ rest → flat_map bulk_string words ≡ 36 ∷ begun → bulk_string word ≡ 36 ∷ begun ++ more → 0 < length more → ⊥
-  whole_words [] all rest word begun more allowed is texts begins some = cc
-  whole_words (w ∷ words) [] rest word begun more allowed is texts begins some = cc
-  whole_words (w ∷ words) (a ∷ all) rest word begun more allowed is texts begins some =
-      let same : w ≡ a = cc in
-      let front : bulk_string word ++ [] ≡ bulk_string w ++ (flat_map bulk_string words ++ more) = append-nil (bulk_string word) ∙ begins ∙ ap (λ bytes. bytes ++ more) (sym texts) ∙ append_assoc (bulk_string w) (flat_map bulk_string words) more in
-      let ends = any_word_front word w [] (flat_map bulk_string words ++ more) (subst IsWord (sym same) allowed.0) front in
-      omega (arith, ap length ends.1, length-append (flat_map bulk_string words) more)
+      -- whole words aren't the front of one
+      whole_words : (words all rest : Words) (word begun more : List ℕ) → AllByRecursion IsWord all → all ≡ words ++ rest → flat_map bulk_string words ≡ 36 ∷ begun → bulk_string word ≡ 36 ∷ begun ++ more → 0 < length more → ⊥
+      whole_words [] all rest word begun more allowed is texts begins some = cc
+      whole_words (w ∷ words) [] rest word begun more allowed is texts begins some = cc
+      whole_words (w ∷ words) (a ∷ all) rest word begun more allowed is texts begins some =
+          let same : w ≡ a = cc in
+          let front : bulk_string word ++ [] ≡ bulk_string w ++ (flat_map bulk_string words ++ more) = append-nil (bulk_string word) ∙ begins ∙ ap (λ bytes. bytes ++ more) (sym texts) ∙ append_assoc (bulk_string w) (flat_map bulk_string words) more in
+          let ends = any_word_front word w [] (flat_map bulk_string words ++ more) (subst IsWord (sym same) allowed.0) front in
+          omega (arith, ap length ends.1, length-append (flat_map bulk_string words) more)
 
 one_kind_is : (front : List ℕ) (some other : ℕ) → IsCutShort front → KindIs front some → KindIs front other → some ≡ other
 one_kind_is front some other cut (is_inline _ _ k e) (is_inline _ _ l f) = k ∙ sym l

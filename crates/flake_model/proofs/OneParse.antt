@@ -1,16 +1,13 @@
 -- The bytes of an input mean one thing: these requests, and this end.
-use Rattle.std.proofs.Common.{◌≡◌, ◌≢◌, ℕ, ◌+◌, ◌<◌, ◌≤◌, ◌^◌, ◌⊎◌, inl, inr, zero, suc, List, [], ◌∷◌, ◌++◌, length, take, flat_map, arith, refl, ap, sym, ◌∙◌, subst, append_assoc, append-nil, length-append}
-use Rattle.std.specs.Fmt.{decimal}
-use Rattle.std.specs.List.{AllByRecursion, Contains, slice_index_or}
+use Rattle.std.proofs.Common.{◌≡◌, ℕ, ◌+◌, ◌<◌, ◌≤◌, inl, inr, List, [], ◌∷◌, ◌++◌, length, take, arith, refl, ap, sym, ◌∙◌, subst, append_assoc, append-nil, length-append}
 use Rattle.std.proofs.lemmas.List.{take_all}
 use Rattle.std.proofs.lemmas.Bool.{cases_lt}
-use Rattle.std.proofs.lemmas.Grind.{flat_map-append}
 use Rattle.flake_base.specs.declared.session.End.{End}
 use Rattle.flake_base.specs.declared.session.End.TheVariants.{Clean, Protocol, Truncated, TooLong, ReadFault, Memory, Left}
-use Rattle.flake_model.specs.Resp.{Words, crlf, bulk_string, array_head, Element, array, null_array, element_text, IsWord, IsElement, AllElements, stream, requests_of, IsCutShort, FaultKind, inline, in_count, at_word, in_word, IsClean, IsTruncated, IsFaulty, judged_bytes, Parses}
+use Rattle.flake_model.specs.Resp.{Words, Element, element_text, IsElement, AllElements, stream, requests_of, IsCutShort, FaultKind, IsClean, IsTruncated, IsFaulty, judged_bytes, Parses}
 use Rattle.flake_model.proofs.Grammar.{fronts, element_front, element_text_is_some}
 use Rattle.flake_model.proofs.OneKind.{one_kind}
-use Rattle.flake_model.proofs.Fronts.{NoElementGoesOn, array_front}
+use Rattle.flake_model.proofs.Fronts.{NoElementGoesOn}
 
 -- no whole element stands first
 abbrev pub NoElementFirst : List ℕ → Type 0
@@ -32,10 +29,10 @@ cut_short_first front cut element more is e =
 pub refused_first : (front : List ℕ) (byte : ℕ) (more : List ℕ) → IsCutShort front → NoElementGoesOn front byte → NoElementFirst (front ++ byte ∷ more)
 refused_first front byte more cut refused element behind is e =
     elim (fronts front (element_text element) (byte ∷ more) behind e) [
-      inl first ↦ cut_short_first front cut element first.0 is first.1
+      | inl first ↦ cut_short_first front cut element first.0 is first.1
       | inr second ↦ (let ends : byte ∷ more ≡ second.0 ∷ second.1 ++ behind = second.3 in
-        let same : second.0 ≡ byte = cc in
-        refused element second.1 is (second.2 ∙ ap (λ b. front ++ b ∷ second.1) same))
+          let same : second.0 ≡ byte = cc in
+          refused element second.1 is (second.2 ∙ ap (λ b. front ++ b ∷ second.1) same))
     ]
 
 -- two readings of the same bytes
@@ -50,7 +47,6 @@ same_elements (a ∷ some) (b ∷ others) rest other p q none_here none_there e 
     let heads : a ≡ b = first.0 in
     let tails : some ≡ others = same.0 in
     (cc, same.1)
-
 
 -- the front, the byte and the bytes behind it of an error
 record Fault (rest : List ℕ) : Type 0 where
@@ -80,15 +76,15 @@ cut_short_or_fault rest cut fault = fault.refused cut.0 (fault.more ++ cut.1) cu
 one_fault : (rest : List ℕ) (a b : Fault rest) → a.front ≡ b.front
 one_fault rest a b =
     elim (fronts a.front b.front (a.byte ∷ a.more) (b.byte ∷ b.more) (sym a.rest_is ∙ b.rest_is)) [
-      inl first ↦ same_front a b first.0 first.1 first.2
+      | inl first ↦ same_front a b first.0 first.1 first.2
       | inr second ↦ absurd (let ends : a.byte ∷ a.more ≡ second.0 ∷ second.1 ++ b.byte ∷ b.more = second.3 in
-        let same : second.0 ≡ a.byte = cc in
-        a.refused b.begun.0 (second.1 ++ b.begun.1) b.begun.2 (b.begun.3 ∙ ap (λ bytes. bytes ++ b.begun.1) (second.2 ∙ ap (λ c. a.front ++ c ∷ second.1) same) ∙ append_assoc a.front (a.byte ∷ second.1) b.begun.1))
+          let same : second.0 ≡ a.byte = cc in
+          a.refused b.begun.0 (second.1 ++ b.begun.1) b.begun.2 (b.begun.3 ∙ ap (λ bytes. bytes ++ b.begun.1) (second.2 ∙ ap (λ c. a.front ++ c ∷ second.1) same) ∙ append_assoc a.front (a.byte ∷ second.1) b.begun.1))
     ] where
-  same_front : {rest : List ℕ} (a b : Fault rest) (more : List ℕ) → a.front ≡ b.front ++ more → b.byte ∷ b.more ≡ more ++ a.byte ∷ a.more → a.front ≡ b.front
-  same_front a b [] is ends = is ∙ append-nil b.front
-  same_front a b (c ∷ more) is ends = absurd (let same : c ≡ b.byte = cc in
-      b.refused a.begun.0 (more ++ a.begun.1) a.begun.2 (a.begun.3 ∙ ap (λ bytes. bytes ++ a.begun.1) (is ∙ ap (λ d. b.front ++ d ∷ more) same) ∙ append_assoc b.front (b.byte ∷ more) a.begun.1))
+      same_front : {rest : List ℕ} (a b : Fault rest) (more : List ℕ) → a.front ≡ b.front ++ more → b.byte ∷ b.more ≡ more ++ a.byte ∷ a.more → a.front ≡ b.front
+      same_front a b [] is ends = is ∙ append-nil b.front
+      same_front a b (c ∷ more) is ends = absurd (let same : c ≡ b.byte = cc in
+          b.refused a.begun.0 (more ++ a.begun.1) a.begun.2 (a.begun.3 ∙ ap (λ bytes. bytes ++ a.begun.1) (is ∙ ap (λ d. b.front ++ d ∷ more) same) ∙ append_assoc b.front (b.byte ∷ more) a.begun.1))
 
 one_end : (at : ℕ) (rest : List ℕ) (some other : End) → EndOf at rest some → EndOf at rest other → some ≡ other
 one_end at rest Clean Clean a b = refl
@@ -208,10 +204,10 @@ longer_reading bytes requests Left long is = absurd is
 pub one_parse : (bytes : List ℕ) (some others : List Words) (end other : End) → Parses bytes some end → Parses bytes others other → (some ≡ others) × (end ≡ other)
 one_parse bytes some others end other a b =
     elim (cases_lt judged_bytes (length bytes)) [
-      inl long ↦ (
-        let here = longer_reading bytes some end long a in
-        let there = longer_reading bytes others other long b in
-        let same = one_reading_of (take judged_bytes bytes) some others here.0 there.0 here.1 there.1 in
-        (same.0, here.2 ∙ ap past_judged same.1 ∙ sym there.2))
+      | inl long ↦ (
+          let here = longer_reading bytes some end long a in
+          let there = longer_reading bytes others other long b in
+          let same = one_reading_of (take judged_bytes bytes) some others here.0 there.0 here.1 there.1 in
+          (same.0, here.2 ∙ ap past_judged same.1 ∙ sym there.2))
       | inr short ↦ one_reading_of bytes some others end other (whole_reading bytes some end short a) (whole_reading bytes others other short b)
     ]

@@ -3,7 +3,7 @@ use Rattle.std.proofs.Common.{◌≡◌, ℕ, List, [], ◌∷◌, ◌++◌, ap,
 use Rattle.std.specs.List.{AllByRecursion}
 use Rattle.std.proofs.lemmas.Grind.{flat_map-append}
 use Rattle.std.proofs.lemmas.List.Elements.{filter_map-append}
-use Rattle.flake_model.specs.Resp.{Words, Element, element_text, IsElement, AllElements, stream, request_of, requests_of, IsClean}
+use Rattle.flake_model.specs.Resp.{Words, Element, element_text, IsElement, stream, request_of, requests_of, IsClean}
 
 pub all_append : {A : Type 0} (P : A → Type 0) (some more : List A) → AllByRecursion P some → AllByRecursion P more → AllByRecursion P (some ++ more)
 all_append P [] more all rest = rest
