@@ -7,11 +7,8 @@ use Rattle.std.specs.List.{AllByRecursion, Contains, slice_index_or}
 use Rattle.std.proofs.lemmas.List.{take_at}
 use Rattle.std.proofs.lemmas.Fmt.{decimal_is_IsNumeral, decimal_digit, first_decimal}
 use Rattle.std.proofs.lemmas.Str.Parse.{digits_value-take-le}
+use Rattle.flake_model.specs.Fronts.{NoNumber}
 use Rattle.flake_model.proofs.Grammar.{NoCr, NoCr-digits, NoCr-decimal, before_cr, not_minus}
-
--- No number up to the limit, with its line end, has this line and this byte in front.
-abbrev pub NoNumber : ℕ → List ℕ → ℕ → Type 0
-NoNumber limit line byte = (n : ℕ) (behind rest : List ℕ) → n ≤ limit → decimal n ++ 13 ∷ 10 ∷ behind ≡ line ++ byte ∷ rest → ⊥
 
 -- the digits of the front are digits, and so is the next byte
 front_digits : (front : List ℕ) (byte : ℕ) (more : List ℕ) → AllDigits 10 (front ++ byte ∷ more) → digit_value byte < 10

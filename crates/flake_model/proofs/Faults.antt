@@ -1,7 +1,7 @@
 -- An error, from a front and the byte that no element has behind it.
 use Rattle.std.proofs.Common.{ℕ, List, ◌∷◌, ◌++◌, length, refl, append_assoc, sym}
 use Rattle.flake_model.specs.Resp.{Element, AllElements, stream, requests_of, IsCutShort, FaultKind, IsFaulty}
-use Rattle.flake_model.proofs.Fronts.{NoElementGoesOn}
+use Rattle.flake_model.specs.Fronts.{NoElementGoesOn}
 
 -- behind whole elements
 pub faulty : (elements : List Element) (front : List ℕ) (byte : ℕ) (more : List ℕ) (kind : ℕ) → AllElements elements → IsCutShort front → NoElementGoesOn front byte → FaultKind front kind

@@ -7,7 +7,7 @@ use Rattle.flake_base.specs.declared.session.End.TheVariants.{Clean, Protocol, T
 use Rattle.flake_model.specs.Resp.{Words, Element, element_text, IsElement, AllElements, stream, requests_of, IsCutShort, FaultKind, IsClean, IsTruncated, IsFaulty, judged_bytes, Parses}
 use Rattle.flake_model.proofs.Grammar.{fronts, element_front, element_text_is_some}
 use Rattle.flake_model.proofs.OneKind.{one_kind}
-use Rattle.flake_model.proofs.Fronts.{NoElementGoesOn}
+use Rattle.flake_model.specs.Fronts.{NoElementGoesOn}
 
 -- no whole element stands first
 abbrev pub NoElementFirst : List ℕ → Type 0

@@ -1,4 +1,5 @@
 pub mod Resp
+pub mod Fronts
 pub mod Vectors
 pub mod Store
 pub mod Command
