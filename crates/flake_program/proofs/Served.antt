@@ -1,12 +1,13 @@
 -- A served source is a served run of one session.
-use Rattle.std.proofs.Common.{◌≡◌, ℕ, ◌≤◌, ◌<◌, ◌⊎◌, inl, inr, Bool, List, [], ◌∷◌, Option, Some, None, IfSome, length, get_or, set, map, take, arith, refl, ap, sym, ◌∙◌, subst}
-use Rattle.std.specs.List.{AllByRecursion}
+use Rattle.std.proofs.Common.{◌≡◌, ℕ, ◌≤◌, ◌<◌, ◌⊎◌, inl, inr, zero, suc, Bool, List, [], ◌∷◌, Option, Some, None, IfSome, length, get_or, set, map, take, arith, refl, ap, sym, ◌∙◌, subst}
+use Rattle.std.specs.List.{AllByRecursion, Any, slice_index_or}
 use Rattle.std.proofs.lemmas.List.{length-map, take_all}
 use Rattle.flake_base.specs.Growth.{Grew}
 use Rattle.flake_base.specs.declared.session.End.{End}
 use Rattle.flake_base.specs.declared.session.End.TheVariants.{Clean, Memory}
 use Rattle.flake_base.specs.declared.session.SessionEnd.{SessionEnd}
-use Rattle.flake_model.specs.Resp.{Words, IsClean, Parses}
+use Rattle.flake_model.specs.Resp.{Words, IsClean, Parses, requests_of}
+use Rattle.flake_model.proofs.Grammar as grammar
 use Rattle.flake_model.specs.Command.{Command as Meaning, command_of}
 use Rattle.flake_model.specs.Journal.{wire_text, IsOrderly}
 use Rattle.flake_model.specs.OneThread.{history_from}
@@ -18,7 +19,7 @@ use Rattle.flake_program.specs.declared.command.Command.{Command}
 use Rattle.flake_program.specs.declared.command.Command.TheVariants.{Get, Set}
 use Rattle.flake_program.specs.Asked.{meaning_of, IsBuilt}
 use Rattle.flake_program.specs.Session.{meanings, first_texts}
-use Rattle.flake_program.specs.Built.{input_limit, IsServable}
+use Rattle.flake_program.specs.Built.{input_limit, IsServable, IsNotServable}
 
 -- the first wire grew, and the others are as they were
 pub first_grew : {A : Type 0} (sent : A → Option (List ℕ)) (olds : List A) (first new : A) (failed : Bool) (text : List ℕ) → 0 < length olds → first ≡ get_or olds 0 first
@@ -101,3 +102,23 @@ was_served bytes requests commands end olds news short clean is_commands is_end 
 pub where_told : (left : Option (List ℕ)) (bytes : List ℕ) (P : List ℕ → Type 0) → IfSome left (λ all. bytes ≡ all) → P bytes → IfSome left P
 where_told None bytes P is holds = tt
 where_told (Some all) bytes P is holds = subst P is holds
+
+-- an input's requests are read in one way
+one_reading : (bytes : List ℕ) (some others : List Words) → IsClean bytes some → IsClean bytes others → some ≡ others
+one_reading bytes some others a b =
+    a.requests_are ∙ ap requests_of (grammar.one_reading a.elements b.elements a.allowed b.allowed (sym a.bytes_are ∙ b.bytes_are)) ∙ sym b.requests_are
+
+some_other : (requests : List Words) (k : ℕ) (words : Words) → k < length requests → slice_index_or requests k words ≡ words → (IsBuilt (command_of words) → ⊥)
+    → AllByRecursion (λ words. IsBuilt (command_of words)) requests → ⊥
+some_other [] k words below is other all = omega arith
+some_other (first ∷ requests) zero words below is other all = other (subst (λ w. IsBuilt (command_of w)) is all.0)
+some_other (first ∷ requests) (suc k) words below is other all = some_other requests k words (omega arith) is other all.1
+
+-- what can be served isn't refused
+pub not_both : (bytes : List ℕ) → IsServable bytes → IsNotServable bytes → ⊥
+not_both bytes servable (inl long) = omega (arith, servable.short)
+not_both bytes servable (inr (inl none)) = none servable.requests servable.clean
+not_both bytes servable (inr (inr other)) =
+    let same : other.0 ≡ servable.requests = one_reading bytes other.0 servable.requests other.1 servable.clean in
+    let some = subst (λ (requests : List Words). Any (λ words. IsBuilt (command_of words) → ⊥) requests) same other.2 in
+    some_other servable.requests some.0 some.1 some.2 some.3 some.4 servable.built

@@ -47,6 +47,14 @@ pub fn run<R, H: Host>(
     ensures quiet { result.status ≡ 0 → (H.say_faults host.new ≡ H.say_faults host.old) × (map (λ w. put_faults w) result.wires.items ≡ map (λ w. put_faults w) wires.items) }
     ensures not_built { result.status ≡ 10 → IfSome (file_among words.now) (λ name. IfSome (H.holds host.old name) IsNotServable) }
 
+    // Nothing is refused without a cause: where the words are accepted, no count rose and memory was not wanting, an
+    // input that can be served is.
+    ensures complete { result.status ≢ 6 → wires.items ≢ [] → IfSome (file_among words.now) (λ name.
+        (Rose (H.open_faults host.old name) (H.open_faults host.new name) → ⊥) → All (λ opened. H.In.read_faults opened.source ≡ 0) result.sources.items
+        → (Rose (H.say_faults host.old) (H.say_faults host.new) → ⊥)
+        → (Rose (slice_index (map (λ w. put_faults w) wires.items) 0) (slice_index (map (λ w. put_faults w) result.wires.items) 0) → ⊥)
+        → IfSome (H.holds host.old name) (λ bytes. IsServable bytes → result.status ≡ 0)) }
+
     // What goes with the status.
     ensures detail { ((result.status ≡ 2) ⊎ (result.status ≡ 4) → result.detail ≡ Detail.File 0) × (result.status ≢ 2 → result.status ≢ 4 → result.detail ≡ Detail.Nothing) }
     ensures opened { (result.status ≡ 0) ⊎ (result.status ≡ 4) ⊎ (result.status ≡ 5) ⊎ (result.status ≡ 10) → map (λ opened. opened.file) result.sources.items ≡ 0 ∷ [] }
