@@ -1,5 +1,5 @@
 -- What is kept of a piece, where there is room for so many bytes.
-use Rattle.std.specs.Prelude.{ℕ, ◌+◌, ◌/◌, nat_lt, Bool, true, false, List, [], length, take}
+use Rattle.std.specs.Prelude.{ℕ, ◌+◌, ◌++◌, ◌/◌, nat_lt, Bool, true, false, List, [], length, take}
 
 -- bytes, and how many there may be
 pub record KeptBytes : Type 0 where
@@ -15,3 +15,7 @@ abbrev pub kept_of : Bool → Bool → List ℕ → List ℕ
 kept_of true fails piece = []
 kept_of false true piece = take (length piece / 2) piece
 kept_of false false piece = piece
+
+abbrev pub after_put : KeptBytes → Bool → List ℕ → KeptBytes
+after_put kept fails piece = record kept {
+    bytes = kept.bytes ++ kept_of (is_past_room kept.bytes kept.room piece) fails piece }

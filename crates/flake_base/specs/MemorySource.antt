@@ -15,3 +15,8 @@ pub record SourceState : Type 0 where
 -- how many bytes a read gives that doesn't fail, into room for so many
 abbrev pub given_count : SourceState → ℕ → ℕ
 given_count source room = min (min (length source.left) room) source.step
+
+-- a source that wasn't read yet
+abbrev pub new_source : List ℕ → ℕ → List ℕ → SourceState
+new_source bytes step fails = record {
+    left = bytes; step = step; fails = fails; reads = 0; faults = 0 }

@@ -1,11 +1,11 @@
-ghost use Rattle.std.specs.Prelude.{◌≡◌, ◌≢◌, ◌≤◌, ◌<◌, ◌+◌, ◌++◌, ℕ, List, [], Some, None, true, false, length, map, slice_get, is_err, if◌then◌else◌, IsSomeAnd, IsSome, IsOk, IfOk, OnOk, OnErr, string_bytes};
+ghost use Rattle.std.specs.Prelude.{◌≡◌, ◌≢◌, ◌≤◌, ◌<◌, ◌+◌, ◌++◌, ℕ, List, [], Some, None, true, false, length, map, slice_get, is_err, IsSomeAnd, IsSome, IsOk, IfOk, OnOk, OnErr, string_bytes};
 ghost use Rattle.std.specs.Option.{option_map};
 ghost use Rattle.std.specs.Result.{result_ok};
-ghost use Rattle.flake_base.specs.Calls.{fails_at, counted};
+ghost use Rattle.flake_base.specs.Calls.{counted, counted_if};
 ghost use Rattle.flake_base.specs.Causes.{HasCause};
 ghost use Rattle.flake_base.specs.Growth.{Grew};
 ghost use Rattle.flake_base.specs.MemoryFile.{new_file, source_of};
-ghost use Rattle.flake_base.specs.MemoryHost.{contents_of, held_bytes, opened, with_reads, say_fails, say_keeps};
+ghost use Rattle.flake_base.specs.MemoryHost.{new_host, contents_of, held_bytes, opened, with_reads, open_gives, open_leaves, say_fails, say_keeps};
 
 use crate::calls::Calls;
 use crate::kept::Kept;
@@ -31,14 +31,17 @@ impl Model for MemoryHost {
 
     ghost Value = { HostState };
 
-    ghost view = { λ h. record { files = h.files.items; said = h.said.bytes; room = h.said.room; fails = h.calls.fails.items; calls = h.calls.next; open_faults = h.open_faults; say_faults = h.say_faults } };
+    ghost view = { λ h. record {
+        files = h.files.items; said = h.said.bytes; room = h.said.room; fails = h.calls.fails.items;
+        calls = h.calls.next; open_faults = h.open_faults; say_faults = h.say_faults } };
 }
 
 impl MemoryHost {
     /// A host that holds these files and lets `room` bytes be said. A source of one of the files gives at most
     /// 4,096 bytes a read, and none of its reads fails.
     pub fn new(alloc: Global, files: Files, room: usize, fails: Fails) -> Result<Self, Memory>
-        ensures { IfOk result (λ host. host ≡ record { files = map (λ file. new_file (string_bytes file.0) file.1.items) files.items; said = []; room = room; fails = fails.items; calls = 0; open_faults = 0; say_faults = 0 }) }
+        ensures { IfOk result (λ host. 
+            host ≡ new_host (map (λ file. new_file (string_bytes file.0) file.1.items) files.items) room fails.items) }
     {
         let said = Kept::new(alloc, room)?;
         let mut held = Vec::with_capacity(alloc, files.len())?;
@@ -123,16 +126,18 @@ impl Host for MemoryHost {
     fn open(&mut self, name: &str) -> Result<MemorySource, Failed>
         ensures left { IfOk result (λ source. Some source.left ≡ held_bytes self.old.files name.now) }
         ensures fresh { IfOk result (λ source. source.faults ≡ 0) }
-        ensures others { (other : List ℕ) → other ≢ name.now → held_bytes self.new.files other ≡ held_bytes self.old.files other }
+        ensures others { (other : List ℕ) → other ≢ name.now
+            → held_bytes self.new.files other ≡ held_bytes self.old.files other }
         ensures failed { OnErr result (held_bytes self.new.files name.now ≡ held_bytes self.old.files name.now) }
         ensures cause { HasCause self.old.open_faults self.new.open_faults result }
 
         // Which opens fail, and what the others give and leave.
-        ensures source { result_ok result ≡ (if fails_at self.old.fails self.old.calls then None else option_map source_of (contents_of self.old.files name.now)) }
-        ensures files { self.new.files ≡ (if fails_at self.old.fails self.old.calls then self.old.files else opened self.old.files name.now) }
-        ensures faults { self.new.open_faults ≡ (if is_err result then counted self.old.open_faults else self.old.open_faults) }
+        ensures source { result_ok result ≡ open_gives self.old name.now }
+        ensures files { self.new.files ≡ open_leaves self.old name.now }
+        ensures faults { self.new.open_faults ≡ counted_if (is_err result) self.old.open_faults }
         ensures calls { self.new.calls ≡ counted self.old.calls }
-        ensures same { (self.new.said ≡ self.old.said) × (self.new.room ≡ self.old.room) × (self.new.fails ≡ self.old.fails) }
+        ensures same { (self.new.room ≡ self.old.room) × (self.new.fails ≡ self.old.fails) }
+        ensures said { self.new.said ≡ self.old.said }
         ensures say_faults { self.new.say_faults ≡ self.old.say_faults }
     {
         if self.calls.next_fails() {
@@ -153,10 +158,12 @@ impl Host for MemoryHost {
         // Which says fail, and what each keeps and leaves.
         ensures fails { is_err result ≡ say_fails self.old piece.now }
         ensures kept { self.new.said ≡ self.old.said ++ say_keeps self.old piece.now }
-        ensures quiet { self.old.fails ≡ [] → length self.old.said + length piece.now ≤ self.old.room → IsOk result }
-        ensures faults { self.new.say_faults ≡ (if is_err result then counted self.old.say_faults else self.old.say_faults) }
+        ensures quiet { self.old.fails ≡ []
+            → length self.old.said + length piece.now ≤ self.old.room → IsOk result }
+        ensures faults { self.new.say_faults ≡ counted_if (is_err result) self.old.say_faults }
         ensures calls { self.new.calls ≡ counted self.old.calls }
-        ensures same { (self.new.files ≡ self.old.files) × (self.new.room ≡ self.old.room) × (self.new.fails ≡ self.old.fails) }
+        ensures same { (self.new.room ≡ self.old.room) × (self.new.fails ≡ self.old.fails) }
+        ensures files { self.new.files ≡ self.old.files }
         ensures open_faults { self.new.open_faults ≡ self.old.open_faults }
     {
         let fails = self.calls.next_fails();

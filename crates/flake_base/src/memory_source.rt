@@ -1,7 +1,7 @@
-ghost use Rattle.std.specs.Prelude.{◌≡◌, ◌≤◌, ◌<◌, [], length, Some, IsOk, is_err, if◌then◌else◌, IfOk, OnErr};
-ghost use Rattle.flake_base.specs.Calls.{fails_at, counted};
+ghost use Rattle.std.specs.Prelude.{◌≡◌, ◌≤◌, ◌<◌, [], length, Some, IsOk, is_err, IfOk, OnErr};
+ghost use Rattle.flake_base.specs.Calls.{fails_at, counted, counted_if};
 ghost use Rattle.flake_base.specs.Causes.{HasCause};
-ghost use Rattle.flake_base.specs.MemorySource.{given_count};
+ghost use Rattle.flake_base.specs.MemorySource.{given_count, new_source};
 ghost use Rattle.flake_base.specs.Reads.{Reads};
 
 use crate::calls::Calls;
@@ -24,15 +24,19 @@ impl Model for MemorySource {
 
     ghost Value = { SourceState };
 
-    ghost view = { λ s. record { left = drop s.at s.bytes.items; step = s.step; fails = s.calls.fails.items; reads = s.calls.next; faults = s.faults } };
+    ghost view = { λ s. record {
+        left = drop s.at s.bytes.items; step = s.step; fails = s.calls.fails.items;
+        reads = s.calls.next; faults = s.faults } };
 
-    ghost invariant = { λ s. (s.at ≤ length s.bytes.items) × (0 < s.step) × (s.calls.fails.items ≡ [] → s.faults ≡ 0) };
+    ghost invariant = { λ s.
+        (s.at ≤ length s.bytes.items) × (0 < s.step)
+        × (s.calls.fails.items ≡ [] → s.faults ≡ 0) };
 }
 
 impl MemorySource {
     pub fn new(bytes: Bytes, step: usize, fails: Fails) -> Self
         requires { 0 < step }
-        ensures { result ≡ record { left = bytes.items; step = step; fails = fails.items; reads = 0; faults = 0 } }
+        ensures { result ≡ new_source bytes.items step fails.items }
     {
         MemorySource {
             bytes,
@@ -68,7 +72,7 @@ impl Source for MemorySource {
         ensures fails { is_err result ≡ fails_at self.old.fails self.old.reads }
         ensures count { IfOk result (λ n. n ≡ given_count self.old (length room.new)) }
         ensures quiet { self.old.fails ≡ [] → IsOk result }
-        ensures faults { self.new.faults ≡ (if is_err result then counted self.old.faults else self.old.faults) }
+        ensures faults { self.new.faults ≡ counted_if (is_err result) self.old.faults }
         ensures reads { self.new.reads ≡ counted self.old.reads }
         ensures same { (self.new.step ≡ self.old.step) × (self.new.fails ≡ self.old.fails) }
     {

@@ -1,8 +1,8 @@
-ghost use Rattle.std.specs.Prelude.{◌≡◌, ◌≤◌, ◌<◌, ◌+◌, ◌++◌, [], length, Some, true, false, is_err, if◌then◌else◌, IsOk, IfOk, OnOk, OnErr};
-ghost use Rattle.flake_base.specs.Calls.{counted};
+ghost use Rattle.std.specs.Prelude.{◌≡◌, ◌≤◌, ◌<◌, ◌+◌, ◌++◌, [], length, Some, true, false, is_err, IsOk, IfOk, OnOk, OnErr};
+ghost use Rattle.flake_base.specs.Calls.{counted, counted_if};
 ghost use Rattle.flake_base.specs.Causes.{HasCause};
 ghost use Rattle.flake_base.specs.Growth.{Grew};
-ghost use Rattle.flake_base.specs.MemoryWire.{put_fails, put_keeps};
+ghost use Rattle.flake_base.specs.MemoryWire.{put_fails, put_keeps, new_wire};
 
 use crate::calls::Calls;
 use crate::kept::Kept;
@@ -24,12 +24,14 @@ impl Model for MemoryWire {
 
     ghost Value = { WireState };
 
-    ghost view = { λ w. record { sent = w.kept.bytes; room = w.kept.room; fails = w.calls.fails.items; puts = w.calls.next; faults = w.faults } };
+    ghost view = { λ w. record {
+        sent = w.kept.bytes; room = w.kept.room; fails = w.calls.fails.items;
+        puts = w.calls.next; faults = w.faults } };
 }
 
 impl MemoryWire {
     pub fn new(alloc: Global, room: usize, fails: Fails) -> Result<Self, Memory>
-        ensures { IfOk result (λ wire. wire ≡ record { sent = []; room = room; fails = fails.items; puts = 0; faults = 0 }) }
+        ensures { IfOk result (λ wire. wire ≡ new_wire room fails.items) }
     {
         let kept = Kept::new(alloc, room)?;
         Ok(MemoryWire {
@@ -67,8 +69,9 @@ impl Wire for MemoryWire {
         // Which puts fail, and what each keeps.
         ensures fails { is_err result ≡ put_fails self.old piece.now }
         ensures kept { self.new.sent ≡ self.old.sent ++ put_keeps self.old piece.now }
-        ensures quiet { self.old.fails ≡ [] → length self.old.sent + length piece.now ≤ self.old.room → IsOk result }
-        ensures faults { self.new.faults ≡ (if is_err result then counted self.old.faults else self.old.faults) }
+        ensures quiet { self.old.fails ≡ []
+            → length self.old.sent + length piece.now ≤ self.old.room → IsOk result }
+        ensures faults { self.new.faults ≡ counted_if (is_err result) self.old.faults }
         ensures puts { self.new.puts ≡ counted self.old.puts }
         ensures same { (self.new.room ≡ self.old.room) × (self.new.fails ≡ self.old.fails) }
     {

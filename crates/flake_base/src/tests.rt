@@ -66,32 +66,33 @@ fn a_count_wire_counts(rt: HostRuntime) {
     assert_eq!(rt; wire.shown(), None);
 }
 
-fn two_files(alloc: Global) -> Result<Files, Fail> {
-    let mut files = Files::with_room(alloc, 2)?;
-    let long = vec![in alloc; 7; 5000]?;
-    files.push((String::from_str(alloc, "long")?, Bytes::from_slice(alloc, long.as_slice())?))?;
-    files.push((String::from_str(alloc, "short")?, Bytes::from_slice(alloc, b"xyz")?))?;
-    Ok(files)
+#[test]
+fn a_host_gives_a_file_once(rt: HostRuntime) -> Result<(), Fail> {
+    let alloc = rt.alloc();
+    let bytes = vec![in alloc; 7; 5000]?;
+    let mut files = Files::with_room(alloc, 1)?;
+    files.push((String::from_str(alloc, "long")?, Bytes::from_slice(alloc, bytes.as_slice())?))?;
+    let mut host = MemoryHost::new(alloc, files, 0, Fails::new(alloc))?;
+    let mut room = vec![in alloc; 0; 8192]?;
+    let mut long = host.open("long").expect(&rt, "the file is held");
+    assert_eq!(rt; long.read(room.as_mut_slice()), Ok(4096));
+    assert_eq!(rt; long.read(room.as_mut_slice()), Ok(904));
+    assert!(rt; host.open("long").is_err());
+    assert!(rt; host.open("missing").is_err());
+    assert_eq!(rt; host.open_faults(), 2);
+    Ok(())
 }
 
-// Calls 0 to 5: the second open of a name, that of a missing name and the say of call 3 fail.
+// The missing file has call 0, so the first say has call 1. The last goes past the room.
 #[test]
-fn a_host_gives_each_file_once(rt: HostRuntime) -> Result<(), Fail> {
+fn a_host_numbers_opens_and_says_together(rt: HostRuntime) -> Result<(), Fail> {
     let alloc = rt.alloc();
-    let mut host = MemoryHost::new(alloc, two_files(alloc)?, 7, fails_at(alloc, 3)?)?;
-    let mut room = [0; 8192];
-    let mut long = host.open("long").expect(&rt, "the file is held");
-    assert_eq!(rt; long.read(&mut room), Ok(4096));
-    assert_eq!(rt; long.read(&mut room), Ok(904));
-    assert!(rt; host.open("long").is_err());
+    let mut host = MemoryHost::new(alloc, Files::new(alloc), 5, fails_at(alloc, 1)?)?;
     assert!(rt; host.open("missing").is_err());
     assert_eq!(rt; host.say(b"12345"), Err(Failed));
     assert_eq!(rt; host.say(b"678"), Ok(()));
-    assert_eq!(rt; host.say(b"past"), Err(Failed));
+    assert_eq!(rt; host.say(b"9"), Err(Failed));
     assert_eq!(rt; host.said(), b"12678".as_slice());
-    let mut short = host.open("short").expect(&rt, "the file is held");
-    assert_eq!(rt; short.read(&mut room), Ok(3));
-    assert_eq!(rt; host.open_faults(), 2);
     assert_eq!(rt; host.say_faults(), 2);
     Ok(())
 }
