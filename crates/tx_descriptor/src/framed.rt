@@ -6,7 +6,7 @@ use flake_base::Seg;
 /// A frame is sent as the bytes of its segments, in their order.
 pub trait Framed: Send + Drop {
     ghost use Rattle.std.specs.Prelude.{List};
-    ghost use Rattle.flake_base.specs.declared.seg.Seg.{Seg};
+    ghost use Rattle.flake_base.specs.declared.segment.Seg.{Seg};
 
     ghost segs: { Self → List Seg };
 
