@@ -1,0 +1,23 @@
+-- The two words of a descriptor are the halves of its bytes.
+use Rattle.std.proofs.Common.{◌≡◌, ℕ, ◌+◌, ◌*◌, ◌/◌, ◌%◌, ◌<◌, ◌≤◌, [], ◌∷◌, ◌++◌, Bool, true, false, ap, arith}
+use Rattle.std.specs.Int.{w64, to_le_bytes}
+use Rattle.tx_descriptor.specs.Bytes.{descriptor_bytes}
+use Rattle.tx_ring.specs.Words.{second}
+
+eight : (n len c d : ℕ) → len ≤ 4096 → c < 256 → d < 256 → n ≡ len + c * 16777216 + d * 4294967296 → to_le_bytes w64 n ≡ len % 256 ∷ len / 256 % 256 ∷ 0 ∷ c ∷ d ∷ 0 ∷ 0 ∷ 0 ∷ []
+eight n len c d h low small e =
+    let e0 : n % 256 ≡ len % 256 = omega arith in
+    let e1 : n / 256 % 256 ≡ len / 256 % 256 = omega arith in
+    let e2 : n / 65536 % 256 ≡ 0 = omega arith in
+    let e3 : n / 16777216 % 256 ≡ c = omega arith in
+    let e4 : n / 4294967296 % 256 ≡ d = omega arith in
+    let e5 : n / 1099511627776 % 256 ≡ 0 = omega arith in
+    let e6 : n / 281474976710656 % 256 ≡ 0 = omega arith in
+    let e7 : n / 72057594037927936 % 256 ≡ 0 = omega arith in
+    λ k. e0 k ∷ e1 k ∷ e2 k ∷ e3 k ∷ e4 k ∷ e5 k ∷ e6 k ∷ e7 k ∷ []
+
+pub halves : (a len : ℕ) (last done : Bool) → len ≤ 4096 → to_le_bytes w64 a ++ to_le_bytes w64 (second len last done) ≡ descriptor_bytes (record { address = a; len = len; eop = last; rs = last; dd = done })
+halves a len true true h = ap (λ t. to_le_bytes w64 a ++ t) (eight (second len true true) len 9 1 h (omega arith) (omega arith) (omega arith))
+halves a len true false h = ap (λ t. to_le_bytes w64 a ++ t) (eight (second len true false) len 9 0 h (omega arith) (omega arith) (omega arith))
+halves a len false true h = ap (λ t. to_le_bytes w64 a ++ t) (eight (second len false true) len 0 1 h (omega arith) (omega arith) (omega arith))
+halves a len false false h = ap (λ t. to_le_bytes w64 a ++ t) (eight (second len false false) len 0 0 h (omega arith) (omega arith) (omega arith))
