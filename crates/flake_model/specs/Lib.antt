@@ -1,0 +1,10 @@
+pub mod Resp
+pub mod Store
+pub mod Command
+pub mod Reply
+pub mod Journal
+pub mod Order
+pub mod OneThread
+pub mod Wire
+pub mod Said
+pub mod Run
