@@ -1,16 +1,20 @@
 -- The calls of a fetch.
-use Rattle.std.proofs.Common.{◌≡◌, ℕ, zero, suc, ◌+◌, ◌-◌, ◌*◌, ◌%◌, ◌<◌, ◌≤◌, List, [], ◌∷◌, length, get_or, Bool, true, false, sym, refl, ap, ◌∙◌, subst, arith, Option, Some}
+use Rattle.std.proofs.Common.{◌≡◌, ℕ, zero, suc, ◌+◌, ◌-◌, ◌*◌, ◌%◌, ◌<◌, ◌≤◌, List, [], ◌∷◌, length, take, slice_get, get_or, ◌++◌, Bool, true, false, sym, refl, ap, ◌∙◌, subst, arith, Option, Some}
 use mathlib.Core.Option.{none}
 use Rattle.atomic_table.specs.Table.{Me, step, Allows}
 use Rattle.flake_base.specs.declared.segment.Seg.{Seg}
 use Rattle.tx_ring.specs.Words.{second, last_len, frame_words, Each, size, extent}
+use lib.Seq.{take_all}
+use Rattle.tx_ring.specs.Rows.{frame_rows}
+use Rattle.tx_ring.specs.declared.job.Row.{Row}
+use Rattle.tx_ring.proofs.Words.{take-get}
 use Rattle.tx_ring.specs.Ends.{gathering, IsFetching, Fetched}
 use Rattle.tx_ring.specs.Moves.{fetching, holding}
 use Rattle.tx_ring.specs.Plays.{Keeps, fetched, Fetches, with_device}
 use Rattle.tx_ring.specs.declared.view.View.{View}
 use Rattle.tx_ring.specs.declared.view.DeviceStage.{DeviceStage}
 use Rattle.tx_ring.specs.declared.view.DeviceStage.TheVariants.{Fetching}
-use Rattle.tx_ring.proofs.Calls.{word-at}
+use Rattle.tx_ring.proofs.Posting.{word-at}
 use Rattle.tx_ring.proofs.Steps.{fetches-word}
 
 module _ {P : Type 0} (segs : P → List Seg) (n : ℕ) (f : P) where
@@ -79,6 +83,33 @@ shows (s ∷ t ∷ ss) (suc k) a h = let r = shows (t ∷ ss) k a.1 (omega arith
   ends = λ b. let e = (r.ends b).0 in (omega arith, (r.ends b).1);
   goes_on = λ b. let e = r.goes_on b in omega arith;
 }
+
+-- the two words of a descriptor
+row-at : (ss : List Seg) (k : ℕ) → k < length ss → slice_get (frame_rows ss) k ≡ Some (record { address = get_or (frame_words false ss) (2 * k) 0; status = get_or (frame_words false ss) (2 * k + 1) 0 })
+row-at [] k h = absurd (omega arith)
+row-at (s ∷ []) zero h = refl
+row-at (s ∷ []) (suc k) h = absurd (omega arith)
+row-at (s ∷ t ∷ ss) zero h = refl
+row-at (s ∷ t ∷ ss) (suc k) h =
+    let low : suc (suc (2 * k)) ≡ 2 * suc k = omega arith in
+    let high : suc (suc (2 * k + 1)) ≡ 2 * suc k + 1 = omega arith in
+    row-at (t ∷ ss) k (omega arith) ∙ (λ j. Some (record { address = get_or (frame_words false (s ∷ t ∷ ss)) (low j) 0; status = get_or (frame_words false (s ∷ t ∷ ss)) (high j) 0 }))
+
+rows-length : (ss : List Seg) → length (frame_rows ss) ≡ length ss
+rows-length [] = refl
+rows-length (s ∷ []) = refl
+rows-length (s ∷ t ∷ ss) = ap suc (rows-length (t ∷ ss))
+
+-- one descriptor more was fetched
+pub rows-more : (ss : List Seg) (at : ℕ) (rows rows' : List Row) (r : Row) → at < length ss → rows ≡ take at (frame_rows ss) → r.address ≡ get_or (frame_words false ss) (2 * at) 0 → r.status ≡ get_or (frame_words false ss) (2 * at + 1) 0
+    → rows' ≡ rows ++ r ∷ [] → rows' ≡ take (at + 1) (frame_rows ss)
+rows-more ss at rows rows' r within were low high grew =
+    let row_is : r ≡ record { address = get_or (frame_words false ss) (2 * at) 0; status = get_or (frame_words false ss) (2 * at + 1) 0 } = λ k. record { address = low k; status = high k } in
+    grew ∙ (λ k. were k ++ r ∷ []) ∙ sym (take-get (frame_rows ss) at r (row-at ss at within ∙ ap Some (sym row_is)))
+
+-- and all of them were
+pub rows-all : (ss : List Seg) (at : ℕ) → at + 1 ≡ length ss → take (at + 1) (frame_rows ss) ≡ frame_rows ss
+rows-all ss at whole = take_all (at + 1) (frame_rows ss) (omega (arith, rows-length ss))
 
 -- the loop's next descriptor
 pub goes-on : {P : Type 0} (segs : P → List Seg) (n : ℕ) (f : P) (m w : Me (Option P) (View P)) (head place at : ℕ) → IsFetching segs n m head 0 f → at < size segs f → w ≡ (gathering (fetching f (2 * at) m.0.device), [])

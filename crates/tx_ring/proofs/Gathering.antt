@@ -10,7 +10,7 @@ use Rattle.tx_ring.specs.Plays.{Keeps, looked, wrote_back, moved_head, saw_close
 use Rattle.tx_ring.specs.declared.view.View.{View}
 use Rattle.tx_ring.specs.declared.view.DeviceStage.TheVariants.{Holding}
 use Rattle.tx_ring.proofs.Words.{extent-append}
-use Rattle.tx_ring.proofs.Calls.{word-at, next-place}
+use Rattle.tx_ring.proofs.Posting.{word-at, next-place}
 use Rattle.tx_ring.proofs.Steps.{looks-at-tail, looks-at-closed, writes-status, moves-the-head}
 
 module _ {P : Type 0} (segs : P → List Seg) (n slots seat : ℕ) (same : slots ≡ n) where

@@ -12,7 +12,7 @@ use Rattle.tx_ring.specs.Plays.{Keeps, saw_status, gave_back, shut, with_driver}
 use Rattle.tx_ring.specs.declared.view.View.{View}
 use Rattle.tx_ring.specs.declared.view.DriverView.{DriverView}
 use Rattle.tx_ring.proofs.Words.{extent-append}
-use Rattle.tx_ring.proofs.Calls.{word-at}
+use Rattle.tx_ring.proofs.Posting.{word-at}
 use Rattle.tx_ring.proofs.Steps.{looks-at-status, gives-slot-back, closes-ring}
 
 module _ {P : Type 0} (segs : P → List Seg) (n : ℕ) where

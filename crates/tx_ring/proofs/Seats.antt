@@ -14,11 +14,12 @@ use Rattle.tx_ring.specs.declared.view.DriverView.{DriverView}
 use Rattle.tx_ring.specs.declared.view.DeviceView.{DeviceView}
 use Rattle.tx_ring.specs.declared.view.DriverStage.TheVariants.{Closed}
 
-at_end : {A : Type 0} (l : List A) (a b : A) (j : ℕ) → get_elem? (l ++ a ∷ []) j ≡ some b → (get_elem? l j ≡ some b) ⊎ ((j ≡ length l) × (a ≡ b))
-at_end [] a b zero e = inr (refl, some-injective a b e)
-at_end [] a b (suc j) e = absurd (some-ne-none b (sym e))
-at_end (x ∷ xs) a b zero e = inl e
-at_end (x ∷ xs) a b (suc j) e = ⊎_elim (λ t. inl t) (λ t. inr (ap suc t.0, t.1)) (at_end xs a b j e)
+-- in a list with one item more an item was there before, or is the new one at its end
+last_or_before : {A : Type 0} (before : List A) (new found : A) (at : ℕ) → get_elem? (before ++ new ∷ []) at ≡ some found → (get_elem? before at ≡ some found) ⊎ ((at ≡ length before) × (new ≡ found))
+last_or_before (first ∷ before) new found zero is = inl is
+last_or_before (first ∷ before) new found (suc at) is = ⊎_elim inl (λ end. inr (ap suc end.0, end.1)) (last_or_before before new found at is)
+last_or_before [] new found zero is = inr (refl, some-injective new found is)
+last_or_before [] new found (suc at) is = absurd (some-ne-none found (sym is))
 
 module _ {P : Type 0} (segs : P → List Seg) (n : ℕ) (words : List ℕ) (homes : List (maybe.Option (Option P))) (views : List (View P)) (r : IsRing segs n words homes views) (seat : ℕ) (v : View P) (me : get_elem? views seat ≡ some v) where
   pub driver-stands : v.drives ≡ true → Stands segs n words homes v.driver r.device
@@ -78,13 +79,13 @@ module _ {P : Type 0} (segs : P → List Seg) (n : ℕ) (words : List ℕ) (home
             (λ (was : get_elem? (set views seat (driver_part v)) j ≡ some u). ⊎_elim (λ (p : (j ≡ seat) × (driver_part v ≡ u)). (p.0, ap (λ (z : View P). z.driver) (sym p.1)))
             (λ (p : (j ≢ seat) × (get_elem? views j ≡ some u)). absurd (p.0 ((r.drives j u p.1 t).0 ∙ sym a.0))) (at_set views seat j (driver_part v) u was))
             (λ (new : (j ≡ last) × (device_part v ≡ u)). absurd (let z = ap (λ (x : View P). x.drives) new.1 in let y : false ≡ true = z ∙ t in cc))
-            (at_end (set views seat (driver_part v)) (device_part v) u j at);
+            (last_or_before (set views seat (driver_part v)) (device_part v) u j at);
         gathers = λ j u at t. ⊎_elim
             (λ (was : get_elem? (set views seat (driver_part v)) j ≡ some u). ⊎_elim
             (λ (p : (j ≡ seat) × (driver_part v ≡ u)). absurd (let z = ap (λ (x : View P). x.gathers) p.1 in let y : false ≡ true = z ∙ t in cc))
             (λ (p : (j ≢ seat) × (get_elem? views j ≡ some u)). absurd (p.0 ((r.gathers j u p.1 t).0 ∙ sym b.0))) (at_set views seat j (driver_part v) u was))
             (λ (new : (j ≡ last) × (device_part v ≡ u)). (new.0, ap (λ (z : View P). z.device) (sym new.1)))
-            (at_end (set views seat (driver_part v)) (device_part v) u j at);
+            (last_or_before (set views seat (driver_part v)) (device_part v) u j at);
         stands = record {
           word_count = s.word_count;
           slot_count = s.slot_count;
@@ -140,8 +141,8 @@ enters segs n words homes views r = record {
   device = r.device;
   driver_seat = r.driver_seat;
   device_seat = r.device_seat;
-  drives = λ j u at t. ⊎_elim (λ (was : get_elem? views j ≡ some u). r.drives j u was t) (λ (new : (j ≡ length views) × (nobody ≡ u)). absurd (let z = ap (λ x. x.drives) new.1 in let y : false ≡ true = z ∙ t in cc)) (at_end views nobody u j at);
-  gathers = λ j u at t. ⊎_elim (λ (was : get_elem? views j ≡ some u). r.gathers j u was t) (λ (new : (j ≡ length views) × (nobody ≡ u)). absurd (let z = ap (λ x. x.gathers) new.1 in let y : false ≡ true = z ∙ t in cc)) (at_end views nobody u j at);
+  drives = λ j u at t. ⊎_elim (λ (was : get_elem? views j ≡ some u). r.drives j u was t) (λ (new : (j ≡ length views) × (nobody ≡ u)). absurd (let z = ap (λ x. x.drives) new.1 in let y : false ≡ true = z ∙ t in cc)) (last_or_before views nobody u j at);
+  gathers = λ j u at t. ⊎_elim (λ (was : get_elem? views j ≡ some u). r.gathers j u was t) (λ (new : (j ≡ length views) × (nobody ≡ u)). absurd (let z = ap (λ x. x.gathers) new.1 in let y : false ≡ true = z ∙ t in cc)) (last_or_before views nobody u j at);
   stands = r.stands;
 }
 

@@ -50,12 +50,12 @@ each-get [] i s a e = absurd (cc)
 each-get (x ∷ ss) zero s a e = let z : x ≡ s = cc in subst (λ (t : Seg). t.len ≤ 4096) z a.0.1
 each-get (x ∷ ss) (suc i) s a e = each-get ss i s a.1 e
 
-take-more : (ss : List Seg) (i : ℕ) (s : Seg) → slice_get ss i ≡ Some s → take (suc i) ss ≡ take i ss ++ s ∷ []
+take-more : {A : Type 0} (ss : List A) (i : ℕ) (s : A) → slice_get ss i ≡ Some s → take (suc i) ss ≡ take i ss ++ s ∷ []
 take-more [] i s e = absurd (cc)
 take-more (x ∷ ss) zero s e = let z : x ≡ s = cc in ap (λ t. t ∷ []) z
 take-more (x ∷ ss) (suc i) s e = ap (λ t. x ∷ t) (take-more ss i s e)
 
-pub take-get : (ss : List Seg) (i : ℕ) (s : Seg) → slice_get ss i ≡ Some s → take (i + 1) ss ≡ take i ss ++ s ∷ []
+pub take-get : {A : Type 0} (ss : List A) (i : ℕ) (s : A) → slice_get ss i ≡ Some s → take (i + 1) ss ≡ take i ss ++ s ∷ []
 take-get ss i s e = ap (λ t. take t ss) (add-one i) ∙ take-more ss i s e
 
 module _ {P : Type 0} (segs : P → List Seg) where

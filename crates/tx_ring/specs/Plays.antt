@@ -2,6 +2,7 @@
 use Rattle.std.specs.Prelude.{◌≡◌, ◌≢◌, ℕ, ◌+◌, ◌-◌, ◌*◌, ◌/◌, ◌%◌, ◌<◌, ◌≤◌, List, [], ◌∷◌, ◌++◌, Bool, true, false, length, slice_index, Option, Some, None}
 use Rattle.atomic_table.specs.Table.{State, Me, Step, rest}
 use Rattle.flake_base.specs.declared.segment.Seg.{Seg}
+use Rattle.tx_ring.specs.Changes.{IsPrefix}
 use Rattle.tx_ring.specs.Words.{second, last_len, frame_words, IsFrame, size, extent}
 use Rattle.tx_ring.specs.Rule.{IsRing, blank_driver, blank_device}
 use Rattle.tx_ring.specs.Moves.{drafting, drafted, posting, missed, reaping, idle, closing, blanked, fetching, holding, completing, resting, ending}
@@ -31,7 +32,7 @@ module _ {P : Type 0} where
 
   -- reaped is a prefix of completed, and completed of posted
   abbrev pub InOrder : DriverView P → DeviceView P → Type 0
-  InOrder d e = ((finished : List P) × (e.completed ≡ d.reaped ++ finished)) × ((waiting : List P) × (d.posted ≡ e.completed ++ waiting))
+  InOrder d e = IsPrefix d.reaped e.completed × IsPrefix e.completed d.posted
 
 module _ {P : Type 0} (segs : P → List Seg) where
   abbrev pub Keeps : ℕ → State (Option P) (View P) → Type 0

@@ -6,22 +6,22 @@ ghost use Rattle.tx_ring.specs.Plays.{with_driver};
 ghost use Rattle.tx_ring.specs.Words.{second, pairs, IsFrame, size, extent};
 
 use crate::plays::{MoveTail, Write, WriteLast};
-use crate::rule::{Place, ROW, Ring, TAIL};
+use crate::rule::{RingSeat, FIRST_ROW, Ring, TAIL};
 use crate::status::status_word;
 use flake_base::Seg;
 use tx_descriptor::Framed;
 
 // The descriptor of a segment that is not a frame's last one.
-pub(crate) fn write_segment<P: Framed>(ring: &Ring<P>, seat: &mut Place<P>, place: usize, seg: Seg)
+pub(crate) fn write_segment<P: Framed>(ring: &Ring<P>, seat: &mut RingSeat<P>, place: usize, seg: Seg)
     requires table { (seat.old.table_id ≡ ring.now.table_id) × IsSized ring.now.key ring.now.table_id }
     requires ready { IsDrafting P.segs ring.now.key seat.old.me.0 place }
     requires seg { seg.len ≤ 4096 }
     ensures seat { (seat.new.table_id ≡ seat.old.table_id) × (seat.new.id ≡ seat.old.id) }
     ensures view { seat.new.me ≡ (with_driver (drafting (second seg.len false false) (drafting seg.address seat.old.me.0.driver)) seat.old.me.0, seat.old.me.1) }
 {
-    ring.store::<Write>(seat, ROW + 2 * place, seg.address);
+    ring.store::<Write>(seat, FIRST_ROW + 2 * place, seg.address);
     let word = status_word(seg.len, false, false);
-    ring.store::<Write>(seat, ROW + 2 * place + 1, word);
+    ring.store::<Write>(seat, FIRST_ROW + 2 * place + 1, word);
 }
 
 pub(crate) fn next_place(place: usize, count: usize) -> usize
@@ -35,7 +35,7 @@ pub(crate) fn next_place(place: usize, count: usize) -> usize
 // All descriptors of a frame but the last one. Gives the place of that one.
 pub(crate) fn write_front<P: Framed>(
     ring: &Ring<P>,
-    seat: &mut Place<P>,
+    seat: &mut RingSeat<P>,
     start: usize,
     count: usize,
     frame: &P,
@@ -60,7 +60,7 @@ pub(crate) fn write_front<P: Framed>(
 // The last descriptor of a frame, whose slot gets the frame, and then the tail.
 pub(crate) fn hand_over<P: Framed>(
     ring: &Ring<P>,
-    seat: &mut Place<P>,
+    seat: &mut RingSeat<P>,
     place: usize,
     after: usize,
     last: usize,
@@ -74,9 +74,9 @@ pub(crate) fn hand_over<P: Framed>(
     ensures view { seat.new.me ≡ (with_driver (posting frame seat.old.me.0.driver) seat.old.me.0, []) }
 {
     let seg = frame.seg(last);
-    ring.store::<Write>(seat, ROW + 2 * place, seg.address);
+    ring.store::<Write>(seat, FIRST_ROW + 2 * place, seg.address);
     let word = status_word(seg.len, true, false);
-    ring.store::<WriteLast>(seat, ROW + 2 * place + 1, word);
+    ring.store::<WriteLast>(seat, FIRST_ROW + 2 * place + 1, word);
     ring.exchange(seat, place, Some(frame));
     ring.store::<MoveTail>(seat, TAIL, after as u64);
 }

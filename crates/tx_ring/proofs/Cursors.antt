@@ -15,7 +15,7 @@ use Rattle.tx_ring.specs.Plays.{with_driver}
 use Rattle.tx_ring.specs.declared.view.View.{View}
 use Rattle.tx_ring.specs.declared.view.DriverView.{DriverView}
 use Rattle.tx_ring.proofs.Words.{extent-append}
-use Rattle.tx_ring.proofs.Calls.{next-place}
+use Rattle.tx_ring.proofs.Posting.{next-place}
 use Rattle.tx_ring.proofs.Steps.{one_frame}
 
 pub drop-front : {A : Type 0} (xs ys : List A) → drop (length xs) (xs ++ ys) ≡ ys
