@@ -3,7 +3,7 @@ use Rattle.std.proofs.Common.{◌≡◌, ℕ, zero, suc, ◌+◌, ◌-◌, ◌*�
 use mathlib.Core.Option.{none}
 use Rattle.atomic_table.specs.Table.{Me, step, Allows}
 use Rattle.flake_base.specs.declared.segment.Seg.{Seg}
-use Rattle.tx_ring.specs.Words.{second, last_len, frame_words, Each, size, extent}
+use Rattle.tx_ring.specs.Words.{IsShort, second, last_len, frame_words, Each, size, extent}
 use lib.Seq.{take_all}
 use Rattle.tx_ring.specs.Rows.{frame_rows}
 use Rattle.tx_ring.specs.declared.job.Row.{Row}
@@ -70,7 +70,7 @@ pub record Shows (ss : List Seg) (k : ℕ) : Type 0 where
   pub ends : last ≡ true → (k + 1 ≡ length ss) × (len ≡ last_len ss)
   pub goes_on : last ≡ false → k + 1 < length ss
 
-pub shows : (ss : List Seg) (k : ℕ) → Each (λ (s : Seg). (0 < s.len) × (s.len ≤ 4096)) ss → k < length ss → Shows ss k
+pub shows : (ss : List Seg) (k : ℕ) → Each IsShort ss → k < length ss → Shows ss k
 shows [] k a h = absurd (omega arith)
 shows (s ∷ []) zero a h = record { len = s.len; last = true; word = refl; short = a.0.1; ends = λ _. (refl, refl); goes_on = λ b. absurd (cc) }
 shows (s ∷ []) (suc k) a h = absurd (omega arith)

@@ -3,7 +3,7 @@ use Rattle.std.proofs.Common.{◌≡◌, ℕ, ◌+◌, ◌*◌, ◌/◌, ◌%◌
 use Rattle.std.specs.Int.{w64, to_le_bytes}
 use Rattle.tx_descriptor.specs.Bytes.{descriptor_bytes}
 use Rattle.flake_base.specs.declared.segment.Seg.{Seg}
-use Rattle.tx_ring.specs.Words.{second, Each}
+use Rattle.tx_ring.specs.Words.{IsShort, second, Each}
 use Rattle.tx_ring.specs.Rows.{row_bytes, frame_rows, frame_bytes}
 
 eight : (n len c d : ℕ) → len ≤ 4096 → c < 256 → d < 256 → n ≡ len + c * 16777216 + d * 4294967296 → to_le_bytes w64 n ≡ len % 256 ∷ len / 256 % 256 ∷ 0 ∷ c ∷ d ∷ 0 ∷ 0 ∷ 0 ∷ []
@@ -25,7 +25,7 @@ halves a len false true h = ap (λ t. to_le_bytes w64 a ++ t) (eight (second len
 halves a len false false h = ap (λ t. to_le_bytes w64 a ++ t) (eight (second len false false) len 0 0 h (omega arith) (omega arith) (omega arith))
 
 -- so a frame's words are the bytes of its descriptors
-pub bytes-of-rows : (ss : List Seg) → Each (λ (s : Seg). (0 < s.len) × (s.len ≤ 4096)) ss → map row_bytes (frame_rows ss) ≡ frame_bytes ss
+pub bytes-of-rows : (ss : List Seg) → Each IsShort ss → map row_bytes (frame_rows ss) ≡ frame_bytes ss
 bytes-of-rows [] a = refl
 bytes-of-rows (s ∷ []) a = λ k. halves s.address s.len true false a.0.1 k ∷ []
 bytes-of-rows (s ∷ t ∷ ss) a = λ k. halves s.address s.len false false a.0.1 k ∷ bytes-of-rows (t ∷ ss) a.1 k

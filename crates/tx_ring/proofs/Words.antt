@@ -5,7 +5,7 @@ use Rattle.std.proofs.Math.Seq.{get_or-append_seam}
 use mathlib.Core.Logic.{dite}
 use native.Mathlib.Decide.{dec_le}
 use Rattle.flake_base.specs.declared.segment.Seg.{Seg}
-use Rattle.tx_ring.specs.Words.{second, front, last_len, frame_words, pairs, Each, IsFrame, size, extent, lay, stops}
+use Rattle.tx_ring.specs.Words.{IsShort, second, front, last_len, frame_words, pairs, Each, IsFrame, size, extent, lay, stops}
 
 pub each-append : {A : Type 0} (F : A → Type 0) (xs ys : List A) → Each F xs → Each F ys → Each F (xs ++ ys)
 each-append F [] ys a b = b
@@ -27,7 +27,7 @@ front-length (s ∷ t ∷ ss) h = let i = front-length (t ∷ ss) (omega arith) 
 pub frame-length : (b : Bool) (ss : List Seg) → 0 < length ss → length (frame_words b ss) ≡ 2 * length ss
 frame-length b ss h = omega (arith, length-append (front ss) (second (last_len ss) true b ∷ []), front-length ss h)
 
-pub last-short : (ss : List Seg) → Each (λ (s : Seg). (0 < s.len) × (s.len ≤ 4096)) ss → last_len ss ≤ 4096
+pub last-short : (ss : List Seg) → Each IsShort ss → last_len ss ≤ 4096
 last-short [] a = omega arith
 last-short (s ∷ []) a = a.0.1
 last-short (s ∷ t ∷ ss) a = last-short (t ∷ ss) a.1
@@ -45,7 +45,7 @@ pairs-frame b [] s = refl
 pairs-frame b (x ∷ []) s = refl
 pairs-frame b (x ∷ y ∷ xs) s = ap (λ t. x.address ∷ second x.len false false ∷ t) (pairs-frame b (y ∷ xs) s)
 
-pub each-get : (ss : List Seg) (i : ℕ) (s : Seg) → Each (λ (s : Seg). (0 < s.len) × (s.len ≤ 4096)) ss → slice_get ss i ≡ Some s → s.len ≤ 4096
+pub each-get : (ss : List Seg) (i : ℕ) (s : Seg) → Each IsShort ss → slice_get ss i ≡ Some s → s.len ≤ 4096
 each-get [] i s a e = absurd (cc)
 each-get (x ∷ ss) zero s a e = let z : x ≡ s = cc in subst (λ (t : Seg). t.len ≤ 4096) z a.0.1
 each-get (x ∷ ss) (suc i) s a e = each-get ss i s a.1 e

@@ -29,9 +29,13 @@ abbrev pub Each : {A : Type 0} → (A → Type 0) → List A → Type 0
 Each F [] = Unit {0}
 Each F (x ∷ xs) = F x × Each F xs
 
+-- a segment that one descriptor may name
+abbrev pub IsShort : Seg → Type 0
+IsShort s = (0 < s.len) × (s.len ≤ 4096)
+
 -- a frame that may be posted
 abbrev pub IsFrame : List Seg → Type 0
-IsFrame ss = (0 < length ss) × Each (λ (s : Seg). (0 < s.len) × (s.len ≤ 4096)) ss
+IsFrame ss = (0 < length ss) × Each IsShort ss
 
 module _ {P : Type 0} (segs : P → List Seg) where
   abbrev pub size : P → ℕ

@@ -19,12 +19,20 @@ use std::collections::VecDeque;
 use std::sync::Arc;
 use tx_descriptor::Framed;
 
-fn open_ends<P: Framed>(alloc: Global, count: usize) -> Result<(Driver<P>, DeviceEnd<P>), AllocError>
+fn open_ends<P: Framed>(
+    alloc: Global,
+    count: usize,
+) -> Result<(Driver<P>, DeviceEnd<P>), AllocError>
     requires { (0 < count) × (count ≤ 4096) }
     ensures { IfOk result (λ r. (r.0.cursor.seat.me ≡ (driving blank_driver, [])) × (r.1.cursor.seat.me ≡ (gathering blank_device, [])) × (r.1.cursor.seat.table_id ≡ r.0.cursor.seat.table_id) × (r.0.cursor.seat.table_id.slots ≡ count)) }
 {
     let words = Vec::from_elem(alloc, 0u64, 2 * count + 3)?;
-    let (ring, mut seat): (RingTable<P>, _) = Table::vacant(alloc, words.as_slice(), count, &count)?;
+    let (ring, mut seat): (RingTable<P>, _) = Table::vacant(
+        alloc,
+        words.as_slice(),
+        count,
+        &count,
+    )?;
     let device_seat = ring.shared.split_seat::<Parts>(&mut seat);
     let table = Arc::new(alloc, ring)?;
     let other = Arc::try_clone(&table)?;

@@ -6,13 +6,18 @@ ghost use Rattle.tx_ring.specs.Plays.{with_driver};
 ghost use Rattle.tx_ring.specs.Words.{second, pairs, IsFrame, size, extent};
 
 use crate::plays::{MoveTail, Write, WriteLast};
-use crate::rule::{RingSeat, FIRST_ROW, Ring, TAIL};
+use crate::rule::{FIRST_ROW, Ring, RingSeat, TAIL};
 use crate::status::status_word;
 use flake_base::Seg;
 use tx_descriptor::Framed;
 
 // The descriptor of a segment that is not a frame's last one.
-pub(crate) fn write_segment<P: Framed>(ring: &Ring<P>, seat: &mut RingSeat<P>, place: usize, seg: Seg)
+pub(crate) fn write_segment<P: Framed>(
+    ring: &Ring<P>,
+    seat: &mut RingSeat<P>,
+    place: usize,
+    seg: Seg,
+)
     requires table { (seat.old.table_id ≡ ring.now.table_id) × IsSized ring.now.key ring.now.table_id }
     requires ready { IsDrafting P.segs ring.now.key seat.old.me.0 place }
     requires seg { seg.len ≤ 4096 }
