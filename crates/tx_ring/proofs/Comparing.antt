@@ -3,7 +3,7 @@ use Rattle.std.proofs.Common.{◌≡◌, ℕ, List, [], ◌∷◌, ◌++◌, len
 use mathlib.Core.Option.{none}
 use Rattle.atomic_table.specs.Table.{Me, step, Allows, Enters, Splits, Joins}
 use Rattle.flake_base.specs.declared.segment.Seg.{Seg}
-use Rattle.tx_ring.specs.Ends.{driving, steering, gathering}
+use Rattle.tx_ring.specs.Ends.{steering, gathering}
 use Rattle.tx_ring.specs.Rule.{nobody}
 use Rattle.tx_ring.specs.Plays.{Keeps, compared, InOrder, both_parts, driver_part, device_part}
 use Rattle.tx_ring.specs.declared.view.View.{View}

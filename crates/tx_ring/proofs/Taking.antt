@@ -6,7 +6,7 @@ use Rattle.tx_ring.specs.Words.{second, last_len, IsFrame, size, extent}
 use Rattle.tx_ring.specs.Rows.{frame_rows, frame_bytes, row_bytes}
 use Rattle.tx_ring.specs.Ends.{gathering}
 use Rattle.tx_ring.specs.Moves.{fetching, holding}
-use Rattle.tx_ring.specs.Jobs.{HasOut, Takes}
+use Rattle.tx_ring.specs.Jobs.{Takes}
 use Rattle.tx_ring.specs.declared.view.View.{View}
 use Rattle.tx_ring.specs.declared.view.DeviceStage.TheVariants.{Holding}
 use Rattle.tx_ring.specs.declared.job.Job.{Job}

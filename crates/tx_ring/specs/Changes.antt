@@ -2,7 +2,6 @@
 use Rattle.std.specs.Prelude.{◌≡◌, ℕ, ◌-◌, ◌%◌, ◌<◌, ◌≤◌, ◌⊎◌, List, [], ◌∷◌, ◌++◌, length}
 use Rattle.flake_base.specs.declared.segment.Seg.{Seg}
 use Rattle.tx_ring.specs.Words.{extent}
-use Rattle.tx_ring.specs.Moves.{missed}
 use Rattle.tx_ring.specs.declared.view.DriverView.{DriverView}
 
 -- how many descriptors a ring may have

@@ -3,8 +3,8 @@ use Rattle.std.specs.Prelude.{◌≡◌, ℕ, ◌+◌, ◌-◌, ◌%◌, ◌≤�
 use Rattle.atomic_table.specs.Table.{Me}
 use Rattle.flake_base.specs.declared.segment.Seg.{Seg}
 use Rattle.tx_ring.specs.Words.{second, last_len, IsFrame, size, extent}
-use Rattle.tx_ring.specs.Rows.{frame_rows, frame_bytes, row_bytes}
-use Rattle.tx_ring.specs.Ends.{gathering, IsAtRest}
+use Rattle.tx_ring.specs.Rows.{frame_bytes, row_bytes}
+use Rattle.tx_ring.specs.Ends.{IsAtRest}
 use Rattle.tx_ring.specs.Moves.{holding, blanked, ending}
 use Rattle.tx_ring.specs.declared.view.View.{View}
 use Rattle.tx_ring.specs.declared.view.DeviceStage.TheVariants.{Holding}

@@ -1,5 +1,5 @@
 -- The descriptors of a frame, and the two words of each.
-use Rattle.std.specs.Prelude.{ℕ, List, [], ◌∷◌, ◌++◌, Bool, true, false, map}
+use Rattle.std.specs.Prelude.{ℕ, List, [], ◌∷◌, ◌++◌, Bool, true, false}
 use Rattle.std.specs.Int.{w64, to_le_bytes}
 use Rattle.flake_base.specs.declared.segment.Seg.{Seg}
 use Rattle.tx_descriptor.specs.declared.legacy.Legacy.{Legacy}

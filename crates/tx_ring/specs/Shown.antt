@@ -1,5 +1,5 @@
 -- What contracts see of a ring's ends.
-use Rattle.std.specs.Prelude.{◌≡◌, ℕ, List, Bool}
+use Rattle.std.specs.Prelude.{ℕ, List, Bool}
 use Rattle.atomic_table.specs.Seated.{TableId}
 use Rattle.tx_descriptor.specs.declared.framed.Framed.{Ghosts}
 use Rattle.tx_ring.specs.Changes.{room_in}

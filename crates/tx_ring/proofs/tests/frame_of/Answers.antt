@@ -1,4 +1,4 @@
-use Rattle.std.proofs.Common.{[], ◌∷◌, ap, sym, subst, ◌∙◌, length, length-append, arith}
+use Rattle.std.proofs.Common.{[], ◌∷◌, ap, sym, subst, length, length-append, arith}
 use Rattle.tx_ring.specs.Words.{Each, IsShort}
 use Rattle.tx_ring.proofs.Words.{each-append}
 use Rattle.tx_ring.proofs.tests.frame_of.Goals as goal
