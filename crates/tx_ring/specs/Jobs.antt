@@ -46,21 +46,21 @@ module _ {P : Type 0} (segs : P → List Seg) where
     pub rows : n ≤ vec_capacity job.rows
 
   -- the next frame was taken, and the lists are as before
-  pub record Takes (m m' : Me (Option P) (View P)) (n : ℕ) (job : Job P) : Type 0 where
+  pub record TakesOut (m m' : Me (Option P) (View P)) (n : ℕ) (job : Job P) : Type 0 where
     pub view : m'.0.device ≡ holding job.frame m.0.device
     pub held : HasOut m' n job
     pub frame : IsFrame (segs job.frame)
     pub descriptors : map row_bytes job.rows.items ≡ frame_bytes (segs job.frame)
 
   -- the tail was found at the head, which is a blank, and nothing is known of more frames than were completed
-  pub record Finds (m m' : Me (Option P) (View P)) (n tail : ℕ) : Type 0 where
+  pub record FindsEmpty (m m' : Me (Option P) (View P)) (n tail : ℕ) : Type 0 where
     pub view : m'.0.device ≡ blanked m.0.device
     pub rest : IsAtRest m'
     pub told : m.0.device.told ≤ length m.0.device.completed
     pub at_head : tail ≡ extent segs m.0.device.completed % n
 
   -- and the closed word was found set
-  pub record Ends (m m' : Me (Option P) (View P)) : Type 0 where
+  pub record FindsEnd (m m' : Me (Option P) (View P)) : Type 0 where
     pub view : m'.0.device ≡ ending (blanked m.0.device)
     pub rest : IsAtRest m'
     pub told : m.0.device.told ≤ length m.0.device.completed

@@ -4,7 +4,7 @@ use Rattle.atomic_table.specs.Seated.{TableId}
 use Rattle.tx_descriptor.specs.declared.framed.Framed.{Ghosts}
 use Rattle.tx_ring.specs.Changes.{room_in}
 use Rattle.tx_ring.specs.Ends.{IsAtRest}
-use Rattle.tx_ring.specs.Jobs.{HasOut, Takes, Finds, Ends}
+use Rattle.tx_ring.specs.Jobs.{HasOut, TakesOut, FindsEmpty, FindsEnd}
 use Rattle.tx_ring.specs.declared.view.DriverView.{DriverView}
 use Rattle.tx_ring.specs.declared.view.DeviceView.{DeviceView}
 use Rattle.tx_ring.specs.declared.driver.Driver.{Driver}
@@ -79,12 +79,12 @@ module _ {P : Type 0} {g : Ghosts P} where
 
   -- the next frame was taken
   abbrev pub TakesFrame : DeviceEnd P g → DeviceEnd P g → Job P → Type 0
-  TakesFrame old new job = Takes g.segs old.cursor.seat.me new.cursor.seat.me new.cursor.count job
+  TakesFrame old new job = TakesOut g.segs old.cursor.seat.me new.cursor.seat.me new.cursor.count job
 
   -- the tail was found at the head
   abbrev pub FindsNone : DeviceEnd P g → DeviceEnd P g → ℕ → Type 0
-  FindsNone old new tail = Finds g.segs old.cursor.seat.me new.cursor.seat.me (ring_size (device_ring old)) tail
+  FindsNone old new tail = FindsEmpty g.segs old.cursor.seat.me new.cursor.seat.me (ring_size (device_ring old)) tail
 
   -- and the closed word was found set
   abbrev pub FindsClosed : DeviceEnd P g → DeviceEnd P g → Type 0
-  FindsClosed old new = Ends g.segs old.cursor.seat.me new.cursor.seat.me
+  FindsClosed old new = FindsEnd g.segs old.cursor.seat.me new.cursor.seat.me
