@@ -1,5 +1,5 @@
 -- What contracts see of a ring's ends.
-use Rattle.std.specs.Prelude.{ℕ, List, Bool}
+use Rattle.std.specs.Prelude.{◌≡◌, ℕ, List, Bool}
 use Rattle.atomic_table.specs.Seated.{TableId}
 use Rattle.tx_descriptor.specs.declared.framed.Framed.{Ghosts}
 use Rattle.tx_ring.specs.Changes.{room_in}
@@ -10,6 +10,8 @@ use Rattle.tx_ring.specs.declared.view.DeviceView.{DeviceView}
 use Rattle.tx_ring.specs.declared.driver.Driver.{Driver}
 use Rattle.tx_ring.specs.declared.closed.ClosedDriver.{ClosedDriver}
 use Rattle.tx_ring.specs.declared.device.DeviceEnd.{DeviceEnd}
+use Rattle.tx_ring.specs.Words.{size}
+use Rattle.tx_ring.specs.declared.busy.Busy.{Busy}
 use Rattle.tx_ring.specs.declared.job.Job.{Job}
 
 -- a ring has a name of its own, which both ends show; its slots are the ring's descriptors
@@ -47,6 +49,10 @@ module _ {P : Type 0} {g : Ghosts P} where
   -- how many descriptors are free
   abbrev pub room_of : Driver P g → ℕ
   room_of d = room_in g.segs (ring_size (driver_ring d)) (driver_view d)
+
+  -- the frame comes back with both numbers, and nothing changed
+  abbrev pub IsRefused : P → Driver P g → Driver P g → Busy P → Type 0
+  IsRefused f old new busy = (busy.frame ≡ f) × (busy.need ≡ size g.segs f) × (busy.room ≡ room_of old) × (driver_view new ≡ driver_view old)
 
   abbrev pub device_ring : DeviceEnd P g → TableId
   device_ring e = e.cursor.seat.table_id

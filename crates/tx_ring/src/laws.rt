@@ -12,7 +12,8 @@ use tx_descriptor::Framed;
 /// Both ends are told how far the other is, and their lists stay.
 pub fn both_ends<P: Framed>(driver: &mut Driver<P>, end: &mut DeviceEnd<P>)
     requires { (device_ring end.old ≡ driver_ring driver.old) × IsResting end.old }
-    ensures ring { (driver_ring driver.new ≡ driver_ring driver.old) × (device_ring end.new ≡ device_ring end.old) }
+    ensures ring { (driver_ring driver.new ≡ driver_ring driver.old)
+        × (device_ring end.new ≡ device_ring end.old) }
     ensures order { InOrder (driver_view driver.old) (device_view end.old) × (ended end.old ≡ false) }
     ensures driver { driver_view driver.new ≡ record (driver_view driver.old) { told = length (completed end.old) } }
     ensures device { device_view end.new ≡ record (device_view end.old) { told = length (posted driver.old) } }

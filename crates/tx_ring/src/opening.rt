@@ -24,7 +24,10 @@ fn open_ends<P: Framed>(
     count: usize,
 ) -> Result<(Driver<P>, DeviceEnd<P>), AllocError>
     requires { (0 < count) × (count ≤ 4096) }
-    ensures { IfOk result (λ r. (r.0.cursor.seat.me ≡ (driving blank_driver, [])) × (r.1.cursor.seat.me ≡ (gathering blank_device, [])) × (r.1.cursor.seat.table_id ≡ r.0.cursor.seat.table_id) × (r.0.cursor.seat.table_id.slots ≡ count)) }
+    ensures { IfOk result (λ r. (r.0.cursor.seat.me ≡ (driving blank_driver, []))
+        × (r.1.cursor.seat.me ≡ (gathering blank_device, []))
+        × (r.1.cursor.seat.table_id ≡ r.0.cursor.seat.table_id)
+        × (r.0.cursor.seat.table_id.slots ≡ count)) }
 {
     let words = Vec::from_elem(alloc, 0u64, 2 * count + 3)?;
     let (ring, mut seat): (RingTable<P>, _) = Table::vacant(

@@ -46,7 +46,9 @@ pub(crate) fn write_front<P: Framed>(
     frame: &P,
     last: usize,
 ) -> usize
-    requires table { (seat.old.table_id ≡ ring.now.table_id) × (count ≡ ring.now.key) × IsSized ring.now.key ring.now.table_id }
+    requires table { (seat.old.table_id ≡ ring.now.table_id)
+        × (count ≡ ring.now.key)
+        × IsSized ring.now.key ring.now.table_id }
     requires ready { IsDrafting P.segs ring.now.key seat.old.me.0 start × (seat.old.me.0.driver.draft ≡ []) }
     requires room { extent P.segs seat.old.me.0.driver.posted + size P.segs frame.now + 1 ≤ extent P.segs seat.old.me.0.driver.reaped + ring.now.key }
     requires frame { IsFrame (P.segs frame.now) × (last + 1 ≡ size P.segs frame.now) }
@@ -73,7 +75,9 @@ pub(crate) fn hand_over<P: Framed>(
 )
     requires table { (seat.old.table_id ≡ ring.now.table_id) × IsSized ring.now.key ring.now.table_id }
     requires ready { IsDrafting P.segs ring.now.key seat.old.me.0 place × (seat.old.me.1 ≡ []) }
-    requires frame { IsFrame (P.segs frame) × (last + 1 ≡ size P.segs frame) × (seat.old.me.0.driver.draft ≡ pairs (take last (P.segs frame))) }
+    requires frame { IsFrame (P.segs frame)
+        × (last + 1 ≡ size P.segs frame)
+        × (seat.old.me.0.driver.draft ≡ pairs (take last (P.segs frame))) }
     requires after { after ≡ (place + 1) % ring.now.key }
     ensures seat { (seat.new.table_id ≡ seat.old.table_id) × (seat.new.id ≡ seat.old.id) }
     ensures view { seat.new.me ≡ (with_driver (posting frame seat.old.me.0.driver) seat.old.me.0, []) }
