@@ -1,0 +1,5 @@
+pub mod Buffers
+pub mod Holding
+pub mod Pins
+pub mod PinStep
+pub mod Sound

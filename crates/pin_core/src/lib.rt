@@ -1,0 +1,14 @@
+//! The holds of a pool's buffers as a plain list: who holds which buffer, what it may do with it, and what each event makes of that.
+#![tactic(auto)]
+
+mod class;
+mod event;
+mod holder;
+mod refused;
+mod sizes;
+
+pub use class::{Class, Held};
+pub use event::{Change, PinEvent};
+pub use holder::Holder;
+pub use refused::{Memory, Refused};
+pub use sizes::Sizes;
