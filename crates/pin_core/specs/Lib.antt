@@ -3,3 +3,8 @@ pub mod Holding
 pub mod Pins
 pub mod PinStep
 pub mod Sound
+pub mod Answers
+pub mod Accounts
+pub mod Raw
+pub mod State
+pub mod HeldCount

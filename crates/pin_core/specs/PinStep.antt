@@ -103,3 +103,7 @@ module _ {H : Type 0} where
   abbrev pub PinSteps : Sizes → Pins H → List (Event H) → Pins H → Type 0
   PinSteps z old [] new = SamePins old new
   PinSteps z old (e ∷ es) new = (mid : Pins H) × PinStep z old e mid × PinSteps z mid es new
+
+  -- the event can happen
+  abbrev pub HasStep : Sizes → Pins H → Event H → Type 0
+  HasStep z old e = (new : Pins H) × PinStep z old e new

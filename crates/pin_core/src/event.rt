@@ -4,7 +4,10 @@ use crate::holder::Holder;
 #[derive(Clone, Copy, PartialEq, Eq, Debug)]
 pub enum PinEvent {
     /// A buffer without holds becomes the holder's.
-    Claim { buffer: u32, holder: Holder },
+    Claim {
+        buffer: u32,
+        holder: Holder,
+    },
     /// A word is written at `index`, which ends the front behind it.
     Put {
         buffer: u32,

@@ -2,13 +2,16 @@
 #![tactic(auto)]
 
 mod class;
+mod credits;
 mod event;
 mod holder;
 mod refused;
 mod sizes;
+mod state;
 
 pub use class::{Class, Held};
 pub use event::{Change, PinEvent};
 pub use holder::Holder;
 pub use refused::{Memory, Refused};
 pub use sizes::Sizes;
+pub use state::PinState;

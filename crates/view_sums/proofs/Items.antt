@@ -1,7 +1,5 @@
 -- Lists with the same items, each as often.
-use Rattle.std.proofs.Common.{◌≡◌, ℕ, ◌+◌, List, [], ◌∷◌, ◌++◌, length, map, set, sym, refl, ap, ◌∙◌, arith}
-use mathlib.Core.Option.{some}
-use lib.ListN.{get_elem?}
+use Rattle.std.proofs.Common.{◌≡◌, List, [], ◌∷◌, ◌++◌, length, map, sym, refl, ap, ◌∙◌, arith}
 use Rattle.view_sums.specs.Total.{total, SameItems}
 use Rattle.view_sums.proofs.Sums.{total-append, total-map}
 

@@ -1,5 +1,5 @@
 -- Sums over what all views have, where a view goes by its number.
-use Rattle.std.proofs.Common.{◌≡◌, ℕ, zero, suc, ◌+◌, List, [], ◌∷◌, ◌++◌, length, set, sym, refl, ap, ◌∙◌, arith}
+use Rattle.std.proofs.Common.{◌≡◌, ℕ, zero, suc, ◌+◌, List, [], ◌∷◌, ◌++◌, length, set, sym, refl, ap, arith}
 use mathlib.Core.Option.{some, some-injective, some-ne-none}
 use lib.ListN.{get_elem?}
 use Rattle.view_sums.specs.Total.{total}
@@ -9,7 +9,7 @@ use Rattle.view_sums.proofs.Sums.{total-append}
 module _ {V B : Type 0} (weight : B → ℕ) (part : ℕ → V → List B) where
   -- the view at a place beyond n has the place's number, counted from n
   pub total-by_number-set : (n : ℕ) (views : List V) (place : ℕ) (old new : V) → get_elem? views place ≡ some old
-    → total weight (by_number part n (set views place new)) + total weight (part (n + place) old) ≡ total weight (by_number part n views) + total weight (part (n + place) new)
+      → total weight (by_number part n (set views place new)) + total weight (part (n + place) old) ≡ total weight (by_number part n views) + total weight (part (n + place) new)
   total-by_number-set n [] place old new found = absurd (some-ne-none old (sym found))
   total-by_number-set n (v ∷ vs) zero old new found =
       let n_is : n + 0 ≡ n = omega arith in

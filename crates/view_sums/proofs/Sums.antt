@@ -1,5 +1,5 @@
 -- Sums over lists that change at one place or at two: all of them go by what stands before the place and behind it.
-use Rattle.std.proofs.Common.{◌≡◌, ℕ, zero, suc, ◌+◌, ◌≤◌, ◌≢◌, List, [], ◌∷◌, ◌++◌, length, map, set, sym, refl, ap, subst, ◌∙◌, arith}
+use Rattle.std.proofs.Common.{◌≡◌, ℕ, zero, suc, ◌+◌, ◌≤◌, ◌≢◌, List, [], ◌∷◌, ◌++◌, length, map, set, sym, refl, ap, ◌∙◌, arith}
 use mathlib.Core.Option.{some, some-injective, some-ne-none}
 use lib.ListN.{get_elem?}
 use Rattle.view_sums.specs.Total.{total}
@@ -92,7 +92,7 @@ module _ {A : Type 0} where
     total-alone (x ∷ xs) (suc place) item found none = omega (arith, none 0 x (λ h. omega arith) refl, total-alone xs place item found (λ k u ne d. none (suc k) u (λ h. ne (omega arith)) d))
 
     pub total-two_set : (items : List A) (place elsewhere : ℕ) (old old' new new' : A) → elsewhere ≢ place → get_elem? items place ≡ some old → get_elem? items elsewhere ≡ some old'
-      → total weight (set (set items place new) elsewhere new') + (weight old + weight old') ≡ total weight items + (weight new + weight new')
+        → total weight (set (set items place new) elsewhere new') + (weight old + weight old') ≡ total weight items + (weight new + weight new')
     total-two_set items place elsewhere old old' new new' away found there =
         omega (arith, total-set items place old new found, total-set (set items place new) elsewhere old' new' (get_elem?-set items place elsewhere new away ∙ there))
 
