@@ -33,16 +33,6 @@ event_of (event.Unpin b p pinned) = unpin (record { buffer = b; pinned = pinned 
 event_of (event.Move b pinned p taker) = move (record { buffer = b; pinned = pinned }) p taker
 event_of (event.Give p taker n) = give p taker n
 
--- the buffer that the event names is one of the pool's
-abbrev pub IsNear : Sizes → PinEvent → Type 0
-IsNear z (event.Claim b _) = b < buffers z
-IsNear z (event.Put b _ _ _) = b < buffers z
-IsNear z (event.Load b _ _) = b < buffers z
-IsNear z (event.Pin b _ _) = b < buffers z
-IsNear z (event.Unpin b _ _) = b < buffers z
-IsNear z (event.Move b _ _ _) = b < buffers z
-IsNear z (event.Give _ _ _) = Unit {0}
-
 -- a hold of the buffer that the holder has
 abbrev pub is_at : Holder → ℕ → Owned Holder → Bool
 is_at p b o = same_holder o.holder p && (o.hold.buffer == b)

@@ -8,3 +8,4 @@ pub mod Accounts
 pub mod Raw
 pub mod State
 pub mod HeldCount
+pub mod Laws

@@ -1,7 +1,7 @@
 -- The seven events, and what each makes of a plain list of holds. Lists of holds and of credits are compared by how often each item stands in them.
 use Rattle.std.specs.Prelude.{◌≡◌, ℕ, ◌+◌, ◌<◌, ◌≤◌, List, [], ◌∷◌, ◌++◌, Bool, true, if◌then◌else◌, length, replicate, slice_set}
 use Rattle.view_sums.specs.Total.{SameItems, Adds}
-use Rattle.pin_core.specs.Buffers.{room, start}
+use Rattle.pin_core.specs.Buffers.{buffers, room, start}
 use Rattle.pin_core.specs.Holding.{Holding, Key, IsMeant, fresh, shared, pinned_copy, written}
 use Rattle.pin_core.specs.Pins.{Owned, Pins, own, count_at}
 use Rattle.pin_core.specs.declared.sizes.Sizes.{Sizes}
@@ -92,6 +92,16 @@ module _ {H : Type 0} where
   PinStep z old (unpin k p) new = IsUnpin k p old new
   PinStep z old (move k p taker) new = IsMove k p taker old new
   PinStep z old (give p taker n) new = IsGive p taker n old new
+
+  -- the buffer that the event names is one of the pool's
+  abbrev pub IsNear : Sizes → Event H → Type 0
+  IsNear z (claim b _) = b < buffers z
+  IsNear z (put b _ _ _) = b < buffers z
+  IsNear z (load b _ _) = b < buffers z
+  IsNear z (pin b _ _) = b < buffers z
+  IsNear z (unpin k _) = k.buffer < buffers z
+  IsNear z (move k _ _) = k.buffer < buffers z
+  IsNear z (give _ _ _) = Unit {0}
 
   -- the same holds and credits, each as often, and the same words
   pub record SamePins (old new : Pins H) : Type 0 where

@@ -5,6 +5,7 @@ mod class;
 mod credits;
 mod event;
 mod holder;
+pub mod laws;
 mod refused;
 mod sizes;
 mod state;

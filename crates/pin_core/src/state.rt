@@ -2,9 +2,9 @@ ghost use Rattle.std.specs.Prelude.{◌≡◌, ◌≢◌, ◌+◌, ◌<◌, ◌�
 ghost use Rattle.pin_core.specs.declared.holder.Holder.{Holder};
 ghost use Rattle.pin_core.specs.Buffers.{buffers, IsWithin};
 ghost use Rattle.pin_core.specs.Pins.{weigh, count_at};
-ghost use Rattle.pin_core.specs.PinStep.{PinStep, HasStep};
+ghost use Rattle.pin_core.specs.PinStep.{IsNear, PinStep, HasStep};
 ghost use Rattle.pin_core.specs.Sound.{IsSound};
-ghost use Rattle.pin_core.specs.Answers.{event_of, IsNear, refusal_of, change_of};
+ghost use Rattle.pin_core.specs.Answers.{event_of, refusal_of, change_of};
 ghost use Rattle.pin_core.specs.State.{opened_by, IsAnswer};
 ghost use Rattle.pin_core.specs.HeldCount.{held_in};
 ghost use Rattle.pin_core.specs.Raw.{is_raw_at, is_raw_key};
@@ -88,7 +88,7 @@ impl PinState {
 
     /// Makes the event's step, or says why there is none.
     pub fn step(&mut self, event: PinEvent) -> Result<Change, Refused>
-        requires { IsNear self.old.sizes event }
+        requires { IsNear self.old.sizes (event_of event) }
 
         // A refusal other than want of memory is that of the first test that fails, and comes exactly where one fails.
         ensures refused { MatchOption (refusal_of self.old.sizes self.old.pins event) (IsOkUnless result Refused.Memory) (λ r. result ≡ Err r) }

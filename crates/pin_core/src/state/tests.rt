@@ -1,5 +1,6 @@
 ghost use Rattle.std.specs.Prelude.{◌≡◌};
-ghost use Rattle.pin_core.specs.Answers.{IsNear};
+ghost use Rattle.pin_core.specs.PinStep.{IsNear};
+ghost use Rattle.pin_core.specs.Answers.{event_of};
 
 use super::PinState;
 use crate::class::Held;
@@ -81,7 +82,7 @@ fn give(from: Holder, to: Holder, credits: u64) -> PinEvent
 }
 
 fn answers(rt: &impl Abort, state: &mut PinState, event: PinEvent, answer: Result<Change, Refused>)
-    requires { IsNear state.old.sizes event }
+    requires { IsNear state.old.sizes (event_of event) }
     ensures { state.new.sizes ≡ state.old.sizes }
 {
     assert_eq!(rt; state.step(event), answer, "at {event:?}");
