@@ -2,3 +2,5 @@ pub mod Places
 pub mod Weights
 pub mod Keeps
 pub mod Steps
+pub mod Found
+pub mod AccountSums

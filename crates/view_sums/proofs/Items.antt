@@ -1,5 +1,5 @@
 -- Lists with the same items, each as often.
-use Rattle.std.proofs.Common.{◌≡◌, List, [], ◌∷◌, ◌++◌, length, map, sym, refl, ap, ◌∙◌, arith}
+use Rattle.std.proofs.Common.{◌≡◌, ℕ, zero, suc, ◌+◌, ◌*◌, List, [], ◌∷◌, ◌++◌, length, map, replicate, sym, refl, ap, ◌∙◌, arith}
 use Rattle.view_sums.specs.Total.{total, SameItems}
 use Rattle.view_sums.proofs.Sums.{total-append, total-map}
 
@@ -35,3 +35,17 @@ module _ {A : Type 0} where
 
   pub same_length : (xs ys : List A) → SameItems xs ys → length xs ≡ length ys
   same_length xs ys h = sym (length-total xs) ∙ h (λ _. 1) ∙ length-total ys
+
+-- copies of one item
+module _ {A : Type 0} (weight : A → ℕ) where
+  pub total-replicate_one : (n : ℕ) (x : A) → weight x ≡ 1 → total weight (replicate n x) ≡ n
+  total-replicate_one zero x one = refl
+  total-replicate_one (suc n) x one = omega (arith, one, total-replicate_one n x one)
+
+  pub total-replicate-add : (m n : ℕ) (x : A) → total weight (replicate (m + n) x) ≡ total weight (replicate m x) + total weight (replicate n x)
+  total-replicate-add m zero x = let e : m + 0 ≡ m = omega arith in omega (arith, ap (λ (k : ℕ). total weight (replicate k x)) e)
+  total-replicate-add m (suc n) x = let e : m + suc n ≡ suc (m + n) = omega arith in omega (arith, ap (λ (k : ℕ). total weight (replicate k x)) e, total-replicate-add m n x)
+
+  pub total-replicate : (n : ℕ) (x : A) → total weight (replicate n x) ≡ n * weight x
+  total-replicate zero x = omega arith
+  total-replicate (suc n) x = omega (arith, total-replicate n x)
