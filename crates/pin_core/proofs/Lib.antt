@@ -4,3 +4,4 @@ pub mod Keeps
 pub mod Steps
 pub mod Found
 pub mod AccountSums
+pub mod RawHolds

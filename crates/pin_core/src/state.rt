@@ -1,4 +1,4 @@
-ghost use Rattle.std.specs.Prelude.{◌≡◌, ◌≢◌, ◌+◌, ◌<◌, ◌≤◌, ◌^◌, length, position, MatchOption, IfOk, IfErr, OnErr, IsOkUnless};
+ghost use Rattle.std.specs.Prelude.{◌≡◌, ◌≢◌, ◌+◌, ◌<◌, ◌≤◌, ◌^◌, ◌==◌, length, position, count_by, MatchOption, IfOk, IfErr, OnErr, IsOkUnless};
 ghost use Rattle.pin_core.specs.declared.holder.Holder.{Holder};
 ghost use Rattle.pin_core.specs.Buffers.{buffers, IsWithin};
 ghost use Rattle.pin_core.specs.Pins.{weigh, count_at};
@@ -61,6 +61,12 @@ fn find_key(holds: &[Hold], holder: Holder, buffer: u32, pinned: bool) -> Option
     ensures { result ≡ position (is_raw_key holder buffer pinned) holds.now }
 {
     holds.iter().position(|h| h.holder == holder && h.buffer == buffer && h.pinned == pinned)
+}
+
+fn count_holds(holds: &[Hold], buffer: u32) -> usize
+    ensures { result ≡ count_by (λ h. h.buffer == buffer) holds.now }
+{
+    holds.iter().filter(|h| h.buffer == buffer).count()
 }
 
 impl PinState {
@@ -134,7 +140,7 @@ impl PinState {
     pub fn holders_of(&self, buffer: u32) -> u32
         ensures { result ≡ count_at buffer self.now.pins.holds }
     {
-        self.holds.iter().filter(|h| h.buffer == buffer).count() as u32
+        count_holds(&self.holds, buffer) as u32
     }
 
     /// How many buffers of each class have a hold.
