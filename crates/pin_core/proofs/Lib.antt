@@ -5,3 +5,5 @@ pub mod Steps
 pub mod Found
 pub mod AccountSums
 pub mod RawHolds
+pub mod Answering
+pub mod RawSteps

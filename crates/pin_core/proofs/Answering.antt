@@ -1,0 +1,39 @@
+-- The three kinds of answers: a step was made, a test refused it, or memory was wanting.
+use Rattle.std.proofs.Common.{◌≡◌, ◌≢◌, ℕ, ◌<◌, ◌≤◌, Bool, true, false, cond, ◌&&◌, eqb, ltb, leb, sym, refl, ap, subst, ◌∙◌, eq-eqb, ne_eqb}
+use Rattle.std.specs.Prelude.{Option, None, Some, Result, Ok, Err, MatchOption, IsOkUnless, find}
+use Rattle.pin_core.specs.Holding.{Holding}
+use Rattle.pin_core.specs.Pins.{Owned, Pins}
+use Rattle.pin_core.specs.PinStep.{PinStep}
+use Rattle.pin_core.specs.Answers.{event_of, refusal_of, change_of, unless, held_first}
+use Rattle.pin_core.specs.State.{SizedPins, IsAnswer}
+use Rattle.pin_core.specs.declared.holder.Holder.{Holder}
+use Rattle.pin_core.specs.declared.event.PinEvent.{PinEvent}
+use Rattle.pin_core.specs.declared.event.Change.{Change}
+use Rattle.pin_core.specs.declared.refused.Refused.{Refused}
+use Rattle.pin_core.specs.declared.refused.Refused.TheVariants.{Memory, NotHeld}
+
+abbrev Refuses : Result Change Refused → Option Refused → Type 0
+Refuses result first = MatchOption first (IsOkUnless result Memory) (λ r. result ≡ Err r)
+
+module _ (old : SizedPins) (event : PinEvent) where
+  pub done : (new : SizedPins) (change : Change) → refusal_of old.sizes old.pins event ≡ None → PinStep old.sizes old.pins (event_of event) new.pins → change ≡ change_of old.pins event → new.sizes ≡ old.sizes → IsAnswer old event (Ok change) new
+  done new change passes step tells sizes = record { refused = subst (Refuses (Ok change)) (sym passes) tt; stepped = step; tells = tells; unchanged = tt; sizes = sizes }
+
+  pub refuses : (r : Refused) → refusal_of old.sizes old.pins event ≡ Some r → IsAnswer old event (Err r) old
+  refuses r refused = record { refused = subst (Refuses (Err r)) (sym refused) refl; stepped = tt; tells = tt; unchanged = refl; sizes = refl }
+
+  pub no_memory : refusal_of old.sizes old.pins event ≡ None → IsAnswer old event (Err Memory) old
+  no_memory passes = record { refused = subst (Refuses (Err Memory)) (sym passes) refl; stepped = tt; tells = tt; unchanged = refl; sizes = refl }
+
+-- a test that passes, and one that fails
+pub unless-passed : (t : Bool) (r : Refused) (later : Option Refused) → t ≡ true → unless t r later ≡ later
+unless-passed t r later e = ap (λ b. unless b r later) e
+
+pub unless-failed : (t : Bool) (r : Refused) (later : Option Refused) → t ≡ false → unless t r later ≡ Some r
+unless-failed t r later e = ap (λ b. unless b r later) e
+
+pub held_first-none : (o : Option (Owned Holder)) (tests : Holding → Option Refused) → o ≡ None → held_first o tests ≡ Some NotHeld
+held_first-none o tests e = ap (λ x. held_first x tests) e
+
+pub held_first-some : (o : Option (Owned Holder)) (tests : Holding → Option Refused) (x : Owned Holder) → o ≡ Some x → held_first o tests ≡ tests x.hold
+held_first-some o tests x e = ap (λ y. held_first y tests) e
