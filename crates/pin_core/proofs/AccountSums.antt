@@ -178,3 +178,30 @@ module _ (p : Holder) (n : ℕ) (accounts : List Account) where
 
   pub single-added : AreSingle accounts → find (is_of p) accounts ≡ None → AreSingle (accounts ++ account ∷ [])
   single-added single none q = omega (arith, total-append (account_of q) accounts (account ∷ []), single_case q (same_holder p q) refl single none)
+
+-- no holder has more credits than there are
+pub credits_of-le : (p : Holder) (credits : List Holder) → credits_of p credits ≤ length credits
+credits_of-le p [] = omega arith
+credits_of-le p (q ∷ rest) = omega (arith, one_bit (same_holder q p), credits_of-le p rest)
+  where
+    one_bit : (t : Bool) → cond t 1 0 ≤ 1
+    one_bit true = omega arith
+    one_bit false = omega arith
+
+-- the credits without n of the holder's
+abbrev pub fewer : ℕ → Holder → List Holder → List Holder
+fewer zero p credits = credits
+fewer (suc n) p [] = []
+fewer (suc n) p (q ∷ rest) = cond (same_holder q p) (fewer n p rest) (q ∷ fewer (suc n) p rest)
+
+fewer_cons : (n : ℕ) (p q : Holder) (rest : List Holder) (t : Bool) → same_holder q p ≡ t → (n ≤ credits_of p rest → SameItems rest (replicate n p ++ fewer n p rest)) → (suc n ≤ credits_of p rest → SameItems rest (replicate (suc n) p ++ fewer (suc n) p rest)) → suc n ≤ cond t 1 0 + credits_of p rest
+  → SameItems (q ∷ rest) (replicate (suc n) p ++ cond t (fewer n p rest) (q ∷ fewer (suc n) p rest))
+fewer_cons n p q rest true e here later enough =
+    λ weight. omega (arith, here (omega (arith, enough)) weight, total-append weight (replicate n p) (fewer n p rest), total-append weight (replicate (suc n) p) (fewer n p rest), ap weight (same_holder-true q p e))
+fewer_cons n p q rest false e here later enough =
+    λ weight. omega (arith, later (omega (arith, enough)) weight, total-append weight (replicate (suc n) p) (fewer (suc n) p rest), total-append weight (replicate (suc n) p) (q ∷ fewer (suc n) p rest))
+
+pub fewer-same : (n : ℕ) (p : Holder) (credits : List Holder) → n ≤ credits_of p credits → SameItems credits (replicate n p ++ fewer n p credits)
+fewer-same zero p credits enough = λ weight. refl
+fewer-same (suc n) p [] enough = absurd (omega arith)
+fewer-same (suc n) p (q ∷ rest) enough = fewer_cons n p q rest (same_holder q p) refl (fewer-same n p rest) (fewer-same (suc n) p rest) enough

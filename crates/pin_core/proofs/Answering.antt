@@ -3,7 +3,9 @@ use Rattle.std.proofs.Common.{◌≡◌, ◌≢◌, ℕ, ◌<◌, ◌≤◌, Boo
 use Rattle.std.specs.Prelude.{Option, None, Some, Result, Ok, Err, MatchOption, IsOkUnless, find}
 use Rattle.pin_core.specs.Holding.{Holding}
 use Rattle.pin_core.specs.Pins.{Owned, Pins}
-use Rattle.pin_core.specs.PinStep.{PinStep}
+use Rattle.pin_core.specs.PinStep.{IsNear, PinStep}
+use Rattle.pin_core.specs.Sound.{IsSound}
+use Rattle.pin_core.proofs.Steps.{step_sound}
 use Rattle.pin_core.specs.Answers.{event_of, refusal_of, change_of, unless, held_first}
 use Rattle.pin_core.specs.State.{SizedPins, IsAnswer}
 use Rattle.pin_core.specs.declared.holder.Holder.{Holder}
@@ -15,15 +17,25 @@ use Rattle.pin_core.specs.declared.refused.Refused.TheVariants.{Memory, NotHeld}
 abbrev Refuses : Result Change Refused → Option Refused → Type 0
 Refuses result first = MatchOption first (IsOkUnless result Memory) (λ r. result ≡ Err r)
 
-module _ (old : SizedPins) (event : PinEvent) where
-  pub done : (new : SizedPins) (change : Change) → refusal_of old.sizes old.pins event ≡ None → PinStep old.sizes old.pins (event_of event) new.pins → change ≡ change_of old.pins event → new.sizes ≡ old.sizes → IsAnswer old event (Ok change) new
-  done new change passes step tells sizes = record { refused = subst (Refuses (Ok change)) (sym passes) tt; stepped = step; tells = tells; unchanged = tt; sizes = sizes }
+module _ (old : SizedPins) (event : PinEvent) (sound : IsSound old.sizes old.pins) where
+  -- the new state has the same sizes
+  pub done : (new : Pins Holder) (change : Change) → IsNear old.sizes (event_of event) → refusal_of old.sizes old.pins event ≡ None → PinStep old.sizes old.pins (event_of event) new → change ≡ change_of old.pins event
+    → IsAnswer old event (Ok change) (record { sizes = old.sizes; pins = new })
+  done new change near passes step tells = record {
+    refused = subst (Refuses (Ok change)) (sym passes) tt;
+    stepped = step;
+    tells = tells;
+    unchanged = tt;
+    sizes = refl;
+    was_sound = sound;
+    sound = step_sound old.sizes old.pins new (event_of event) near step sound;
+  }
 
   pub refuses : (r : Refused) → refusal_of old.sizes old.pins event ≡ Some r → IsAnswer old event (Err r) old
-  refuses r refused = record { refused = subst (Refuses (Err r)) (sym refused) refl; stepped = tt; tells = tt; unchanged = refl; sizes = refl }
+  refuses r refused = record { refused = subst (Refuses (Err r)) (sym refused) refl; stepped = tt; tells = tt; unchanged = refl; sizes = refl; was_sound = sound; sound = sound }
 
   pub no_memory : refusal_of old.sizes old.pins event ≡ None → IsAnswer old event (Err Memory) old
-  no_memory passes = record { refused = subst (Refuses (Err Memory)) (sym passes) refl; stepped = tt; tells = tt; unchanged = refl; sizes = refl }
+  no_memory passes = record { refused = subst (Refuses (Err Memory)) (sym passes) refl; stepped = tt; tells = tt; unchanged = refl; sizes = refl; was_sound = sound; sound = sound }
 
 -- a test that passes, and one that fails
 pub unless-passed : (t : Bool) (r : Refused) (later : Option Refused) → t ≡ true → unless t r later ≡ later

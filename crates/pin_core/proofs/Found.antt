@@ -104,6 +104,7 @@ module _ {A : Type 0} (test : A → Bool) (items : List A) (k : ℕ) (item : A) 
     pub rest : List A
     pub passes : test item ≡ true
     pub near : k < length items
+    pub here : (d : A) → get_or items k d ≡ item
     pub found : find test items ≡ Some item
     pub whole : (weight : A → ℕ) → total weight items ≡ weight item + total weight rest
     pub changed : (other : A) (weight : A → ℕ) → total weight (set items k other) ≡ weight other + total weight rest
@@ -127,6 +128,7 @@ module _ {A : Type 0} (test : A → Bool) (items : List A) (k : ℕ) (item : A) 
         rest = rest;
         passes = ap test (sym e) ∙ f.passes;
         near = f.near;
+        here = λ d. f.here d ∙ e;
         found = f.found ∙ ap Some e;
         whole = sum;
         changed = λ other weight. omega (arith, ap (total weight) (f.changed other), total-append weight f.before (other ∷ f.behind), total-append weight f.before f.behind);

@@ -40,6 +40,7 @@ returns c =
     let s : SizedPins = shown z i.holds.items words i.credits in
     let free : count_at c.args.buffer s.pins.holds ≡ 0 = ap (λ (t : SizedPins). count_at c.args.buffer t.pins.holds) c.self.view_is ∙ sym c.holders_of-holds.ensures ∙ c.if-holds-ne0.false in
     let event = Claim c.args.buffer c.args.holder in
+    let near = subst (λ (t : SizedPins). c.args.buffer < buffers t.sizes) (sym c.self.view_is) c.requires in
     let passes = unless-passed (eqb (count_at c.args.buffer s.pins.holds) 0) (NotFree (count_at c.args.buffer s.pins.holds)) None (eq-eqb (count_at c.args.buffer s.pins.holds) 0 free) in
     let From : SizedPins → Type 0 = λ t. IsAnswer t event c.match-push.result (shown z c.push.new.self.items words i.credits) in
     let Given : Result Change Refused → Type 0 = λ r. IsAnswer s event r (shown z c.push.new.self.items words i.credits) in
@@ -47,8 +48,8 @@ returns c =
       elim c.match-push.branch [
         | in-Ok w ↦ subst Given (sym w.result-is) (
             let After : List Hold → Type 0 = λ holds. IsAnswer s event (Ok Claimed) (shown z holds words i.credits) in
-            subst After (sym w.in-Ok.ensures.items) (done s event (shown z (i.holds.items ++ new ∷ []) words i.credits) Claimed passes (claim_step z i.holds.items words i.credits c.self.invariant c.args.buffer c.args.holder free) refl refl))
+            subst After (sym w.in-Ok.ensures.items) (done s event c.self.invariant.sound (pins_in z (i.holds.items ++ new ∷ []) words i.credits) Claimed near passes (claim_step z i.holds.items words i.credits c.self.invariant c.args.buffer c.args.holder free) refl))
         | in-Err w ↦ subst Given (sym w.result-is) (
             let After : List Hold → Type 0 = λ holds. IsAnswer s event (Err Memory) (shown z holds words i.credits) in
-            subst After (sym w.in-Err.ensures.items) (no_memory s event passes))
+            subst After (sym w.in-Err.ensures.items) (no_memory s event c.self.invariant.sound passes))
       ])
