@@ -1,6 +1,6 @@
 -- The three kinds of answers: a step was made, a test refused it, or memory was wanting.
-use Rattle.std.proofs.Common.{◌≡◌, ◌≢◌, ℕ, ◌<◌, ◌≤◌, Bool, true, false, cond, ◌&&◌, eqb, ltb, leb, sym, refl, ap, subst, ◌∙◌, eq-eqb, ne_eqb}
-use Rattle.std.specs.Prelude.{Option, None, Some, Result, Ok, Err, MatchOption, IsOkUnless, find}
+use Rattle.std.proofs.Common.{◌≡◌, ◌≢◌, ℕ, List, ◌<◌, ◌≤◌, Bool, true, false, cond, ◌&&◌, eqb, ltb, leb, sym, refl, ap, subst, ◌∙◌, eq-eqb, ne_eqb}
+use Rattle.std.specs.Prelude.{Option, None, Some, Result, Ok, Err, MatchOption, IsOkUnless, OnOk, OnErr, is_ok, is_err, if◌then◌else◌, find}
 use Rattle.pin_core.specs.Holding.{Holding}
 use Rattle.pin_core.specs.Pins.{Owned, Pins}
 use Rattle.pin_core.specs.PinStep.{IsNear, PinStep}
@@ -49,3 +49,21 @@ held_first-none o tests e = ap (λ x. held_first x tests) e
 
 pub held_first-some : (o : Option (Owned Holder)) (tests : Holding → Option Refused) (x : Owned Holder) → o ≡ Some x → held_first o tests ≡ tests x.hold
 held_first-some o tests x e = ap (λ y. held_first y tests) e
+
+-- what a call ensures on the one outcome, where it was tested for that
+pub on_ok : {A B P : Type 0} (r : Result A B) → false ≡ is_err r → OnOk r P → P
+on_ok (Ok x) was ensured = ensured
+on_ok (Err e) was ensured = absurd (cc)
+
+pub on_err : {A B P : Type 0} (r : Result A B) → true ≡ is_err r → OnErr r P → P
+on_err (Ok x) was ensured = absurd (cc)
+on_err (Err e) was ensured = ensured
+
+-- the items after a push
+pub made_push : {X A B : Type 0} (r : Result A B) (after pushed before : List X) → false ≡ is_err r → after ≡ (if is_ok r then pushed else before) → after ≡ pushed
+made_push (Ok x) after pushed before was e = e
+made_push (Err x) after pushed before was e = absurd (cc)
+
+pub failed_push : {X A B : Type 0} (r : Result A B) (after pushed before : List X) → true ≡ is_err r → after ≡ (if is_ok r then pushed else before) → after ≡ before
+failed_push (Ok x) after pushed before was e = absurd (cc)
+failed_push (Err x) after pushed before was e = e

@@ -158,3 +158,8 @@ module _ {A B : Type 0} (test : B → Bool) (g : A → B) where
   pub find-map-none : (xs : List A) → find (λ z. test (g z)) xs ≡ None → find test (map g xs) ≡ None
   find-map-none [] found = refl
   find-map-none (x ∷ xs) found = map_none x xs (test (g x)) (find-map-none xs) found
+
+pub get_or-append_left : {A : Type 0} (front back : List A) (k : ℕ) (d : A) → k < length front → get_or (front ++ back) k d ≡ get_or front k d
+get_or-append_left [] back k d lt = absurd (omega arith)
+get_or-append_left (x ∷ xs) back zero d lt = refl
+get_or-append_left (x ∷ xs) back (suc k) d lt = get_or-append_left xs back k d (omega arith)

@@ -15,7 +15,7 @@ use Rattle.pin_core.specs.declared.sizes.Sizes.{Sizes}
 use Rattle.pin_core.specs.declared.holder.Holder.{Holder}
 use Rattle.pin_core.specs.declared.state.Hold.{Hold}
 use Rattle.pin_core.specs.Answers.{is_at, is_key, credits_of}
-use Rattle.pin_core.proofs.Found.{IsThere, is_none, find-map-some, find-map-none}
+use Rattle.pin_core.proofs.Found.{IsThere, is_first, is_none, find-map-some, find-map-none}
 use Rattle.pin_core.proofs.Places.{place-within}
 use Rattle.pin_core.proofs.AccountSums.{fewer, fewer-same}
 use Rattle.pin_core.proofs.Weights.{at-on, sole-on}
@@ -52,6 +52,10 @@ module _ (z : Sizes) (holds : List Hold) (words : List ℕ) (credits : List Hold
 
   pub none_found_key : (p : Holder) (b : ℕ) (pinned : Bool) → None ≡ position (is_raw_key p b pinned) holds → find (is_key p (record { buffer = b; pinned = pinned })) old.holds ≡ None
   none_found_key p b pinned none = find-map-none (is_key p (record { buffer = b; pinned = pinned })) (owned_in z words) holds (is_none (is_raw_key p b pinned) holds none)
+
+  -- some hold was found
+  pub some_found : (p : Holder) (b k : ℕ) → Some k ≡ position (is_raw_at p b) holds → (o : Owned Holder) × (find (is_at p b) old.holds ≡ Some o)
+  some_found p b k found = let f = is_first (is_raw_at p b) holds k found in (owned_in z words f.item, find-map-some (is_at p b) (owned_in z words) f.item holds f.found)
 
   -- the hold that was found, of this holder and this buffer
   module _ (p : Holder) (b : ℕ) (k : ℕ) (h : Hold) (near : b < buffers z) (there : IsThere (is_raw_at p b) holds k h) where

@@ -64,6 +64,9 @@ impl Credits {
         ensures ok { OnOk result (SameItems self.new (replicate credits holder ++ self.old)) }
         ensures err { OnErr result (self.new ≡ self.old) }
     {
+        if credits == 0 {
+            return Ok(());
+        }
         match find_account(&self.accounts, holder) {
             Some(k) => {
                 self.accounts[k].credits += credits;

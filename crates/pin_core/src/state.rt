@@ -260,7 +260,7 @@ impl PinState {
             return Err(Refused::NotHeld);
         };
         let last = self.holders_of(buffer) == 1;
-        if pinned && self.credits.add(holder, 1).is_err() {
+        if self.credits.add(holder, u64::from(pinned)).is_err() {
             return Err(Refused::Memory);
         }
         let _ = self.holds.remove(k);
