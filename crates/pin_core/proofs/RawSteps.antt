@@ -57,6 +57,12 @@ module _ (z : Sizes) (holds : List Hold) (words : List ℕ) (credits : List Hold
   pub some_found : (p : Holder) (b k : ℕ) → Some k ≡ position (is_raw_at p b) holds → (o : Owned Holder) × (find (is_at p b) old.holds ≡ Some o)
   some_found p b k found = let f = is_first (is_raw_at p b) holds k found in (owned_in z words f.item, find-map-some (is_at p b) (owned_in z words) f.item holds f.found)
 
+  pub some_key_found : (p : Holder) (b : ℕ) (pinned : Bool) (k : ℕ) → Some k ≡ position (is_raw_key p b pinned) holds → (o : Owned Holder) × (find (is_key p (record { buffer = b; pinned = pinned })) old.holds ≡ Some o)
+  some_key_found p b pinned k found =
+      let f = is_first (is_raw_key p b pinned) holds k found in
+      let key : Key = record { buffer = b; pinned = pinned } in
+      (owned_in z words f.item, find-map-some (is_key p key) (owned_in z words) f.item holds f.found)
+
   -- the hold that was found, of this holder and this buffer
   module _ (p : Holder) (b : ℕ) (k : ℕ) (h : Hold) (near : b < buffers z) (there : IsThere (is_raw_at p b) holds k h) where
     raw : IsRaw p b h

@@ -41,7 +41,3 @@ returns-after-push-clause-ok c =
       | in-Ok w ↦ subst P (sym w.result-is) (rw (w.in-Ok.ensures.items, ← c.self.view_is) (credits-added c.args.holder c.args.credits c.self.inside.accounts.items))
       | in-Err w ↦ subst P (sym w.result-is) tt
     ]
-
--- no credits to add
-nothing : (n : ℕ) (p : Holder) (credits : List Holder) → n ≡ 0 → SameItems credits (replicate n p ++ credits)
-nothing n p credits e weight = ap (λ (k : ℕ). total weight (replicate k p ++ credits)) (sym e)

@@ -43,7 +43,7 @@ returns-then-of-eq0 c =
     let some = some_found i.sizes i.holds.items i.words.items i.credits kept c.args.from c.args.buffer c.in-Some.k found in
     let event = Pin c.args.buffer c.args.from c.args.to in
     let From : SizedPins → Type 0 = λ t. IsAnswer t event (Err NoCredit) t in
-    subst From c.self.view_is (refuses s event kept.sound NoCredit (held_first-some (find (is_at c.args.from c.args.buffer) s.pins.holds) _ _ some.1 ∙ unless-failed _ _ _ (le-ltb 0 _ (omega (arith, c.of.ensures, c.if-of-eq0.true)))))
+    subst From c.self.view_is (refuses s event kept.sound NoCredit (held_first-some (find (is_at c.args.from c.args.buffer) s.pins.holds) _ _ some.1 ∙ unless-failed _ _ _ (le-ltb 0 (credits_of c.args.to i.credits) (omega (arith, c.of.ensures, c.if-of-eq0.true)))))
 
 pub returns-then-is_err : goal.returns-then-is_err
 returns-then-is_err c =
