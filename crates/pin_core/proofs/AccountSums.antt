@@ -205,3 +205,8 @@ pub fewer-same : (n : ℕ) (p : Holder) (credits : List Holder) → n ≤ credit
 fewer-same zero p credits enough = λ weight. refl
 fewer-same (suc n) p [] enough = absurd (omega arith)
 fewer-same (suc n) p (q ∷ rest) enough = fewer_cons n p q rest (same_holder q p) refl (fewer-same n p rest) (fewer-same (suc n) p rest) enough
+
+-- the credit that a pinned hold gives back
+pub paid_back : (t : Bool) (n : ℕ) (p : Holder) (credits after : List Holder) → n ≡ cond t 1 0 → SameItems after (replicate n p ++ credits) → SameItems after (cond t (p ∷ credits) credits)
+paid_back true n p credits after e same weight = same weight ∙ ap (λ (k : ℕ). total weight (replicate k p ++ credits)) e
+paid_back false n p credits after e same weight = same weight ∙ ap (λ (k : ℕ). total weight (replicate k p ++ credits)) e

@@ -163,3 +163,21 @@ pub get_or-append_left : {A : Type 0} (front back : List A) (k : ℕ) (d : A) �
 get_or-append_left [] back k d lt = absurd (omega arith)
 get_or-append_left (x ∷ xs) back zero d lt = refl
 get_or-append_left (x ∷ xs) back (suc k) d lt = get_or-append_left xs back k d (omega arith)
+
+-- the item that a look-up finds, among the others
+pub record IsOne {A : Type 0} (test : A → Bool) (items : List A) (item : A) : Type 0 where
+  pub rest : List A
+  pub passes : test item ≡ true
+  pub whole : (weight : A → ℕ) → total weight items ≡ weight item + total weight rest
+
+module _ {A : Type 0} (test : A → Bool) where
+  some_item : (a b : A) → Some a ≡ Some b → a ≡ b
+  some_item a b e = cc
+
+  one_cons : (x y : A) (xs : List A) (t : Bool) → test x ≡ t → (find test xs ≡ Some y → IsOne test xs y) → cond t (Some x) (find test xs) ≡ Some y → IsOne test (x ∷ xs) y
+  one_cons x y xs true e rest found = let same = some_item x y found in record { rest = xs; passes = ap test (sym same) ∙ e; whole = λ weight. omega (arith, ap weight same) }
+  one_cons x y xs false e rest found = let one = rest found in record { rest = x ∷ one.rest; passes = one.passes; whole = λ weight. omega (arith, one.whole weight) }
+
+  pub one_of_find : (items : List A) (y : A) → find test items ≡ Some y → IsOne test items y
+  one_of_find [] y found = absurd (cc)
+  one_of_find (x ∷ xs) y found = one_cons x y xs (test x) refl (one_of_find xs y) found

@@ -7,3 +7,4 @@ pub mod AccountSums
 pub mod RawHolds
 pub mod Answering
 pub mod RawSteps
+pub mod Exact

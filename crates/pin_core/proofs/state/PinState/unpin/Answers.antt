@@ -22,6 +22,12 @@ use Rattle.pin_core.proofs.Found.{is_there}
 use Rattle.pin_core.proofs.RawSteps.{step_kept, none_found, none_found_key, one_found, front_length, front_word, in_words, in_room, load_step, put_step, put_short, pin_step, pin_short, key_found, unpin_step, unpin_short, move_step, move_short, give_step}
 use Rattle.pin_core.proofs.state.PinState.unpin.Goals as goal
 use Rattle.pin_core.proofs.RawSteps.{some_key_found}
+use Rattle.pin_core.proofs.AccountSums.{paid_back}
+use mir.Val.{bool_byte}
+
+as_number : (t : Bool) → bool_byte t ≡ cond t 1 0
+as_number true = refl
+as_number false = refl
 
 pub returns-in_default : goal.returns-in_default
 returns-in_default c =
@@ -57,7 +63,7 @@ invariant_of-self-2 c =
     let there_item = c.remove.result in
     let there = is_there (is_raw_key c.args.holder c.args.buffer c.args.pinned) i.holds.items c.in-Some.k there_item found c.remove.ensures.value in
     let near = subst (λ (t : SizedPins). c.args.buffer < buffers t.sizes) (sym c.self.view_is) c.requires in
-    let pays : SameItems c.add.new.self (cond c.args.pinned (c.args.holder ∷ i.credits) i.credits) = ? in
+    let pays : SameItems c.add.new.self (cond c.args.pinned (c.args.holder ∷ i.credits) i.credits) = paid_back c.args.pinned c.from.result c.args.holder i.credits c.add.new.self (c.from.ensures ∙ as_number c.args.pinned) (on_ok c.add.result c.if-is_err.ensures.value c.add.ensures.ok) in
     let step = unpin_step i.sizes i.holds.items i.words.items i.credits kept c.args.holder c.args.buffer c.args.pinned c.in-Some.k there_item there c.add.new.self pays in
     let After : List Hold → Type 0 = λ holds. IsKept i.sizes holds i.words.items c.add.new.self in
     subst After (sym c.remove.ensures.items) (step_kept i.sizes i.holds.items i.words.items i.credits kept _ i.words.items c.add.new.self (unpin (record { buffer = c.args.buffer; pinned = c.args.pinned }) c.args.holder) near step (unpin_short i.sizes i.holds.items i.words.items i.credits kept c.args.holder c.args.buffer c.args.pinned c.in-Some.k there_item there))
@@ -72,7 +78,7 @@ returns c =
     let there_item = c.remove.result in
     let there = is_there (is_raw_key c.args.holder c.args.buffer c.args.pinned) i.holds.items c.in-Some.k there_item found c.remove.ensures.value in
     let near = subst (λ (t : SizedPins). c.args.buffer < buffers t.sizes) (sym c.self.view_is) c.requires in
-    let pays : SameItems c.add.new.self (cond c.args.pinned (c.args.holder ∷ i.credits) i.credits) = ? in
+    let pays : SameItems c.add.new.self (cond c.args.pinned (c.args.holder ∷ i.credits) i.credits) = paid_back c.args.pinned c.from.result c.args.holder i.credits c.add.new.self (c.from.ensures ∙ as_number c.args.pinned) (on_ok c.add.result c.if-is_err.ensures.value c.add.ensures.ok) in
     let event = Unpin c.args.buffer c.args.holder c.args.pinned in
     let passes = held_first-some (find (is_key c.args.holder key) s.pins.holds) (λ _. None) _ (key_found i.sizes i.holds.items i.words.items i.credits kept c.args.holder c.args.buffer c.args.pinned c.in-Some.k there_item there) in
     let step = unpin_step i.sizes i.holds.items i.words.items i.credits kept c.args.holder c.args.buffer c.args.pinned c.in-Some.k there_item there c.add.new.self pays in
