@@ -1,6 +1,6 @@
 -- The three kinds of answers: a step was made, a test refused it, or memory was wanting.
-use Rattle.std.proofs.Common.{◌≡◌, ◌≢◌, ℕ, List, ◌<◌, ◌≤◌, Bool, true, false, cond, ◌&&◌, eqb, ltb, leb, sym, refl, ap, subst, ◌∙◌, eq-eqb, ne_eqb}
-use Rattle.std.specs.Prelude.{Option, None, Some, Result, Ok, Err, MatchOption, IsOkUnless, OnOk, OnErr, is_ok, is_err, if◌then◌else◌, find}
+use Rattle.std.proofs.Common.{◌≡◌, List, Bool, true, false, sym, refl, ap, subst}
+use Rattle.std.specs.Prelude.{Option, None, Some, Result, Ok, Err, MatchOption, IsOkUnless, OnOk, OnErr, is_ok, is_err, if◌then◌else◌}
 use Rattle.pin_core.specs.Holding.{Holding}
 use Rattle.pin_core.specs.Pins.{Owned, Pins}
 use Rattle.pin_core.specs.PinStep.{IsNear, PinStep}
@@ -20,7 +20,7 @@ Refuses result first = MatchOption first (IsOkUnless result Memory) (λ r. resul
 module _ (old : SizedPins) (event : PinEvent) (sound : IsSound old.sizes old.pins) where
   -- the new state has the same sizes
   pub done : (new : Pins Holder) (change : Change) → IsNear old.sizes (event_of event) → refusal_of old.sizes old.pins event ≡ None → PinStep old.sizes old.pins (event_of event) new → change ≡ change_of old.pins event
-    → IsAnswer old event (Ok change) (record { sizes = old.sizes; pins = new })
+      → IsAnswer old event (Ok change) (record { sizes = old.sizes; pins = new })
   done new change near passes step tells = record {
     refused = subst (Refuses (Ok change)) (sym passes) tt;
     stepped = step;

@@ -1,14 +1,14 @@
 -- An event that a test refuses has no step.
-use Rattle.std.proofs.Common.{◌≡◌, ◌≢◌, ℕ, zero, suc, ◌+◌, ◌<◌, ◌≤◌, List, [], ◌∷◌, ◌++◌, Bool, true, false, not, cond, ◌&&◌, eqb, ltb, leb, length, map, replicate, sym, refl, ap, subst, ◌∙◌, eq-eqb, arith}
+use Rattle.std.proofs.Common.{◌≡◌, ◌≢◌, ℕ, ◌<◌, ◌≤◌, List, Bool, true, false, not, cond, ◌&&◌, eqb, ltb, leb, length, replicate, sym, refl, ap, subst, ◌∙◌, eq-eqb, arith}
 use Rattle.std.specs.Prelude.{Option, None, Some, Result, Ok, Err, MatchOption, IsOkUnless, IfErr, find}
-use Rattle.std.proofs.lemmas.Bool.{and_from, and_parts, eqb-true, lt-ltb, le-leb, le-ltb}
-use Rattle.view_sums.specs.Total.{total, SameItems, Adds}
-use Rattle.view_sums.proofs.Sums.{total-append, total-le, total-all_zero}
+use Rattle.std.proofs.lemmas.Bool.{and_from, and_parts, eqb-true, lt-ltb, le-leb}
+use Rattle.view_sums.specs.Total.{Adds}
+use Rattle.view_sums.proofs.Sums.{total-append, total-le}
 use Rattle.view_sums.proofs.Items.{total-replicate_one}
 use Rattle.pin_core.specs.Buffers.{room}
 use Rattle.pin_core.specs.Holding.{Holding, Key, IsMeant, at, sole_at}
 use Rattle.pin_core.specs.Pins.{Owned, Pins, own, count_at}
-use Rattle.pin_core.specs.PinStep.{Event, claim, put, load, pin, unpin, move, give, PinStep, HasStep, IsClaim, IsPut, IsLoad, IsPin, IsUnpin, IsMove, IsGive}
+use Rattle.pin_core.specs.PinStep.{HasStep, IsClaim, IsPut, IsLoad, IsPin, IsUnpin, IsMove, IsGive}
 use Rattle.pin_core.specs.Sound.{IsSound, misfit}
 use Rattle.pin_core.specs.Answers.{same_holder, event_of, is_at, is_key, credits_of, unless, held_first, refusal_of}
 use Rattle.pin_core.specs.declared.sizes.Sizes.{Sizes}
@@ -16,11 +16,11 @@ use Rattle.pin_core.specs.declared.holder.Holder.{Holder}
 use Rattle.pin_core.specs.declared.event.PinEvent.{PinEvent}
 use Rattle.pin_core.specs.declared.event.PinEvent.TheVariants as event
 use Rattle.pin_core.specs.declared.refused.Refused.{Refused}
-use Rattle.pin_core.specs.declared.refused.Refused.TheVariants.{NotFree, NotHeld, NotOwned, NoCredit, OutOfFront, Memory}
+use Rattle.pin_core.specs.declared.refused.Refused.TheVariants.{NotFree, NotOwned, NoCredit, OutOfFront, Memory}
 use Rattle.pin_core.specs.declared.event.Change.{Change}
 use Rattle.pin_core.specs.State.{SizedPins, IsAnswer}
 use Rattle.pin_core.proofs.Found.{IsOne, one_of_find, count_none}
-use Rattle.pin_core.proofs.Weights.{at-on, sole-at, sole-on, Fits, fits, sole-true}
+use Rattle.pin_core.proofs.Weights.{at-on, sole-at, sole-on, fits, sole-true}
 use Rattle.pin_core.proofs.AccountSums.{one_of, one_of-true, same_holder-refl}
 
 -- where all tests pass there is no refusal
@@ -107,7 +107,7 @@ module _ (z : Sizes) (s : Pins Holder) (sound : IsSound z s) (r : Refused) where
   no_give : (p taker : Holder) (n : ℕ) (new : Pins Holder) → refusal_of z s (event.Give p taker n) ≡ Some r → IsGive p taker n s new → ⊥
   no_give p taker n new refused step =
       let enough : n ≤ credits_of p s.credits =
-        omega (arith, step.had (one_of p), total-append (one_of p) (replicate n p) step.rest, total-replicate_one (one_of p) n p (one_of-true p p (same_holder-refl p)))
+      omega (arith, step.had (one_of p), total-append (one_of p) (replicate n p) step.rest, total-replicate_one (one_of p) n p (one_of-true p p (same_holder-refl p)))
       in
       passes_not (leb n (credits_of p s.credits)) NoCredit r None (le-leb n (credits_of p s.credits) enough) none_some refused
 

@@ -1,6 +1,6 @@
 -- The first item that passes a test: where it stands, and what the list is when it changes or goes.
 use Rattle.std.proofs.Common.{◌≡◌, ℕ, zero, suc, ◌+◌, ◌<◌, List, [], ◌∷◌, ◌++◌, Bool, true, false, cond, length, map, get_or, set, sym, refl, ap, ◌∙◌, subst, arith}
-use Rattle.std.specs.Prelude.{Option, None, Some, find, position, remove}
+use Rattle.std.specs.Prelude.{None, Some, find, position, remove}
 use Rattle.std.specs.Option.{option_map}
 use Rattle.std.specs.List.{position_from}
 use Rattle.std.proofs.lemmas.Iterator.Adapters.{position_from-zero}
@@ -117,12 +117,12 @@ module _ {A : Type 0} (test : A → Bool) (items : List A) (k : ℕ) (item : A) 
   there_from f e =
       let rest : List A = f.before ++ f.behind in
       let sum : (weight : A → ℕ) → total weight items ≡ weight item + total weight rest =
-        λ weight. omega (arith, ap (total weight) f.whole, total-append weight f.before (f.item ∷ f.behind), total-append weight f.before f.behind, ap weight e)
+      λ weight. omega (arith, ap (total weight) f.whole, total-append weight f.before (f.item ∷ f.behind), total-append weight f.before f.behind, ap weight e)
       in
       let in_rest : (P : A → Type 0) → Each P items → P f.item × Each P rest =
-        λ P each. let whole = subst (Each P) f.whole each in
-          let back = each-back P f.before (f.item ∷ f.behind) whole in
-          (back.0, each-append P f.before f.behind (each-front P f.before (f.item ∷ f.behind) whole) back.1)
+      λ P each. let whole = subst (Each P) f.whole each in
+      let back = each-back P f.before (f.item ∷ f.behind) whole in
+      (back.0, each-append P f.before f.behind (each-front P f.before (f.item ∷ f.behind) whole) back.1)
       in
       record {
         rest = rest;

@@ -1,25 +1,23 @@
 -- What is shown of the holds that the program keeps, as they come, change and go.
-use Rattle.std.proofs.Common.{◌≡◌, ℕ, zero, suc, ◌+◌, ◌-◌, ◌<◌, ◌≤◌, ◌≢◌, List, [], ◌∷◌, ◌++◌, Bool, true, false, not, cond, ◌&&◌, eqb, length, map, take, drop, set, get_or, sym, refl, ap, ◌∙◌, subst, lt_of_not-le, eq-eqb, arith}
+use Rattle.std.proofs.Common.{◌≡◌, ℕ, ◌+◌, ◌-◌, ◌<◌, ◌≤◌, ◌≢◌, List, [], ◌∷◌, ◌++◌, Bool, true, false, not, cond, eqb, length, map, take, drop, set, sym, refl, ap, ◌∙◌, lt_of_not-le, eq-eqb, arith}
 use mathlib.Core.Logic.{dite}
 use native.Mathlib.Decide.{dec_le}
-use Rattle.std.specs.Prelude.{Some, None, find, fold, count_by, slice_index}
+use Rattle.std.specs.Prelude.{fold, count_by, slice_index}
 use Rattle.std.proofs.lemmas.Bool.{eqb-true, and_parts}
-use Rattle.std.proofs.lemmas.List.{length-take-le, length-drop, length-set, take-take, take_more_set, take-set-le, drop-set-lt, drop-set-add, get_or-take, get_or-drop}
-use Rattle.view_sums.specs.Total.{total, Each, SameItems, Adds}
-use Rattle.view_sums.proofs.Sums.{total-append, total-map, total-cong}
-use Rattle.view_sums.proofs.Eachs.{each-imp}
-use Rattle.pin_core.specs.Buffers.{buffers, room, start, word_count, IsWithin}
-use Rattle.pin_core.specs.Holding.{Holding, Key, IsMeant, at, loose_at, pin_of}
-use Rattle.pin_core.specs.Pins.{Owned, Pins, own, weigh, count_at}
-use Rattle.pin_core.specs.Sound.{IsSound, AreSound, misfit}
+use Rattle.std.proofs.lemmas.List.{length-take-le, length-drop, take-take, take_more_set, take-set-le, drop-set-lt, drop-set-add, get_or-take, get_or-drop}
+use Rattle.view_sums.specs.Total.{total, Each}
+use Rattle.view_sums.proofs.Sums.{total-map}
+use Rattle.pin_core.specs.Buffers.{buffers, room, start, word_count}
+use Rattle.pin_core.specs.Holding.{at, loose_at, pin_of}
+use Rattle.pin_core.specs.Pins.{Owned, Pins, own, count_at}
+use Rattle.pin_core.specs.Sound.{IsSound}
 use Rattle.pin_core.specs.Answers.{same_holder}
 use Rattle.pin_core.specs.Raw.{front_in, owned_in, is_raw_at, is_raw_key}
-use Rattle.pin_core.specs.State.{pins_in, IsKept}
 use Rattle.pin_core.specs.declared.sizes.Sizes.{Sizes}
 use Rattle.pin_core.specs.declared.holder.Holder.{Holder}
 use Rattle.pin_core.specs.declared.state.Hold.{Hold}
-use Rattle.pin_core.proofs.Places.{place-within, place-apart, room-within}
-use Rattle.pin_core.proofs.Weights.{list_weighing, at-le, at-on, Fits, fits}
+use Rattle.pin_core.proofs.Places.{place-apart, room-within}
+use Rattle.pin_core.proofs.Weights.{list_weighing, at-le}
 use Rattle.pin_core.proofs.AccountSums.{same_holder-true}
 
 -- a left fold of counts is the sum
@@ -80,14 +78,14 @@ module _ (z : Sizes) (words : List ℕ) (sized : length words ≡ word_count z) 
 pub front-else : (z : Sizes) (words : List ℕ) (b c i x n : ℕ) → c ≢ b → i < room z b → n ≤ room z c → front_in z (set words (start z b + i) x) c n ≡ front_in z words c n
 front-else z words b c i x n ne within short = dite (dec_le (start z c) (start z b + i))
     (λ le. let q : ℕ = start z b + i - start z c in
-      let q_is : start z c + q ≡ start z b + i = omega (arith, le) in
-      let behind : n ≤ q = dite (dec_le n q) (λ y. y) (λ m. absurd (place-apart z b c i q ne within (omega (arith, lt_of_not-le m, short)) q_is)) in
-      ap (λ (k : ℕ). take n (drop (start z c) (set words k x))) (sym q_is) ∙ ap (take n) (drop-set-add (start z c) words q x) ∙ take-set-le n (drop (start z c) words) q x behind)
+    let q_is : start z c + q ≡ start z b + i = omega (arith, le) in
+    let behind : n ≤ q = dite (dec_le n q) (λ y. y) (λ m. absurd (place-apart z b c i q ne within (omega (arith, lt_of_not-le m, short)) q_is)) in
+    ap (λ (k : ℕ). take n (drop (start z c) (set words k x))) (sym q_is) ∙ ap (take n) (drop-set-add (start z c) words q x) ∙ take-set-le n (drop (start z c) words) q x behind)
     (λ m. ap (take n) (drop-set-lt (start z c) words (start z b + i) x (lt_of_not-le m)))
 
 -- holds of other buffers show the same after a put
 pub others_stay : (z : Sizes) (words : List ℕ) (b i x : ℕ) (weight : Owned Holder → ℕ) (rest : List Hold) → i < room z b → total (λ (h : Hold). cond (eqb h.buffer b) 1 0) rest ≡ 0 → Each (λ (h : Hold). h.length ≤ room z h.buffer) rest
-  → total (λ h. weight (owned_in z (set words (start z b + i) x) h)) rest ≡ total (λ h. weight (owned_in z words h)) rest
+    → total (λ h. weight (owned_in z (set words (start z b + i) x) h)) rest ≡ total (λ h. weight (owned_in z words h)) rest
 others_stay z words b i x weight [] within alone short = refl
 others_stay z words b i x weight (h ∷ rest) within alone short =
     let ne : h.buffer ≢ b = λ e. let one = ap {B = ℕ} (λ t. cond t 1 0) (eq-eqb h.buffer b e) in omega (arith, alone, one) in

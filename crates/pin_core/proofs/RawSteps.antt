@@ -1,13 +1,13 @@
 -- What the program does to its lists at each event is that event's step.
-use Rattle.std.proofs.Common.{◌≡◌, ◌≢◌, ℕ, zero, suc, ◌+◌, ◌-◌, ◌<◌, ◌≤◌, List, [], ◌∷◌, ◌++◌, Bool, true, false, not, cond, ◌&&◌, eqb, length, map, replicate, take, set, sym, refl, ap, subst, ◌∙◌, arith}
+use Rattle.std.proofs.Common.{◌≡◌, ℕ, ◌+◌, ◌<◌, ◌≤◌, List, [], ◌∷◌, ◌++◌, Bool, true, false, cond, eqb, length, map, replicate, take, set, sym, refl, ap, subst, ◌∙◌, arith}
 use Rattle.std.specs.Prelude.{None, Some, find, position, remove, slice_index}
 use Rattle.std.proofs.lemmas.List.{set-append_left}
 use Rattle.view_sums.specs.Total.{total, Each, SameItems, Adds}
 use Rattle.view_sums.proofs.Sums.{total-append, total-map}
 use Rattle.view_sums.proofs.Eachs.{each-append}
 use Rattle.pin_core.specs.Buffers.{buffers, room, start}
-use Rattle.pin_core.specs.Holding.{Holding, Key, IsMeant, at, sole_at, fresh, shared, pinned_copy, written}
-use Rattle.pin_core.specs.Pins.{Owned, Pins, own, weigh, count_at}
+use Rattle.pin_core.specs.Holding.{Key, IsMeant, at, sole_at, shared}
+use Rattle.pin_core.specs.Pins.{Owned, Pins, own, count_at}
 use Rattle.pin_core.specs.PinStep.{Event, IsNear, PinStep, IsClaim, IsPut, IsLoad, IsPin, IsUnpin, IsMove, IsGive}
 use Rattle.pin_core.specs.Raw.{front_in, owned_in, is_raw_at, is_raw_key}
 use Rattle.pin_core.specs.State.{pins_in, IsKept}
@@ -31,7 +31,7 @@ module _ (z : Sizes) (holds : List Hold) (words : List ℕ) (credits : List Hold
   step_kept holds' words' credits' e near step short = record { within = kept.within; sound = step_sound z old (pins_in z holds' words' credits') e near step kept.sound; short = short }
 
   pub claim_step : (b : ℕ) (p : Holder) → count_at b old.holds ≡ 0
-    → IsClaim b p old (pins_in z (holds ++ record { holder = p; buffer = b; length = 0; exclusive = true; pinned = false } ∷ []) words credits)
+      → IsClaim b p old (pins_in z (holds ++ record { holder = p; buffer = b; length = 0; exclusive = true; pinned = false } ∷ []) words credits)
   claim_step b p free =
       let h : Hold = record { holder = p; buffer = b; length = 0; exclusive = true; pinned = false } in
       record {
@@ -150,17 +150,17 @@ module _ (z : Sizes) (holds : List Hold) (words : List ℕ) (credits : List Hold
       in_front = omega (arith, le, front_length);
       in_buffer = within;
       put = λ weight.
-        let after : Hold → Owned Holder = owned_in z (put_words i x) in
-        let shown : List ℕ → Owned Holder = λ front. own p (record { buffer = h.buffer; front = front; exclusive = h.exclusive; pinned = h.pinned }) in
-        omega (
-          arith,
-          total-map weight after (set holds k (put_hold i)),
-          total-map weight view there.rest,
-          there.changed (put_hold i) (λ (g : Hold). weight (after g)),
-          others_stay z words b i x weight there.rest within (alone exclusive) (there.each (λ (g : Hold). g.length ≤ room z g.buffer) kept.short).1,
-          ap (λ (q : Holder). weight (own q (after (put_hold i)).hold)) raw.holder_is,
-          ap (λ front. weight (shown front)) (put_front i x le within),
-        );
+          let after : Hold → Owned Holder = owned_in z (put_words i x) in
+          let shown : List ℕ → Owned Holder = λ front. own p (record { buffer = h.buffer; front = front; exclusive = h.exclusive; pinned = h.pinned }) in
+          omega (
+            arith,
+            total-map weight after (set holds k (put_hold i)),
+            total-map weight view there.rest,
+            there.changed (put_hold i) (λ (g : Hold). weight (after g)),
+            others_stay z words b i x weight there.rest within (alone exclusive) (there.each (λ (g : Hold). g.length ≤ room z g.buffer) kept.short).1,
+            ap (λ (q : Holder). weight (own q (after (put_hold i)).hold)) raw.holder_is,
+            ap (λ front. weight (shown front)) (put_front i x le within),
+          );
       words = refl;
       credits = λ weight. refl;
     }
@@ -184,15 +184,15 @@ module _ (z : Sizes) (holds : List Hold) (words : List ℕ) (credits : List Hold
       of_buffer = raw.buffer_is;
       held = held;
       pinned = λ weight.
-        omega (
-          arith,
-          total-map weight view (pinned_holds taker),
-          ap (total (λ (g : Hold). weight (view g))) (set-append_left holds (copy_for taker ∷ []) k shared_hold there.near),
-          total-append (λ (g : Hold). weight (view g)) (set holds k shared_hold) (copy_for taker ∷ []),
-          there.changed shared_hold (λ (g : Hold). weight (view g)),
-          total-map weight view there.rest,
-          ap (λ (q : Holder). weight (own q (shared (view h).hold))) raw.holder_is,
-        );
+          omega (
+            arith,
+            total-map weight view (pinned_holds taker),
+            ap (total (λ (g : Hold). weight (view g))) (set-append_left holds (copy_for taker ∷ []) k shared_hold there.near),
+            total-append (λ (g : Hold). weight (view g)) (set holds k shared_hold) (copy_for taker ∷ []),
+            there.changed shared_hold (λ (g : Hold). weight (view g)),
+            total-map weight view there.rest,
+            ap (λ (q : Holder). weight (own q (shared (view h).hold))) raw.holder_is,
+          );
       words = refl;
       credits = pays;
     }

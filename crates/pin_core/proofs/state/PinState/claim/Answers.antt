@@ -1,18 +1,17 @@
-use Rattle.std.proofs.Common.{◌≡◌, ◌≢◌, ◌<◌, ℕ, List, [], ◌∷◌, ◌++◌, true, false, eqb, sym, refl, ap, subst, ◌∙◌, eq-eqb, ne_eqb, arith}
-use Rattle.std.specs.Prelude.{Some, None, Result, Ok, Err}
+use Rattle.std.proofs.Common.{◌≡◌, ◌<◌, List, [], ◌∷◌, ◌++◌, true, false, eqb, sym, refl, ap, subst, ◌∙◌, eq-eqb, arith}
+use Rattle.std.specs.Prelude.{None, Result, Ok, Err}
 use Rattle.view_sums.proofs.Eachs.{each-append}
-use Rattle.pin_core.specs.Buffers.{buffers, room}
-use Rattle.pin_core.specs.Pins.{Pins, count_at}
+use Rattle.pin_core.specs.Buffers.{buffers}
+use Rattle.pin_core.specs.Pins.{count_at}
 use Rattle.pin_core.specs.PinStep.{claim}
 use Rattle.pin_core.specs.State.{SizedPins, shown, pins_in, IsKept, IsAnswer}
-use Rattle.pin_core.specs.Answers.{refusal_of}
 use Rattle.pin_core.specs.declared.state.Hold.{Hold}
 use Rattle.pin_core.specs.declared.event.Change.{Change}
 use Rattle.pin_core.specs.declared.event.Change.TheVariants.{Claimed}
 use Rattle.pin_core.specs.declared.event.PinEvent.TheVariants.{Claim}
 use Rattle.pin_core.specs.declared.refused.Refused.{Refused}
 use Rattle.pin_core.specs.declared.refused.Refused.TheVariants.{NotFree, Memory}
-use Rattle.pin_core.proofs.Answering.{done, refuses, no_memory, unless-passed, unless-failed}
+use Rattle.pin_core.proofs.Answering.{done, no_memory, unless-passed}
 use Rattle.pin_core.proofs.RawSteps.{step_kept, claim_step}
 use Rattle.pin_core.proofs.state.PinState.claim.Goals as goal
 use Rattle.pin_core.proofs.state.PinState.claim.Goals.{in-Ok, in-Err}
@@ -45,11 +44,11 @@ returns c =
     let From : SizedPins → Type 0 = λ t. IsAnswer t event c.match-push.result (shown z c.push.new.self.items words i.credits) in
     let Given : Result Change Refused → Type 0 = λ r. IsAnswer s event r (shown z c.push.new.self.items words i.credits) in
     subst From c.self.view_is (
-      elim c.match-push.branch [
-        | in-Ok w ↦ subst Given (sym w.result-is) (
-            let After : List Hold → Type 0 = λ holds. IsAnswer s event (Ok Claimed) (shown z holds words i.credits) in
-            subst After (sym w.in-Ok.ensures.items) (done s event c.self.invariant.sound (pins_in z (i.holds.items ++ new ∷ []) words i.credits) Claimed near passes (claim_step z i.holds.items words i.credits c.self.invariant c.args.buffer c.args.holder free) refl))
-        | in-Err w ↦ subst Given (sym w.result-is) (
-            let After : List Hold → Type 0 = λ holds. IsAnswer s event (Err Memory) (shown z holds words i.credits) in
-            subst After (sym w.in-Err.ensures.items) (no_memory s event c.self.invariant.sound passes))
-      ])
+    elim c.match-push.branch [
+      | in-Ok w ↦ subst Given (sym w.result-is) (
+          let After : List Hold → Type 0 = λ holds. IsAnswer s event (Ok Claimed) (shown z holds words i.credits) in
+          subst After (sym w.in-Ok.ensures.items) (done s event c.self.invariant.sound (pins_in z (i.holds.items ++ new ∷ []) words i.credits) Claimed near passes (claim_step z i.holds.items words i.credits c.self.invariant c.args.buffer c.args.holder free) refl))
+      | in-Err w ↦ subst Given (sym w.result-is) (
+          let After : List Hold → Type 0 = λ holds. IsAnswer s event (Err Memory) (shown z holds words i.credits) in
+          subst After (sym w.in-Err.ensures.items) (no_memory s event c.self.invariant.sound passes))
+    ])

@@ -1,25 +1,14 @@
-use Rattle.std.proofs.Common.{◌≡◌, ◌≢◌, ◌+◌, ◌<◌, ◌≤◌, ℕ, List, [], ◌∷◌, ◌++◌, Bool, true, false, cond, ◌&&◌, eqb, ltb, leb, length, set, get_or, sym, refl, ap, subst, ◌∙◌, eq-eqb, ne_eqb, arith}
-use Rattle.std.specs.Prelude.{Some, None, Option, Result, Ok, Err, position, find, remove, slice_index}
-use Rattle.std.proofs.lemmas.Bool.{lt-ltb, le-ltb, le-leb, lt-leb, and_from, and_left, and_right}
-use Rattle.pin_core.specs.Buffers.{buffers, room, start}
-use Rattle.pin_core.specs.Pins.{Owned, Pins, count_at}
-use Rattle.std.proofs.lemmas.List.{get_or_read}
-use Rattle.view_sums.specs.Total.{SameItems}
-use Rattle.pin_core.specs.Holding.{Key}
-use Rattle.pin_core.specs.PinStep.{claim, put, load, pin, unpin, move, give}
-use Rattle.pin_core.specs.Answers.{is_at, is_key, credits_of, refusal_of, unless, held_first, word_in}
-use Rattle.pin_core.specs.Raw.{is_raw_at, is_raw_key}
-use Rattle.pin_core.specs.State.{SizedPins, shown, pins_in, IsKept, IsAnswer}
-use Rattle.pin_core.specs.declared.holder.Holder.{Holder}
-use Rattle.pin_core.specs.declared.state.Hold.{Hold}
-use Rattle.pin_core.specs.declared.event.Change.{Change}
+use Rattle.std.proofs.Common.{◌≤◌, refl, subst, arith}
+use Rattle.std.specs.Prelude.{None, Ok}
+use Rattle.std.proofs.lemmas.Bool.{le-leb}
+use Rattle.pin_core.specs.PinStep.{give}
+use Rattle.pin_core.specs.Answers.{credits_of}
+use Rattle.pin_core.specs.State.{SizedPins, shown, IsAnswer}
 use Rattle.pin_core.specs.declared.event.Change.TheVariants as change
-use Rattle.pin_core.specs.declared.event.PinEvent.TheVariants.{Put, Load, Pin, Unpin, Move, Give}
-use Rattle.pin_core.specs.declared.refused.Refused.{Refused}
-use Rattle.pin_core.specs.declared.refused.Refused.TheVariants.{NotHeld, NotOwned, NoCredit, OutOfFront, Memory}
-use Rattle.pin_core.proofs.Answering.{done, refuses, no_memory, unless-passed, unless-failed, held_first-none, held_first-some, on_ok, on_err}
-use Rattle.pin_core.proofs.Found.{is_there}
-use Rattle.pin_core.proofs.RawSteps.{step_kept, none_found, none_found_key, one_found, front_length, front_word, in_words, in_room, load_step, put_step, put_short, pin_step, pin_short, key_found, unpin_step, unpin_short, move_step, move_short, give_step}
+use Rattle.pin_core.specs.declared.event.PinEvent.TheVariants.{Give}
+use Rattle.pin_core.specs.declared.refused.Refused.TheVariants.{NoCredit}
+use Rattle.pin_core.proofs.Answering.{done, unless-passed, on_ok}
+use Rattle.pin_core.proofs.RawSteps.{step_kept, give_step}
 use Rattle.pin_core.proofs.state.PinState.give.Goals as goal
 use Rattle.view_sums.proofs.Sums.{total-append}
 use Rattle.std.proofs.Common.{replicate}

@@ -1,4 +1,4 @@
-use Rattle.std.proofs.Common.{◌≡◌, eqb, ap, ◌∙◌, arith}
+use Rattle.std.proofs.Common.{eqb, ap, ◌∙◌, arith}
 use Rattle.std.specs.Prelude.{count_by}
 use Rattle.pin_core.specs.Pins.{count_at}
 use Rattle.pin_core.specs.declared.state.Hold.{Hold}

@@ -1,25 +1,19 @@
-use Rattle.std.proofs.Common.{◌≡◌, ◌≢◌, ◌+◌, ◌<◌, ◌≤◌, ℕ, List, [], ◌∷◌, ◌++◌, Bool, true, false, cond, ◌&&◌, eqb, ltb, leb, length, set, get_or, sym, refl, ap, subst, ◌∙◌, eq-eqb, ne_eqb, arith}
-use Rattle.std.specs.Prelude.{Some, None, Option, Result, Ok, Err, position, find, remove, slice_index}
-use Rattle.std.proofs.lemmas.Bool.{lt-ltb, le-ltb, le-leb, lt-leb, and_from, and_left, and_right}
-use Rattle.pin_core.specs.Buffers.{buffers, room, start}
-use Rattle.pin_core.specs.Pins.{Owned, Pins, count_at}
+use Rattle.std.proofs.Common.{◌≡◌, ◌+◌, ◌<◌, ℕ, length, sym, ap, subst, ◌∙◌, arith}
+use Rattle.std.specs.Prelude.{Some, None, Option, Ok, Err, position, find, slice_index}
+use Rattle.std.proofs.lemmas.Bool.{lt-ltb, le-ltb}
+use Rattle.pin_core.specs.Buffers.{buffers}
+use Rattle.pin_core.specs.Pins.{Owned}
 use Rattle.std.proofs.lemmas.List.{get_or_read}
-use Rattle.view_sums.specs.Total.{SameItems}
-use Rattle.pin_core.specs.Holding.{Key}
-use Rattle.pin_core.specs.PinStep.{claim, put, load, pin, unpin, move, give}
-use Rattle.pin_core.specs.Answers.{is_at, is_key, credits_of, refusal_of, unless, held_first, word_in}
-use Rattle.pin_core.specs.Raw.{is_raw_at, is_raw_key}
-use Rattle.pin_core.specs.State.{SizedPins, shown, pins_in, IsKept, IsAnswer}
+use Rattle.pin_core.specs.Answers.{is_at, refusal_of, word_in}
+use Rattle.pin_core.specs.Raw.{is_raw_at}
+use Rattle.pin_core.specs.State.{SizedPins, shown, IsAnswer}
 use Rattle.pin_core.specs.declared.holder.Holder.{Holder}
-use Rattle.pin_core.specs.declared.state.Hold.{Hold}
-use Rattle.pin_core.specs.declared.event.Change.{Change}
 use Rattle.pin_core.specs.declared.event.Change.TheVariants as change
-use Rattle.pin_core.specs.declared.event.PinEvent.TheVariants.{Put, Load, Pin, Unpin, Move, Give}
-use Rattle.pin_core.specs.declared.refused.Refused.{Refused}
-use Rattle.pin_core.specs.declared.refused.Refused.TheVariants.{NotHeld, NotOwned, NoCredit, OutOfFront, Memory}
-use Rattle.pin_core.proofs.Answering.{done, refuses, no_memory, unless-passed, unless-failed, held_first-none, held_first-some, on_ok, on_err}
+use Rattle.pin_core.specs.declared.event.PinEvent.TheVariants.{Load}
+use Rattle.pin_core.specs.declared.refused.Refused.TheVariants.{NotHeld, OutOfFront}
+use Rattle.pin_core.proofs.Answering.{done, refuses, unless-passed, unless-failed, held_first-none, held_first-some}
 use Rattle.pin_core.proofs.Found.{is_there}
-use Rattle.pin_core.proofs.RawSteps.{step_kept, none_found, none_found_key, one_found, front_length, front_word, in_words, in_room, load_step, put_step, put_short, pin_step, pin_short, key_found, unpin_step, unpin_short, move_step, move_short, give_step}
+use Rattle.pin_core.proofs.RawSteps.{none_found, one_found, front_length, front_word, in_words, in_room, load_step}
 use Rattle.pin_core.proofs.state.PinState.load.Goals as goal
 
 pub returns-in_default : goal.returns-in_default
@@ -67,8 +61,8 @@ returns c =
     let one = one_found i.sizes i.holds.items i.words.items i.credits kept c.args.holder c.args.buffer c.in-Some.k c.index.result.now near there in
     let event = Load c.args.buffer c.args.holder c.args.index in
     let long = front_length i.sizes i.holds.items i.words.items i.credits kept c.args.holder c.args.buffer c.in-Some.k c.index.result.now near there in
-    let passes = held_first-some (find (is_at c.args.holder c.args.buffer) s.pins.holds) _ _ one ∙ unless-passed _ _ _ (lt-ltb c.args.index _ (omega (arith, long, c.if-index-length.false))) in
     let inside : c.start.result + c.args.index < length i.words.items = omega (arith, c.start.ensures, in_words i.sizes i.holds.items i.words.items i.credits kept c.args.holder c.args.buffer c.in-Some.k c.index.result.now near there c.args.index (in_room i.sizes i.holds.items i.words.items i.credits kept c.args.holder c.args.buffer c.in-Some.k c.index.result.now near there c.args.index c.if-index-length.false)) in
     let word : c.index-2.result.now ≡ word_in (find (is_at c.args.holder c.args.buffer) s.pins.holds) c.args.index = get_or_read i.words.items (c.start.result + c.args.index) c.index-2.result.now inside c.index-2.ensures 0 ∙ ap (λ (n : ℕ). slice_index i.words.items (n + c.args.index)) c.start.ensures ∙ sym (front_word i.sizes i.holds.items i.words.items i.credits kept c.args.holder c.args.buffer c.in-Some.k c.index.result.now near there c.args.index c.if-index-length.false) ∙ ap (λ (o : Option (Owned Holder)). word_in o c.args.index) (sym one) in
+    let passes = held_first-some (find (is_at c.args.holder c.args.buffer) s.pins.holds) _ _ one ∙ unless-passed _ _ _ (lt-ltb c.args.index _ (omega (arith, long, c.if-index-length.false))) in
     let From : SizedPins → Type 0 = λ t. IsAnswer t event (Ok (change.Loaded c.index-2.result.now)) t in
     subst From c.self.view_is (done s event kept.sound s.pins (change.Loaded c.index-2.result.now) near passes (load_step i.sizes i.holds.items i.words.items i.credits kept c.args.holder c.args.buffer c.in-Some.k c.index.result.now near there c.args.index c.if-index-length.false) (ap change.Loaded word))

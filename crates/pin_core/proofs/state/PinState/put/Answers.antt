@@ -1,25 +1,18 @@
-use Rattle.std.proofs.Common.{◌≡◌, ◌≢◌, ◌+◌, ◌<◌, ◌≤◌, ℕ, List, [], ◌∷◌, ◌++◌, Bool, true, false, cond, ◌&&◌, eqb, ltb, leb, length, set, get_or, sym, refl, ap, subst, ◌∙◌, eq-eqb, ne_eqb, arith}
-use Rattle.std.specs.Prelude.{Some, None, Option, Result, Ok, Err, position, find, remove, slice_index}
+use Rattle.std.proofs.Common.{◌≡◌, ◌+◌, ◌<◌, ℕ, List, false, ◌&&◌, ltb, leb, length, set, sym, refl, ap, subst, ◌∙◌, arith}
+use Rattle.std.specs.Prelude.{Some, None, Ok, Err, position, find}
 use Rattle.std.proofs.lemmas.Bool.{lt-ltb, le-ltb, le-leb, lt-leb, and_from, and_left, and_right}
-use Rattle.pin_core.specs.Buffers.{buffers, room, start}
-use Rattle.pin_core.specs.Pins.{Owned, Pins, count_at}
-use Rattle.std.proofs.lemmas.List.{get_or_read}
-use Rattle.view_sums.specs.Total.{SameItems}
-use Rattle.pin_core.specs.Holding.{Key}
-use Rattle.pin_core.specs.PinStep.{claim, put, load, pin, unpin, move, give}
-use Rattle.pin_core.specs.Answers.{is_at, is_key, credits_of, refusal_of, unless, held_first, word_in}
-use Rattle.pin_core.specs.Raw.{is_raw_at, is_raw_key}
-use Rattle.pin_core.specs.State.{SizedPins, shown, pins_in, IsKept, IsAnswer}
-use Rattle.pin_core.specs.declared.holder.Holder.{Holder}
+use Rattle.pin_core.specs.Buffers.{buffers, room}
+use Rattle.pin_core.specs.PinStep.{put}
+use Rattle.pin_core.specs.Answers.{is_at, refusal_of}
+use Rattle.pin_core.specs.Raw.{is_raw_at}
+use Rattle.pin_core.specs.State.{SizedPins, shown, IsKept, IsAnswer}
 use Rattle.pin_core.specs.declared.state.Hold.{Hold}
-use Rattle.pin_core.specs.declared.event.Change.{Change}
 use Rattle.pin_core.specs.declared.event.Change.TheVariants as change
-use Rattle.pin_core.specs.declared.event.PinEvent.TheVariants.{Put, Load, Pin, Unpin, Move, Give}
-use Rattle.pin_core.specs.declared.refused.Refused.{Refused}
-use Rattle.pin_core.specs.declared.refused.Refused.TheVariants.{NotHeld, NotOwned, NoCredit, OutOfFront, Memory}
-use Rattle.pin_core.proofs.Answering.{done, refuses, no_memory, unless-passed, unless-failed, held_first-none, held_first-some, on_ok, on_err}
+use Rattle.pin_core.specs.declared.event.PinEvent.TheVariants.{Put}
+use Rattle.pin_core.specs.declared.refused.Refused.TheVariants.{NotHeld, NotOwned, OutOfFront}
+use Rattle.pin_core.proofs.Answering.{done, refuses, unless-passed, unless-failed, held_first-none, held_first-some}
 use Rattle.pin_core.proofs.Found.{is_there}
-use Rattle.pin_core.proofs.RawSteps.{step_kept, none_found, none_found_key, one_found, front_length, front_word, in_words, in_room, load_step, put_step, put_short, pin_step, pin_short, key_found, unpin_step, unpin_short, move_step, move_short, give_step}
+use Rattle.pin_core.proofs.RawSteps.{step_kept, none_found, one_found, front_length, put_step, put_short}
 use Rattle.pin_core.proofs.state.PinState.put.Goals as goal
 use Rattle.pin_core.proofs.state.PinState.put.Goals.{then-index-length-via-then-index-length, then-index-length-via-else-index-length+then-index-room}
 use Rattle.pin_core.specs.Raw.{front_in}
