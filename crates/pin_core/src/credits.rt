@@ -10,9 +10,9 @@ use std::alloc::Global;
 use std::marker::Model;
 
 #[derive(Clone, Copy)]
-pub(crate) struct Account {
-    pub(crate) holder: Holder,
-    pub(crate) credits: u64,
+struct Account {
+    holder: Holder,
+    credits: u64,
 }
 
 /// The credits of all holders, in one account for each. Contracts see a list in which a holder stands once for each of its credits.

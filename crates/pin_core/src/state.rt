@@ -20,12 +20,12 @@ use std::marker::Model;
 
 // A hold, whose front is the first `length` data words of its buffer.
 #[derive(Clone, Copy)]
-pub(crate) struct Hold {
-    pub(crate) holder: Holder,
-    pub(crate) buffer: u32,
-    pub(crate) length: u32,
-    pub(crate) exclusive: bool,
-    pub(crate) pinned: bool,
+struct Hold {
+    holder: Holder,
+    buffer: u32,
+    length: u32,
+    exclusive: bool,
+    pinned: bool,
 }
 
 /// All holds of a pool as a plain list, with the data words of its buffers and the credits of each holder.
