@@ -36,7 +36,7 @@ fn a_source_gives_its_step_and_fails_once(rt: HostRuntime) -> Result<(), Fail> {
     for want in [Ok(2), Err(Failed), Ok(2), Ok(1), Ok(0)] {
         assert_eq!(rt; source.read(&mut room), want);
     }
-    assert_eq!(rt; room, *b"edXX");
+    assert_eq!(rt; room, *b"ed..");
     assert_eq!(rt; source.faults(), 1);
     Ok(())
 }
