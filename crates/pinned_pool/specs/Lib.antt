@@ -9,3 +9,4 @@ pub mod Ends
 pub mod StepKinds
 pub mod InWords
 pub mod Addresses
+pub mod Seats
