@@ -10,3 +10,5 @@ pub mod Names
 pub mod Looks
 pub mod Closing
 pub mod InWords
+pub mod AfterSteps
+pub mod Running

@@ -36,11 +36,10 @@ pub record Passed (b n : ℕ) (old new : View) : Type 0 where
 
 -- some buffers of the class were found held, and then this one was won
 pub record Wins (z : Sizes) (class : Class) (k : Key) (old new : View) : Type 0 where
-  pub passed : ℕ
-  pub between : View
-  pub looked : Passed (first_of z class) passed old between
-  pub within : passed < count_of z class
-  pub key : k ≡ record { buffer = first_of z class + passed; pinned = false }
-  pub seat : new ≡ won k.buffer between
+  pub looks : List (ℕ × ℕ)
+  pub from : LooksFrom (first_of z class) looks
+  pub within : length looks < count_of z class
+  pub key : k ≡ record { buffer = first_of z class + length looks; pinned = false }
+  pub seat : new ≡ won k.buffer (looking looks old)
   -- no other hold of the seat names the buffer
   pub alone : total (at k.buffer) old.holds ≡ 0

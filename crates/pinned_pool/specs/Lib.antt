@@ -10,3 +10,4 @@ pub mod StepKinds
 pub mod InWords
 pub mod Addresses
 pub mod Seats
+pub mod Runs

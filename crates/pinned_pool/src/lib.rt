@@ -14,6 +14,8 @@ mod rule;
 mod seat;
 mod seating;
 mod seats;
+#[cfg(test)]
+mod tests;
 mod unpinned;
 mod view;
 mod words;

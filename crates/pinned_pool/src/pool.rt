@@ -30,7 +30,7 @@ pub struct Pool<N: PoolName> {
 }
 
 /// Each of the `looked` buffers of the class was found held.
-#[derive(Drop, Debug)]
+#[derive(Clone, Copy, PartialEq, Eq, Debug)]
 pub struct NoBuffer {
     pub class: Class,
     pub looked: u32,

@@ -1,6 +1,7 @@
 //! Seats that are split and joined.
 ghost use Rattle.std.specs.Prelude.{◌≡◌, ◌<◌, map};
 ghost use Rattle.pinned_pool.specs.Moves.{HasHolds, key_of, kept, given, joined};
+ghost use Rattle.pinned_pool.specs.Views.{IsLoose, OneFront};
 
 use crate::hold::Hold;
 use crate::name::PoolName;
@@ -37,7 +38,9 @@ impl<N: PoolName> Pool<N> {
 
     /// Takes in all that the other seat has. By a load besides, the seat learns what the rule says of the holds that it has then.
     pub fn join(&self, into: &mut PoolSeat<N>, from: PoolSeat<N>)
-        ensures { into.new ≡ joined into.old from }
+        ensures joined { into.new ≡ joined into.old from }
+        ensures loose { IsLoose into.new }
+        ensures fronts { OneFront into.new }
     {
         let PoolSeat { seat, name: _ } = from;
         self.table.shared.join_seat::<Glue>(&mut into.seat, seat);
