@@ -1,3 +1,12 @@
 pub mod Grammar
+pub mod Streams
+pub mod Decimals
+pub mod Digits
+pub mod Fronts
+pub mod OneKind
+pub mod Faults
+pub mod Vectors
+pub mod OneParse
 pub mod OneSession
 pub mod OneOrder
+pub mod OneThread

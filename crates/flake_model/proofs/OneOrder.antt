@@ -8,6 +8,7 @@ use Rattle.flake_model.specs.Command.{Command, parts}
 use Rattle.flake_model.specs.Journal.{call_steps, session_steps}
 use Rattle.flake_model.specs.OneThread.{entries_of, history_from}
 use Rattle.flake_model.specs.Order.{IsBefore, numbered, HasOneOrder}
+use Rattle.flake_model.proofs.Streams.{all_append}
 use Rattle.flake_model.proofs.OneSession.{entry_at, entries_append}
 
 -- the places of a history, from one on
@@ -28,10 +29,6 @@ among : {A : Type 0} (xs : List A) (x : A) (k : ℕ) → k < length xs → slice
 among [] x k below is = absurd (omega arith)
 among (y ∷ ys) x zero below is = inl is
 among (y ∷ ys) x (suc k) below is = inr (among ys x k (omega arith) is)
-
-all_append : {A : Type 0} (P : A → Type 0) (some more : List A) → AllByRecursion P some → AllByRecursion P more → AllByRecursion P (some ++ more)
-all_append P [] more all rest = rest
-all_append P (x ∷ some) more all rest = (all.0, all_append P some more all.1 rest)
 
 later_parts : (call part earlier : ℕ) (operations : List Operation) → earlier < part → AllByRecursion (λ later. IsBefore (entry_at call earlier) later) (entries_of (call_steps 0 call part operations))
 later_parts call part earlier [] less = tt

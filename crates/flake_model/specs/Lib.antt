@@ -1,4 +1,6 @@
 pub mod Resp
+pub mod Fronts
+pub mod Vectors
 pub mod Store
 pub mod Command
 pub mod Reply

@@ -1,8 +1,7 @@
 -- What accounts of credits add up to, as credits come and go.
-use Rattle.std.proofs.Common.{◌≡◌, ℕ, zero, suc, ◌+◌, ◌-◌, ◌<◌, ◌≤◌, ◌≢◌, List, [], ◌∷◌, ◌++◌, Bool, true, false, cond, ◌&&◌, eqb, length, get_or, set, replicate, sym, refl, ap, ◌∙◌, subst, arith}
-use Rattle.std.proofs.lemmas.Bool.{eqb-true, eq-eqb, and_parts, and_from, cases_Bool}
-use Rattle.std.proofs.Common.{⊎_elim}
-use Rattle.std.specs.Prelude.{Option, None, Some, find, position}
+use Rattle.std.proofs.Common.{◌≡◌, ℕ, zero, suc, ◌+◌, ◌-◌, ◌≤◌, List, [], ◌∷◌, ◌++◌, Bool, true, false, cond, eqb, length, get_or, set, replicate, sym, refl, ap, ◌∙◌, subst, arith}
+use Rattle.std.proofs.lemmas.Bool.{eqb-true, eq-eqb, and_parts, and_from}
+use Rattle.std.specs.Prelude.{None, Some, find, position}
 use Rattle.view_sums.specs.Total.{total, SameItems}
 use Rattle.view_sums.proofs.Sums.{total-append}
 use Rattle.view_sums.proofs.Items.{length-total, total-replicate_one, total-replicate-add}
@@ -11,7 +10,7 @@ use Rattle.pin_core.specs.Accounts.{is_of, credits_in, AreSingle}
 use Rattle.pin_core.specs.declared.holder.Holder.{Holder}
 use Rattle.pin_core.specs.declared.holder.Holder.TheVariants.{Shard, Session, Parcel}
 use Rattle.pin_core.specs.declared.credits.Account.{Account}
-use Rattle.pin_core.proofs.Found.{IsFirst, is_first, is_none, count_none}
+use Rattle.pin_core.proofs.Found.{IsFirst, is_first, count_none}
 
 pub same_holder-true : (p q : Holder) → same_holder p q ≡ true → p ≡ q
 same_holder-true (Shard a) (Shard b) e = ap Shard (eqb-true a b e)
@@ -178,3 +177,35 @@ module _ (p : Holder) (n : ℕ) (accounts : List Account) where
 
   pub single-added : AreSingle accounts → find (is_of p) accounts ≡ None → AreSingle (accounts ++ account ∷ [])
   single-added single none q = omega (arith, total-append (account_of q) accounts (account ∷ []), single_case q (same_holder p q) refl single none)
+
+-- no holder has more credits than there are
+pub credits_of-le : (p : Holder) (credits : List Holder) → credits_of p credits ≤ length credits
+credits_of-le p [] = omega arith
+credits_of-le p (q ∷ rest) = omega (arith, one_bit (same_holder q p), credits_of-le p rest)
+  where
+    one_bit : (t : Bool) → cond t 1 0 ≤ 1
+    one_bit true = omega arith
+    one_bit false = omega arith
+
+-- the credits without n of the holder's
+abbrev pub fewer : ℕ → Holder → List Holder → List Holder
+fewer zero p credits = credits
+fewer (suc n) p [] = []
+fewer (suc n) p (q ∷ rest) = cond (same_holder q p) (fewer n p rest) (q ∷ fewer (suc n) p rest)
+
+fewer_cons : (n : ℕ) (p q : Holder) (rest : List Holder) (t : Bool) → same_holder q p ≡ t → (n ≤ credits_of p rest → SameItems rest (replicate n p ++ fewer n p rest)) → (suc n ≤ credits_of p rest → SameItems rest (replicate (suc n) p ++ fewer (suc n) p rest)) → suc n ≤ cond t 1 0 + credits_of p rest
+    → SameItems (q ∷ rest) (replicate (suc n) p ++ cond t (fewer n p rest) (q ∷ fewer (suc n) p rest))
+fewer_cons n p q rest true e here later enough =
+    λ weight. omega (arith, here (omega (arith, enough)) weight, total-append weight (replicate n p) (fewer n p rest), total-append weight (replicate (suc n) p) (fewer n p rest), ap weight (same_holder-true q p e))
+fewer_cons n p q rest false e here later enough =
+    λ weight. omega (arith, later (omega (arith, enough)) weight, total-append weight (replicate (suc n) p) (fewer (suc n) p rest), total-append weight (replicate (suc n) p) (q ∷ fewer (suc n) p rest))
+
+pub fewer-same : (n : ℕ) (p : Holder) (credits : List Holder) → n ≤ credits_of p credits → SameItems credits (replicate n p ++ fewer n p credits)
+fewer-same zero p credits enough = λ weight. refl
+fewer-same (suc n) p [] enough = absurd (omega arith)
+fewer-same (suc n) p (q ∷ rest) enough = fewer_cons n p q rest (same_holder q p) refl (fewer-same n p rest) (fewer-same (suc n) p rest) enough
+
+-- the credit that a pinned hold gives back
+pub paid_back : (t : Bool) (n : ℕ) (p : Holder) (credits after : List Holder) → n ≡ cond t 1 0 → SameItems after (replicate n p ++ credits) → SameItems after (cond t (p ∷ credits) credits)
+paid_back true n p credits after e same weight = same weight ∙ ap (λ (k : ℕ). total weight (replicate k p ++ credits)) e
+paid_back false n p credits after e same weight = same weight ∙ ap (λ (k : ℕ). total weight (replicate k p ++ credits)) e

@@ -1,11 +1,11 @@
 -- Each change of holds keeps them sound. What weighs a list of holds, or the holds of many lists, is any sum.
-use Rattle.std.proofs.Common.{◌≡◌, ℕ, zero, suc, ◌+◌, ◌<◌, ◌≤◌, ◌≢◌, List, [], ◌∷◌, ◌++◌, Bool, true, false, min, take, set, get_or, length, sym, refl, ap, ◌∙◌, subst, lt_of_not-le, arith}
+use Rattle.std.proofs.Common.{◌≡◌, ℕ, zero, suc, ◌+◌, ◌<◌, ◌≤◌, ◌≢◌, List, [], ◌∷◌, ◌++◌, true, take, get_or, length, sym, refl, ap, ◌∙◌, arith}
 use mathlib.Core.Logic.{dite}
-use native.Mathlib.Decide.{ℕ_discrete, dec_le}
+use native.Mathlib.Decide.{ℕ_discrete}
 use Rattle.std.specs.Prelude.{slice_index, slice_set}
-use Rattle.std.proofs.lemmas.List.{length-append, length-take-le, get_or-set_same, get_or-set_other, get_or-take, get_or-append-add, length-set}
+use Rattle.std.proofs.lemmas.List.{length-append, length-take-le, get_or-set_same, get_or-set_other, get_or-take, get_or-append-add}
 use Rattle.pin_core.specs.Buffers.{buffers, room, start, word_count}
-use Rattle.pin_core.specs.Holding.{Holding, at, sole_at, loose_at, pin_of, fresh, shared, pinned_copy, written}
+use Rattle.pin_core.specs.Holding.{Holding, at, sole_at, loose_at, fresh, shared, pinned_copy, written}
 use Rattle.pin_core.specs.Sound.{misfit, AreSound}
 use Rattle.pin_core.specs.declared.sizes.Sizes.{Sizes}
 use Rattle.pin_core.proofs.Places.{place-within, place-apart}
@@ -59,81 +59,81 @@ module _ (z : Sizes) (words : List ℕ) (old : (Holding → ℕ) → ℕ) (sound
 
   -- a put under an exclusive hold
   module _ (new rest : (Holding → ℕ) → ℕ) (weighing : IsWeighing rest) (h : Holding) (i x : ℕ) (had : (f : Holding → ℕ) → old f ≡ f h + rest f) (has : (f : Holding → ℕ) → new f ≡ f (written i x h) + rest f)
-    (exclusive : h.exclusive ≡ true) (in_front : i ≤ length h.front) (in_buffer : i < room z h.buffer) (sized : length words ≡ word_count z)
+      (exclusive : h.exclusive ≡ true) (in_front : i ≤ length h.front) (in_buffer : i < room z h.buffer) (sized : length words ≡ word_count z)
     where
-    abbrev b : ℕ
-    b = h.buffer
+      abbrev b : ℕ
+      b = h.buffer
 
-    abbrev after : List ℕ
-    after = take i h.front ++ x ∷ []
+      abbrev after : List ℕ
+      after = take i h.front ++ x ∷ []
 
-    mine : Fits z sound.fronts h
-    mine = fits z sound.fronts h (omega (arith, had (misfit z sound.fronts), sound.fitting))
+      mine : Fits z sound.fronts h
+      mine = fits z sound.fronts h (omega (arith, had (misfit z sound.fronts), sound.fitting))
 
-    alone : rest (at b) ≡ 0
-    alone = omega (arith, had (at b), at-on b h refl, sound.sole b (omega (arith, had (sole_at b), sole-on b h refl exclusive)))
+      alone : rest (at b) ≡ 0
+      alone = omega (arith, had (at b), at-on b h refl, sound.sole b (omega (arith, had (sole_at b), sole-on b h refl exclusive)))
 
-    abbrev put_fronts : ℕ → List ℕ
-    put_fronts = refronted b after sound.fronts
+      abbrev put_fronts : ℕ → List ℕ
+      put_fronts = refronted b after sound.fronts
 
-    abbrev put_words : List ℕ
-    put_words = slice_set words (start z b + i) x
+      abbrev put_words : List ℕ
+      put_words = slice_set words (start z b + i) x
 
-    after-length : length after ≡ i + 1
-    after-length = length-append (take i h.front) (x ∷ []) ∙ ap (λ (n : ℕ). n + 1) (length-take-le i h.front in_front)
+      after-length : length after ≡ i + 1
+      after-length = length-append (take i h.front) (x ∷ []) ∙ ap (λ (n : ℕ). n + 1) (length-take-le i h.front in_front)
 
-    put_fitting : new (misfit z put_fronts) ≡ 0
-    put_fitting =
-        let here = misfit-none z put_fronts (written i x h) (record { near = mine.near; front_is = sym (refronted-here b after sound.fronts b refl) }) in
-        let others = weighing.le (misfit z put_fronts) (λ g. misfit z sound.fronts g + at b g) (misfit-refronted z b after sound.fronts) in
-        omega (arith, has (misfit z put_fronts), here, others, weighing.add (misfit z sound.fronts) (at b), had (misfit z sound.fronts), sound.fitting, alone)
+      put_fitting : new (misfit z put_fronts) ≡ 0
+      put_fitting =
+          let here = misfit-none z put_fronts (written i x h) (record { near = mine.near; front_is = sym (refronted-here b after sound.fronts b refl) }) in
+          let others = weighing.le (misfit z put_fronts) (λ g. misfit z sound.fronts g + at b g) (misfit-refronted z b after sound.fronts) in
+          omega (arith, has (misfit z put_fronts), here, others, weighing.add (misfit z sound.fronts) (at b), had (misfit z sound.fronts), sound.fitting, alone)
 
-    put_short : (c : ℕ) → length (put_fronts c) ≤ room z c
-    put_short c = dite (ℕ_discrete c b)
-        (λ e. omega (arith, ap length (refronted-here b after sound.fronts c e), after-length, ap (λ (k : ℕ). room z k) e, in_buffer))
-        (λ n. omega (arith, ap length (refronted-else b after sound.fronts c n), sound.short c))
+      put_short : (c : ℕ) → length (put_fronts c) ≤ room z c
+      put_short c = dite (ℕ_discrete c b)
+          (λ e. omega (arith, ap length (refronted-here b after sound.fronts c e), after-length, ap (λ (k : ℕ). room z k) e, in_buffer))
+          (λ n. omega (arith, ap length (refronted-else b after sound.fronts c n), sound.short c))
 
-    below_i : (j : ℕ) → j < i → slice_index put_words (start z b + j) ≡ slice_index after j
-    below_i j lt =
-        let away : start z b + j ≢ start z b + i = λ e. omega (arith, e) in
-        let long : length (take i h.front) ≡ i = length-take-le i h.front in_front in
-        let old_front = ap (λ xs. slice_index xs j) mine.front_is in
-        let in_old : j < length (sound.fronts b) = omega (arith, ap length mine.front_is) in
-        get_or-set_other words (start z b + i) (start z b + j) x 0 away ∙ sound.begun b j mine.near in_old ∙ sym old_front ∙ sym (get_or-take i h.front j 0 lt) ∙ sym (front_part (take i h.front) j (omega (arith, long)))
-      where
-        front_part : (xs : List ℕ) (k : ℕ) → k < length xs → get_or (xs ++ x ∷ []) k 0 ≡ get_or xs k 0
-        front_part [] k lt = absurd (omega arith)
-        front_part (y ∷ ys) zero lt = refl
-        front_part (y ∷ ys) (suc k) lt = front_part ys k (omega arith)
+      below_i : (j : ℕ) → j < i → slice_index put_words (start z b + j) ≡ slice_index after j
+      below_i j lt =
+          let away : start z b + j ≢ start z b + i = λ e. omega (arith, e) in
+          let long : length (take i h.front) ≡ i = length-take-le i h.front in_front in
+          let old_front = ap (λ xs. slice_index xs j) mine.front_is in
+          let in_old : j < length (sound.fronts b) = omega (arith, ap length mine.front_is) in
+          get_or-set_other words (start z b + i) (start z b + j) x 0 away ∙ sound.begun b j mine.near in_old ∙ sym old_front ∙ sym (get_or-take i h.front j 0 lt) ∙ sym (front_part (take i h.front) j (omega (arith, long)))
+        where
+          front_part : (xs : List ℕ) (k : ℕ) → k < length xs → get_or (xs ++ x ∷ []) k 0 ≡ get_or xs k 0
+          front_part [] k lt = absurd (omega arith)
+          front_part (y ∷ ys) zero lt = refl
+          front_part (y ∷ ys) (suc k) lt = front_part ys k (omega arith)
 
-    at_i : slice_index put_words (start z b + i) ≡ slice_index after i
-    at_i =
-        let long : length (take i h.front) ≡ i = length-take-le i h.front in_front in
-        let last = get_or-append-add (take i h.front) (x ∷ []) 0 0 in
-        let place : length (take i h.front) + 0 ≡ i = omega (arith, long) in
-        get_or-set_same words (start z b + i) x 0 (omega (arith, sized, place-within z b i mine.near in_buffer)) ∙ sym last ∙ ap (λ (k : ℕ). slice_index after k) place
+      at_i : slice_index put_words (start z b + i) ≡ slice_index after i
+      at_i =
+          let long : length (take i h.front) ≡ i = length-take-le i h.front in_front in
+          let last = get_or-append-add (take i h.front) (x ∷ []) 0 0 in
+          let place : length (take i h.front) + 0 ≡ i = omega (arith, long) in
+          get_or-set_same words (start z b + i) x 0 (omega (arith, sized, place-within z b i mine.near in_buffer)) ∙ sym last ∙ ap (λ (k : ℕ). slice_index after k) place
 
-    in_after : (j : ℕ) → j < i + 1 → slice_index put_words (start z b + j) ≡ slice_index after j
-    in_after j lt = dite (ℕ_discrete j i) (λ e. ap (λ (k : ℕ). slice_index put_words (start z b + k)) e ∙ at_i ∙ ap (λ (k : ℕ). slice_index after k) (sym e)) (λ n. below_i j (omega (arith, n)))
+      in_after : (j : ℕ) → j < i + 1 → slice_index put_words (start z b + j) ≡ slice_index after j
+      in_after j lt = dite (ℕ_discrete j i) (λ e. ap (λ (k : ℕ). slice_index put_words (start z b + k)) e ∙ at_i ∙ ap (λ (k : ℕ). slice_index after k) (sym e)) (λ n. below_i j (omega (arith, n)))
 
-    put_begun : (c j : ℕ) → c < buffers z → j < length (put_fronts c) → slice_index put_words (start z c + j) ≡ slice_index (put_fronts c) j
-    put_begun c j below within = dite (ℕ_discrete c b)
-        (λ e. let front = refronted-here b after sound.fronts c e in
+      put_begun : (c j : ℕ) → c < buffers z → j < length (put_fronts c) → slice_index put_words (start z c + j) ≡ slice_index (put_fronts c) j
+      put_begun c j below within = dite (ℕ_discrete c b)
+          (λ e. let front = refronted-here b after sound.fronts c e in
           ap (λ (k : ℕ). slice_index put_words (start z k + j)) e ∙ in_after j (omega (arith, ap length front, after-length)) ∙ ap (λ xs. slice_index xs j) (sym front))
-        (λ n. let front = refronted-else b after sound.fronts c n in
+          (λ n. let front = refronted-else b after sound.fronts c n in
           let short = sound.short c in
           let inside : j < length (sound.fronts c) = omega (arith, ap length front) in
           get_or-set_other words (start z b + i) (start z c + j) x 0 (place-apart z b c i j n in_buffer (omega arith)) ∙ sound.begun c j below inside ∙ ap (λ xs. slice_index xs j) (sym front))
 
-    pub keeps_put : AreSound z put_words new
-    keeps_put = record {
-      sole = λ c some. omega (arith, had (at c), has (at c), sound.sole c (omega (arith, had (sole_at c), has (sole_at c))));
-      loose = λ c. omega (arith, had (loose_at c), has (loose_at c), sound.loose c);
-      fronts = put_fronts;
-      fitting = put_fitting;
-      short = put_short;
-      begun = put_begun;
-    }
+      pub keeps_put : AreSound z put_words new
+      keeps_put = record {
+        sole = λ c some. omega (arith, had (at c), has (at c), sound.sole c (omega (arith, had (sole_at c), has (sole_at c))));
+        loose = λ c. omega (arith, had (loose_at c), has (loose_at c), sound.loose c);
+        fronts = put_fronts;
+        fitting = put_fitting;
+        short = put_short;
+        begun = put_begun;
+      }
 
   -- a pin of a hold
   module _ (new rest : (Holding → ℕ) → ℕ) (weighing : IsWeighing rest) (h : Holding) (had : (f : Holding → ℕ) → old f ≡ f h + rest f) (has : (f : Holding → ℕ) → new f ≡ f (pinned_copy h) + (f (shared h) + rest f)) where

@@ -4,3 +4,7 @@ pub mod Keeps
 pub mod Steps
 pub mod Found
 pub mod AccountSums
+pub mod RawHolds
+pub mod Answering
+pub mod RawSteps
+pub mod Exact

@@ -1,5 +1,5 @@
 -- The places of data words: no two buffers share one.
-use Rattle.std.proofs.Common.{◌≡◌, ℕ, ◌+◌, ◌-◌, ◌*◌, ◌<◌, ◌≤◌, ◌≢◌, ◌⊎◌, inl, inr, ⊎_elim, Bool, true, false, cond, ltb, sym, refl, ap, ◌∙◌, lt_of_not-le, arith}
+use Rattle.std.proofs.Common.{◌≡◌, ℕ, ◌+◌, ◌-◌, ◌*◌, ◌<◌, ◌≤◌, ◌≢◌, ◌⊎◌, inl, inr, ⊎_elim, cond, ap, lt_of_not-le, arith}
 use mathlib.Core.Logic.{dite}
 use native.Mathlib.Decide.{dec_le}
 use Rattle.std.proofs.lemmas.Bool.{lt-ltb, le-ltb}
@@ -19,9 +19,9 @@ pub record IsLarge (z : Sizes) (b : ℕ) : Type 0 where
 pub class_of : (z : Sizes) (b : ℕ) → IsLarge z b ⊎ IsSmall z b
 class_of z b = dite (dec_le z.small b)
     (λ le. let e = le-ltb b z.small le in
-      inl (record { above = le; room_is = ap (λ t. cond t 64 512) e; start_is = ap (λ t. cond t (64 * b) (64 * z.small + 512 * (b - z.small))) e }))
+    inl (record { above = le; room_is = ap (λ t. cond t 64 512) e; start_is = ap (λ t. cond t (64 * b) (64 * z.small + 512 * (b - z.small))) e }))
     (λ n. let e = lt-ltb b z.small (lt_of_not-le n) in
-      inr (record { below = lt_of_not-le n; room_is = ap (λ t. cond t 64 512) e; start_is = ap (λ t. cond t (64 * b) (64 * z.small + 512 * (b - z.small))) e }))
+    inr (record { below = lt_of_not-le n; room_is = ap (λ t. cond t 64 512) e; start_is = ap (λ t. cond t (64 * b) (64 * z.small + 512 * (b - z.small))) e }))
 
 -- a buffer's data words lie within those of all buffers
 pub place-within : (z : Sizes) (b i : ℕ) → b < buffers z → i < room z b → start z b + i < word_count z

@@ -1,12 +1,12 @@
 -- Each event keeps a list of holds sound, and so do all events in turn.
-use Rattle.std.proofs.Common.{◌≡◌, ℕ, zero, suc, ◌+◌, ◌<◌, ◌≤◌, List, [], ◌∷◌, ◌++◌, Bool, true, false, cond, length, set, replicate, sym, refl, ap, ◌∙◌, subst, arith}
+use Rattle.std.proofs.Common.{◌≡◌, ℕ, ◌+◌, ◌<◌, List, [], ◌∷◌, ◌++◌, Bool, true, false, cond, length, set, replicate, sym, refl, ap, ◌∙◌, subst, arith}
 use Rattle.std.proofs.lemmas.List.{length-append, length-set, length-replicate}
-use Rattle.view_sums.specs.Total.{total, SameItems, Each}
+use Rattle.view_sums.specs.Total.{SameItems, Each}
 use Rattle.view_sums.proofs.Items.{same_length}
 use Rattle.pin_core.specs.Buffers.{buffers, room, start, word_count}
 use Rattle.pin_core.specs.Holding.{Holding, Key, pin_of, fresh, shared, pinned_copy, written}
 use Rattle.pin_core.specs.Pins.{Owned, Pins, own, weigh}
-use Rattle.pin_core.specs.PinStep.{Event, claim, put, load, pin, unpin, move, give, IsNear, IsClaim, IsPut, IsLoad, IsPin, IsUnpin, IsMove, IsGive, PinStep, PinSteps, SamePins}
+use Rattle.pin_core.specs.PinStep.{Event, claim, put, load, pin, unpin, move, give, IsNear, IsClaim, IsPut, IsPin, IsUnpin, IsMove, IsGive, PinStep, PinSteps}
 use Rattle.pin_core.specs.Sound.{IsSound, AreSound, opened}
 use Rattle.pin_core.specs.Laws.{EventsKeepSound}
 use Rattle.pin_core.specs.declared.sizes.Sizes.{Sizes}
@@ -102,17 +102,17 @@ module _ {H : Type 0} (z : Sizes) where
           sized = ap length step.words ∙ sound.sized;
           held = on_words old.words step.words (keeps_same z old.words (weigh old.holds) sound.held (weigh new.holds) same);
           credited =
-            omega (
-              arith,
-              same pin_of,
-              same_length new.credits (replicate n taker ++ step.rest) step.given,
-              same_length old.credits (replicate n p ++ step.rest) step.had,
-              length-append (replicate n taker) step.rest,
-              length-append (replicate n p) step.rest,
-              length-replicate n taker,
-              length-replicate n p,
-              sound.credited,
-            );
+              omega (
+                arith,
+                same pin_of,
+                same_length new.credits (replicate n taker ++ step.rest) step.given,
+                same_length old.credits (replicate n p ++ step.rest) step.had,
+                length-append (replicate n taker) step.rest,
+                length-append (replicate n p) step.rest,
+                length-replicate n taker,
+                length-replicate n p,
+                sound.credited,
+              );
         }
 
   pub step_sound : (old new : Pins H) (e : Event H) → IsNear z e → PinStep z old e new → IsSound z old → IsSound z new

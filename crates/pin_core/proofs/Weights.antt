@@ -1,9 +1,8 @@
 -- How single holds weigh.
-use Rattle.std.proofs.Common.{◌≡◌, ℕ, zero, suc, ◌+◌, ◌<◌, ◌≤◌, ◌≢◌, List, [], ◌∷◌, ◌++◌, Bool, true, false, not, cond, ◌&&◌, eqb, ltb, length, sym, refl, ap, ◌∙◌, subst, eq-eqb, ne_eqb, arith}
+use Rattle.std.proofs.Common.{◌≡◌, ℕ, ◌+◌, ◌<◌, ◌≤◌, ◌≢◌, List, [], ◌∷◌, Bool, true, false, cond, ◌&&◌, eqb, ltb, sym, refl, ap, ◌∙◌, eq-eqb, ne_eqb, arith}
 use mathlib.Core.Logic.{dite}
 use native.Mathlib.Decide.{ℕ_discrete}
 use Rattle.std.proofs.lemmas.Bool.{lt-ltb, ltb-true, eqb-true, and_parts}
-use Rattle.view_sums.specs.Total.{total}
 use Rattle.view_sums.proofs.Sums.{total-le, total-add}
 use Rattle.pin_core.specs.Buffers.{buffers}
 use Rattle.pin_core.specs.Holding.{Holding, at, sole_at, loose_at, pin_of}
@@ -119,3 +118,11 @@ pub misfit-refronted : (z : Sizes) (b : ℕ) (front : List ℕ) (fronts : ℕ �
 misfit-refronted z b front fronts h = dite (ℕ_discrete h.buffer b)
     (λ e. omega (arith, at-on b h e, bit_le (ltb h.buffer (buffers z) && same_words h.front (refronted b front fronts h.buffer))))
     (λ n. omega (arith, ap {B = ℕ} (λ xs. cond (ltb h.buffer (buffers z) && same_words h.front xs) 0 1) (refronted-else b front fronts h.buffer n)))
+
+sole_bit : (x y : Bool) → 0 < cond x (cond y 1 0) 0 → y ≡ true
+sole_bit true true some = refl
+sole_bit true false some = absurd (omega arith)
+sole_bit false y some = absurd (omega arith)
+
+pub sole-true : (b : ℕ) (h : Holding) → 0 < sole_at b h → h.exclusive ≡ true
+sole-true b h e = sole_bit (eqb h.buffer b) h.exclusive e

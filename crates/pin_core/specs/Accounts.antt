@@ -1,5 +1,5 @@
 -- Accounts of credits, one for each holder.
-use Rattle.std.specs.Prelude.{ℕ, ◌≤◌, List, [], ◌∷◌, ◌++◌, Bool, if◌then◌else◌, replicate}
+use Rattle.std.specs.Prelude.{◌≤◌, List, [], ◌∷◌, ◌++◌, Bool, if◌then◌else◌, replicate}
 use Rattle.view_sums.specs.Total.{total}
 use Rattle.pin_core.specs.Answers.{same_holder}
 use Rattle.pin_core.specs.declared.holder.Holder.{Holder}

@@ -1,7 +1,7 @@
 -- What an event is answered: the first test that fails, or what the step did.
-use Rattle.std.specs.Prelude.{◌≡◌, ℕ, ◌+◌, ◌<◌, List, [], ◌∷◌, Bool, true, false, not, ◌&&◌, ◌||◌, ◌==◌, nat_lt, nat_le, if◌then◌else◌, length, find, slice_index, Option, None, Some}
+use Rattle.std.specs.Prelude.{ℕ, List, Bool, false, not, ◌&&◌, ◌==◌, nat_lt, nat_le, if◌then◌else◌, length, find, slice_index, Option, None, Some}
 use Rattle.view_sums.specs.Total.{total}
-use Rattle.pin_core.specs.Buffers.{buffers, room}
+use Rattle.pin_core.specs.Buffers.{room}
 use Rattle.pin_core.specs.Holding.{Holding, Key}
 use Rattle.pin_core.specs.Pins.{Owned, Pins, count_at}
 use Rattle.pin_core.specs.PinStep.{Event, claim, put, load, pin, unpin, move, give}

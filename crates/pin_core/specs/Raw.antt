@@ -1,7 +1,6 @@
 -- A hold as the program keeps it, with the length of its front alone.
 use Rattle.std.specs.Prelude.{ℕ, List, Bool, not, ◌&&◌, ◌==◌, if◌then◌else◌, take, drop}
 use Rattle.pin_core.specs.Buffers.{start}
-use Rattle.pin_core.specs.Holding.{Holding}
 use Rattle.pin_core.specs.Pins.{Owned, own}
 use Rattle.pin_core.specs.Answers.{same_holder}
 use Rattle.pin_core.specs.declared.sizes.Sizes.{Sizes}

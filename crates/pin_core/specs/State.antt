@@ -40,3 +40,5 @@ pub record IsAnswer (old : SizedPins) (event : PinEvent) (result : Result Change
   pub tells : IfOk result (λ change. change ≡ change_of old.pins event)
   pub unchanged : OnErr result (new ≡ old)
   pub sizes : new.sizes ≡ old.sizes
+  pub was_sound : IsSound old.sizes old.pins
+  pub sound : IsSound new.sizes new.pins

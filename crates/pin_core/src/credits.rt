@@ -10,9 +10,9 @@ use std::alloc::Global;
 use std::marker::Model;
 
 #[derive(Clone, Copy)]
-pub(crate) struct Account {
-    pub(crate) holder: Holder,
-    pub(crate) credits: u64,
+struct Account {
+    holder: Holder,
+    credits: u64,
 }
 
 /// The credits of all holders, in one account for each. Contracts see a list in which a holder stands once for each of its credits.
@@ -64,6 +64,9 @@ impl Credits {
         ensures ok { OnOk result (SameItems self.new (replicate credits holder ++ self.old)) }
         ensures err { OnErr result (self.new ≡ self.old) }
     {
+        if credits == 0 {
+            return Ok(());
+        }
         match find_account(&self.accounts, holder) {
             Some(k) => {
                 self.accounts[k].credits += credits;

@@ -1,4 +1,4 @@
-ghost use Rattle.std.specs.Prelude.{◌≡◌, ◌≢◌, ◌+◌, ◌<◌, ◌≤◌, ◌^◌, length, position, MatchOption, IfOk, IfErr, OnErr, IsOkUnless};
+ghost use Rattle.std.specs.Prelude.{◌≡◌, ◌≢◌, ◌+◌, ◌<◌, ◌≤◌, ◌^◌, ◌==◌, length, position, count_by, MatchOption, IfOk, IfErr, OnErr, IsOkUnless};
 ghost use Rattle.pin_core.specs.declared.holder.Holder.{Holder};
 ghost use Rattle.pin_core.specs.Buffers.{buffers, IsWithin};
 ghost use Rattle.pin_core.specs.Pins.{weigh, count_at};
@@ -20,12 +20,12 @@ use std::marker::Model;
 
 // A hold, whose front is the first `length` data words of its buffer.
 #[derive(Clone, Copy)]
-pub(crate) struct Hold {
-    pub(crate) holder: Holder,
-    pub(crate) buffer: u32,
-    pub(crate) length: u32,
-    pub(crate) exclusive: bool,
-    pub(crate) pinned: bool,
+struct Hold {
+    holder: Holder,
+    buffer: u32,
+    length: u32,
+    exclusive: bool,
+    pinned: bool,
 }
 
 /// All holds of a pool as a plain list, with the data words of its buffers and the credits of each holder.
@@ -61,6 +61,12 @@ fn find_key(holds: &[Hold], holder: Holder, buffer: u32, pinned: bool) -> Option
     ensures { result ≡ position (is_raw_key holder buffer pinned) holds.now }
 {
     holds.iter().position(|h| h.holder == holder && h.buffer == buffer && h.pinned == pinned)
+}
+
+fn count_holds(holds: &[Hold], buffer: u32) -> usize
+    ensures { result ≡ count_by (λ h. h.buffer == buffer) holds.now }
+{
+    holds.iter().filter(|h| h.buffer == buffer).count()
 }
 
 impl PinState {
@@ -134,7 +140,7 @@ impl PinState {
     pub fn holders_of(&self, buffer: u32) -> u32
         ensures { result ≡ count_at buffer self.now.pins.holds }
     {
-        self.holds.iter().filter(|h| h.buffer == buffer).count() as u32
+        count_holds(&self.holds, buffer) as u32
     }
 
     /// How many buffers of each class have a hold.
@@ -254,7 +260,7 @@ impl PinState {
             return Err(Refused::NotHeld);
         };
         let last = self.holders_of(buffer) == 1;
-        if pinned && self.credits.add(holder, 1).is_err() {
+        if self.credits.add(holder, u64::from(pinned)).is_err() {
             return Err(Refused::Memory);
         }
         let _ = self.holds.remove(k);

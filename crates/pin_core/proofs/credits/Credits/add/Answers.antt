@@ -1,12 +1,10 @@
-use Rattle.std.proofs.Common.{◌≡◌, ◌+◌, ◌≤◌, ℕ, List, ◌++◌, ◌∷◌, [], Bool, true, false, cond, replicate, length, sym, refl, ap, subst, ◌∙◌, arith}
-use Rattle.std.specs.Prelude.{Some, None, position, Option, Result, OnOk}
-use Rattle.view_sums.specs.Total.{total, SameItems}
+use Rattle.std.proofs.Common.{◌≡◌, ◌+◌, ◌++◌, replicate, length, sym, ap, subst, ◌∙◌, arith}
+use Rattle.std.specs.Prelude.{Some, None, position, Result, OnOk}
+use Rattle.view_sums.specs.Total.{SameItems}
 use Rattle.pin_core.proofs.Found.{is_none}
 use Rattle.pin_core.proofs.AccountSums.{read-le, read_single, read_more, single-added, credits-added}
 use Rattle.pin_core.specs.Accounts.{is_of, credits_in, AreSingle}
 use Rattle.pin_core.specs.declared.refused.Memory.{Memory}
-use Rattle.pin_core.specs.declared.holder.Holder.{Holder}
-use Rattle.pin_core.specs.declared.credits.Account.{Account}
 use Rattle.pin_core.proofs.credits.Credits.add.Goals as goal
 use Rattle.pin_core.proofs.credits.Credits.add.Goals.{in-Ok, in-Err}
 

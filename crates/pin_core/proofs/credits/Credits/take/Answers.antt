@@ -1,9 +1,9 @@
-use Rattle.std.proofs.Common.{◌≡◌, ◌≤◌, ◌-◌, ℕ, List, ◌++◌, replicate, sym, refl, ap, subst, ◌∙◌, arith}
-use Rattle.std.specs.Prelude.{Some, None, position, Option}
+use Rattle.std.proofs.Common.{◌≡◌, ◌≤◌, ◌-◌, ℕ, List, ◌++◌, replicate, sym, ap, ◌∙◌, arith}
+use Rattle.std.specs.Prelude.{Some, None, position}
 use Rattle.view_sums.specs.Total.{total, SameItems}
 use Rattle.pin_core.proofs.Found.{is_none}
 use Rattle.pin_core.proofs.AccountSums.{read_credits, read_single, read_fewer, credits_of-none}
-use Rattle.pin_core.specs.Accounts.{is_of, credits_in}
+use Rattle.pin_core.specs.Accounts.{is_of}
 use Rattle.pin_core.specs.Answers.{credits_of}
 use Rattle.pin_core.specs.declared.holder.Holder.{Holder}
 use Rattle.pin_core.proofs.credits.Credits.take.Goals as goal
