@@ -1,17 +1,17 @@
 -- For callers: what a seat still holds after each call, and with what fronts. All speak of its list of holds.
-use Rattle.std.proofs.Common.{◌≡◌, ◌≢◌, ℕ, zero, suc, ◌+◌, ◌<◌, ◌≤◌, List, [], ◌∷◌, ◌++◌, map, take, length, Bool, true, false, not, cond, eqb, sym, refl, ap, ◌∙◌, subst, zero-le, eq-eqb, ne_eqb, arith}
+use Rattle.std.proofs.Common.{◌≡◌, ◌≢◌, ℕ, suc, ◌+◌, ◌<◌, ◌≤◌, List, [], ◌∷◌, ◌++◌, map, take, length, Bool, true, false, not, cond, eqb, sym, refl, ap, ◌∙◌, zero-le, eq-eqb, ne_eqb, arith}
 use mathlib.Core.Logic.{dite}
 use native.Mathlib.Decide.{ℕ_discrete}
 use Rattle.view_sums.specs.Total.{total, same, Each}
 use Rattle.view_sums.proofs.Sums.{total-append, total-le}
-use Rattle.view_sums.proofs.Eachs.{each-front, each-back}
+use Rattle.view_sums.proofs.Eachs.{each-back}
 use Rattle.pin_core.specs.Holding.{Holding, Key, at, sole_at, loose_at, fresh, shared, written}
 use Rattle.pin_core.proofs.Weights.{at-on, at-off, sole-at}
-use Rattle.pinned_pool.specs.Views.{looked_at, OneFront}
+use Rattle.pinned_pool.specs.Views.{looked_at}
 use Rattle.pinned_pool.specs.Claims.{LooksFrom}
-use Rattle.pinned_pool.specs.Moves.{is, is_key, key_of, first, without, picked, others, times, asked, HasHolds, share, write, front_of, pinned_hold}
+use Rattle.pinned_pool.specs.Moves.{is, is_key, key_of, without, picked, others, times, asked, HasHolds, share, write, front_of, pinned_hold}
 use Rattle.pinned_pool.proofs.Keys.{is_key-same, times-without, total-without, total-others, picked-keys, has_first, has_rest, each-without, each-others, each-picked}
-use Rattle.pinned_pool.proofs.Fronts.{pick, total-share, total-write, share-on, share-off, write-on, write-off}
+use Rattle.pinned_pool.proofs.Fronts.{total-share, total-write, share-on, share-off, write-on, write-off}
 use Rattle.pinned_pool.proofs.Within.{first_is}
 
 -- how often a key is asked for, and how often it is held
@@ -39,6 +39,16 @@ without-last (g ∷ hs) h none = bits (is (key_of h) g) none (without-last hs h)
     bits : (t : Bool) → cond t 1 0 + times (key_of h) hs ≡ 0 → (times (key_of h) hs ≡ 0 → without (key_of h) (hs ++ h ∷ []) ≡ hs) → cond t (hs ++ h ∷ []) (g ∷ without (key_of h) (hs ++ h ∷ [])) ≡ g ∷ hs
     bits true none rest = absurd (omega arith)
     bits false none rest = ap (λ xs. g ∷ xs) (rest (omega arith))
+
+-- a buffer's holds that are not pinned, of which a seat has one at most
+loose_bits : (t p : Bool) → cond (cond t (not p) false) 1 0 ≡ (let n : ℕ = cond t (cond p 0 1) 0 in n)
+loose_bits true true = refl
+loose_bits true false = refl
+loose_bits false p = refl
+
+pub times-loose : (b : ℕ) (hs : List Holding) → times (record { buffer = b; pinned = false }) hs ≡ total (loose_at b) hs
+times-loose b [] = refl
+times-loose b (h ∷ hs) = omega (arith, loose_bits (eqb h.buffer b) h.pinned, times-loose b hs)
 
 -- what a split hands over and leaves
 pub has_none : (hs : List Holding) → HasHolds [] hs
@@ -191,6 +201,6 @@ looks-once b c (l ∷ ls) from low high = dite (ℕ_discrete b c)
     off n m ne = ap (λ t. cond t 1 0) (ne_eqb m n ne)
 
 -- what to give to `search`, `simp` or `grind`
-pub ruleset seat_holds = (asked-append, times-append, times-own, without-own, without-last, has_none, has_one, times-without, times-others, times-picked, others-append, picked-keys, times-share, times-write, at-share, at-write, sole-write, sole-share, sole-held, at-won, sole-won, at-taken)
+pub ruleset seat_holds = (asked-append, times-append, times-own, without-own, without-last, times-loose, has_none, has_one, times-without, times-others, times-picked, others-append, picked-keys, times-share, times-write, at-share, at-write, sole-write, sole-share, sole-held, at-won, sole-won, at-taken)
 
 pub ruleset seat_fronts = (front-on, front-off, front-won, front-won-else, front-share, front-write, front-write-else, front-append, front-append-else, front-is, front-without, front-others, front-picked, front-joined, front-taken)

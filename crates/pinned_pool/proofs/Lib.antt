@@ -12,3 +12,4 @@ pub mod Closing
 pub mod InWords
 pub mod AfterSteps
 pub mod Running
+pub mod Covering

@@ -1,5 +1,5 @@
 -- The rule holds after any steps.
-use Rattle.std.proofs.Common.{◌≡◌, ◌^◌, ◌<◌, ◌≤◌, List, [], ◌∷◌, sym, subst}
+use Rattle.std.proofs.Common.{List, [], ◌∷◌, sym, subst}
 use Rattle.pin_core.specs.declared.sizes.Sizes.{Sizes}
 use Rattle.pinned_pool.specs.Rule.{IsSoundTable}
 use Rattle.pinned_pool.specs.StepKinds.{Kind}

@@ -1,4 +1,5 @@
 //! Laws over the definitions, each the contract of a call that does nothing.
+ghost use Rattle.pinned_pool.specs.Addresses.{OneByteEach};
 ghost use Rattle.pinned_pool.specs.InWords.{SoundInWords};
 ghost use Rattle.pinned_pool.specs.StepKinds.{StepsAreEvents};
 ghost use Rattle.pinned_pool.specs.Runs.{RunsStaySound};
@@ -18,4 +19,9 @@ pub fn sound_in_words()
 /// The rule holds at the opening, and after any steps by any seats from then on.
 pub fn runs_stay_sound()
     ensures { RunsStaySound }
+{}
+
+/// No address is that of two bytes.
+pub fn one_byte_each()
+    ensures { OneByteEach }
 {}
