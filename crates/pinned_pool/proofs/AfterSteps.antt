@@ -9,32 +9,32 @@ use Rattle.pin_core.specs.Holding.{Holding, Key, at, sole_at, loose_at, fresh, s
 use Rattle.pin_core.proofs.Weights.{at-on, at-off, sole-at}
 use Rattle.pinned_pool.specs.Views.{looked_at}
 use Rattle.pinned_pool.specs.Claims.{LooksFrom}
-use Rattle.pinned_pool.specs.Moves.{is, is_key, key_of, without, picked, others, times, asked, HasHolds, share, write, front_of, pinned_hold}
-use Rattle.pinned_pool.proofs.Keys.{is_key-same, times-without, total-without, total-others, picked-keys, has_first, has_rest, each-without, each-others, each-picked}
+use Rattle.pinned_pool.specs.Moves.{means, same_key, key_of, without, picked, others, times, asked, HasHolds, share, write, front_of, pinned_hold}
+use Rattle.pinned_pool.proofs.Keys.{same_key-refl, times-without, total-without, total-others, picked-keys, has_first, has_rest, each-without, each-others, each-picked}
 use Rattle.pinned_pool.proofs.Fronts.{total-share, total-write, share-on, share-off, write-on, write-off}
 use Rattle.pinned_pool.proofs.Within.{first_is}
 
 -- how often a key is asked for, and how often it is held
 pub asked-append : (k : Key) (ks js : List Key) → asked k (ks ++ js) ≡ asked k ks + asked k js
-asked-append k ks js = total-append (λ j. cond (is_key k j) 1 0) ks js
+asked-append k ks js = total-append (λ j. cond (same_key k j) 1 0) ks js
 
 pub times-append : (k : Key) (hs gs : List Holding) → times k (hs ++ gs) ≡ times k hs + times k gs
-times-append k hs gs = total-append (λ h. cond (is k h) 1 0) hs gs
+times-append k hs gs = total-append (λ h. cond (means k h) 1 0) hs gs
 
 -- a hold at the head is the first that its key means
-pub is-own : (h : Holding) → is (key_of h) h ≡ true
-is-own h = is_key-same (key_of h)
+pub means-own : (h : Holding) → means (key_of h) h ≡ true
+means-own h = same_key-refl (key_of h)
 
 pub times-own : (h : Holding) (hs : List Holding) → times (key_of h) (h ∷ hs) ≡ times (key_of h) hs + 1
-times-own h hs = omega (arith, ap {B = ℕ} (λ t. cond t 1 0) (is-own h))
+times-own h hs = omega (arith, ap {B = ℕ} (λ t. cond t 1 0) (means-own h))
 
 pub without-own : (h : Holding) (hs : List Holding) → without (key_of h) (h ∷ hs) ≡ hs
-without-own h hs = ap (λ t. cond t hs (h ∷ without (key_of h) hs)) (is-own h)
+without-own h hs = ap (λ t. cond t hs (h ∷ without (key_of h) hs)) (means-own h)
 
 -- a hold behind others that the key doesn't mean
 pub without-last : (hs : List Holding) (h : Holding) → times (key_of h) hs ≡ 0 → without (key_of h) (hs ++ h ∷ []) ≡ hs
 without-last [] h none = without-own h []
-without-last (g ∷ hs) h none = bits (is (key_of h) g) none (without-last hs h)
+without-last (g ∷ hs) h none = bits (means (key_of h) g) none (without-last hs h)
   where
     bits : (t : Bool) → cond t 1 0 + times (key_of h) hs ≡ 0 → (times (key_of h) hs ≡ 0 → without (key_of h) (hs ++ h ∷ []) ≡ hs) → cond t (hs ++ h ∷ []) (g ∷ without (key_of h) (hs ++ h ∷ [])) ≡ g ∷ hs
     bits true none rest = absurd (omega arith)
@@ -62,7 +62,7 @@ times-others j [] hs has = omega arith
 times-others j (k ∷ ks) hs has = omega (arith, times-without j k hs (has_first k ks hs has), times-others j ks (without k hs) (has_rest k ks hs has))
 
 pub times-picked : (j : Key) (ks : List Key) (hs : List Holding) → HasHolds ks hs → times j (picked ks hs) ≡ asked j ks
-times-picked j ks hs has = omega (arith, times-others j ks hs has, total-others (λ h. cond (is j h) 1 0) ks hs)
+times-picked j ks hs has = omega (arith, times-others j ks hs has, total-others (λ h. cond (means j h) 1 0) ks hs)
 
 pub others-append : (ks js : List Key) (hs : List Holding) → others (ks ++ js) hs ≡ others js (others ks hs)
 others-append [] js hs = refl

@@ -13,3 +13,4 @@ pub mod InWords
 pub mod AfterSteps
 pub mod Running
 pub mod Covering
+pub mod Still

@@ -47,6 +47,10 @@ module _ (P : Holding → Type 0) where
       go h p = dite (ℕ_discrete h.buffer b) (λ e. subst Q (sym (write-on b i x h e)) (here h e p)) (λ n. subst Q (sym (write-off b i x h n)) (else h n p))
 
 module _ (z : Sizes) (v : View) (s : IsSeat z v) where
+  -- a buffer that is held is one of the pool's
+  pub held-near : (b : ℕ) → 0 < total (at b) v.holds → b < buffers z
+  held-near b has = let n = first_is (IsNearby z) b v.holds s.near has in omega (arith, n.1, n.3.0)
+
   pub front-short : (b : ℕ) → 0 < total (at b) v.holds → length (front_of b v.holds) ≤ room z b
   front-short b has = let n = first_is (IsNearby z) b v.holds s.near has in omega (arith, ap length n.2, n.3.1, ap (λ (k : ℕ). room z k) n.1)
 

@@ -6,11 +6,11 @@ use Rattle.pinned_pool.specs.Views.{view}
 use Rattle.pinned_pool.specs.declared.view.View.{View}
 
 -- the hold is of the key's buffer, and pinned or not as the key says
-abbrev pub is : Key → Holding → Bool
-is k h = if h.buffer == k.buffer then (if k.pinned then h.pinned else not h.pinned) else false
+abbrev pub means : Key → Holding → Bool
+means k h = if h.buffer == k.buffer then (if k.pinned then h.pinned else not h.pinned) else false
 
-abbrev pub is_key : Key → Key → Bool
-is_key k j = if j.buffer == k.buffer then (if k.pinned then j.pinned else not j.pinned) else false
+abbrev pub same_key : Key → Key → Bool
+same_key k j = if j.buffer == k.buffer then (if k.pinned then j.pinned else not j.pinned) else false
 
 abbrev pub key_of : Holding → Key
 key_of h = record { buffer = h.buffer; pinned = h.pinned }
@@ -18,11 +18,11 @@ key_of h = record { buffer = h.buffer; pinned = h.pinned }
 -- the first hold that is meant, if there is one
 abbrev pub first : Key → List Holding → List Holding
 first k [] = []
-first k (h ∷ hs) = if is k h then h ∷ [] else first k hs
+first k (h ∷ hs) = if means k h then h ∷ [] else first k hs
 
 abbrev pub without : Key → List Holding → List Holding
 without k [] = []
-without k (h ∷ hs) = if is k h then hs else h ∷ without k hs
+without k (h ∷ hs) = if means k h then hs else h ∷ without k hs
 
 -- a hold for each key, each once, and the other holds
 abbrev pub picked : List Key → List Holding → List Holding
@@ -35,11 +35,11 @@ others (k ∷ ks) hs = others ks (without k hs)
 
 -- how many holds are meant
 abbrev pub times : Key → List Holding → ℕ
-times k hs = total (λ h. if is k h then 1 else 0) hs
+times k hs = total (λ h. if means k h then 1 else 0) hs
 
 -- how often a key is asked for
 abbrev pub asked : Key → List Key → ℕ
-asked k ks = total (λ j. if is_key k j then 1 else 0) ks
+asked k ks = total (λ j. if same_key k j then 1 else 0) ks
 
 -- there is a hold for each key, with repeats
 abbrev pub HasHolds : List Key → List Holding → Type 0

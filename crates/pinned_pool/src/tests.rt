@@ -1,6 +1,8 @@
-ghost use Rattle.std.specs.Prelude.{◌≡◌, true, false, ◌+◌, ◌<◌, [], ◌∷◌, IfSome};
-ghost use Rattle.pinned_pool.specs.Moves.{times};
-ghost use Rattle.pin_core.specs.Buffers.{buffers};
+ghost use Rattle.std.specs.Prelude.{◌≡◌, true, false, ◌+◌, ◌<◌, ◌≤◌, [], ◌∷◌, length, IfSome};
+ghost use Rattle.view_sums.specs.Total.{total};
+ghost use Rattle.pin_core.specs.Holding.{sole_at};
+ghost use Rattle.pinned_pool.specs.Moves.{times, front_of};
+ghost use Rattle.pin_core.specs.Buffers.{buffers, room};
 
 use crate::{
     Class, Held, Hold, Memory, NoBuffer, Pool, PoolBlank, PoolName, PoolSeat, PoolSeats, Unpinned,
@@ -295,6 +297,9 @@ fn pin_by_two<N: PoolName + Send + Sync, R: Threads + Sync>(
         move || pin_own(shared, first, third, hold, count),
         move || pin_own(shared, second, fourth, pinned, count),
     );
+    if hold.pinned() || !pinned.pinned() {
+        return None;
+    }
     let others = (third, fourth);
     Some(close_all(pool, first, second, others, hold, pinned))
 }
@@ -384,5 +389,43 @@ fn seats_of(alloc: Global, blank: PoolBlank) -> Result<[usize; 4], Memory>
 fn seats_go_into_a_list(rt: HostRuntime) -> Result<(), Fail> {
     let blank = PoolBlank::open(rt.alloc(), 1, 0, 3)?;
     assert!(rt; seats_of(rt.alloc(), blank)? == [0, 2, 2, 1]);
+    Ok(())
+}
+
+// Writes so many words, each twice its index.
+#[tactic(auto, using(crate::proofs::Still::seat_steps))]
+fn fill<N: PoolName>(pool: &Pool<N>, seat: &mut PoolSeat<N>, hold: &Hold<N>, count: u32)
+    requires sole { 0 < total (sole_at hold.now.buffer) seat.old.holds }
+    requires count { count ≤ room N.sizes hold.now.buffer }
+    ensures sole { 0 < total (sole_at hold.now.buffer) seat.new.holds }
+    ensures front { count ≤ length (front_of hold.now.buffer seat.new.holds) }
+{
+    for k in 0..count {
+        pool.put_word(seat, hold, k, 2 * u64::from(k));
+    }
+}
+
+// The last words of a buffer of each class that was filled.
+#[tactic(auto, using(crate::proofs::Still::seat_steps))]
+fn fill_both<N: PoolName>(blank: PoolBlank) -> Option<[u64; 2]>
+    requires { (blank.table ≡ N.table) × (blank.sizes ≡ N.sizes) }
+{
+    let (pool, mut seat) = blank.name::<N>();
+    let small = pool.claim(&mut seat, Class::Small).ok()?;
+    fill(&pool, &mut seat, &small, 64);
+    let last = pool.load_word(&mut seat, &small, 63);
+    let large = pool.claim(&mut seat, Class::Large).ok()?;
+    fill(&pool, &mut seat, &large, 512);
+    Some([last, pool.load_word(&mut seat, &large, 511)])
+}
+
+fn last_words(blank: PoolBlank) -> Option<[u64; 2]> {
+    fill_both::<Brand>(blank)
+}
+
+#[test]
+fn fills_whole_buffers(rt: HostRuntime) -> Result<(), Fail> {
+    let words = last_words(PoolBlank::open(rt.alloc(), 3, 2, 1)?);
+    assert!(rt; words == Some([126, 1022]));
     Ok(())
 }

@@ -51,17 +51,18 @@ impl<N: PoolName> Pool<N> {
 
     fn load_as<W: Place>(&self, seat: &mut PoolSeat<N>, buffer: u32, index: u32) -> u64
         requires place { (W.buffer ≡ buffer) × (W.index ≡ index) }
-        requires held { (buffer < buffers N.sizes) × (0 < total (at buffer) seat.old.holds) }
+        requires held { 0 < total (at buffer) seat.old.holds }
         requires index { index < length (front_of buffer seat.old.holds) }
         ensures { (seat.new ≡ seat.old) × (result ≡ slice_index (front_of buffer seat.old.holds) index) }
     {
-        let at = self.word_of(buffer, index);
-        self.table.shared.load::<Load<W>>(&mut seat.seat, at)
+        let at = &mut seat.seat;
+        let word = self.word_of(buffer, index);
+        self.table.shared.load::<Load<W>>(at, word)
     }
 
     /// A word of the front of a buffer that the seat holds.
     pub fn load_at(&self, seat: &mut PoolSeat<N>, buffer: u32, index: u32) -> u64
-        requires held { (buffer < buffers N.sizes) × (0 < total (at buffer) seat.old.holds) }
+        requires held { 0 < total (at buffer) seat.old.holds }
         requires index { index < length (front_of buffer seat.old.holds) }
         ensures { (seat.new ≡ seat.old) × (result ≡ slice_index (front_of buffer seat.old.holds) index) }
     {
