@@ -1,0 +1,16 @@
+pub mod Keys
+pub mod Fronts
+pub mod Listed
+pub mod Events
+pub mod Keeps
+pub mod StepKinds
+pub mod Steps
+pub mod Within
+pub mod Names
+pub mod Looks
+pub mod Closing
+pub mod InWords
+pub mod AfterSteps
+pub mod Running
+pub mod Covering
+pub mod Still

@@ -1,0 +1,25 @@
+-- The looks of a claim that goes over the buffers of a class.
+use Rattle.std.proofs.Common.{◌≡◌, ℕ, suc, ◌+◌, ◌<◌, List, [], ◌∷◌, ◌++◌, length, sym, refl, ap, ◌∙◌, subst, append_assoc, append-nil, length-append, arith}
+use Rattle.pinned_pool.specs.Moves.{lost}
+use Rattle.pinned_pool.specs.Claims.{LooksFrom, Passed}
+use Rattle.pinned_pool.specs.declared.view.View.{View}
+
+pub passed_none : (b : ℕ) (v : View) → Passed b 0 v v
+passed_none b v = record { looks = []; from = tt; count = refl; seat = ap (λ (ls : List (ℕ × ℕ)). record v { looks = ls }) (sym (append-nil v.looks)) }
+
+looks_more : (b found n : ℕ) (ls : List (ℕ × ℕ)) → LooksFrom b ls → length ls ≡ n → 0 < found → LooksFrom b (ls ++ (b + n, found) ∷ [])
+looks_more b found n [] all len more = (omega arith, more, tt)
+looks_more b found n (l ∷ ls) all len more =
+    (all.0, all.1, subst (λ m. LooksFrom (suc b) (ls ++ (m, found) ∷ [])) (omega arith) (looks_more (suc b) found (length ls) ls all.2 refl more))
+
+pub passed_more : (b n found : ℕ) (v u w : View) → Passed b n v u → 0 < found → w ≡ lost (b + n) found u → Passed b (n + 1) v w
+passed_more b n found v u w p more e = record {
+  looks = p.looks ++ (b + n, found) ∷ [];
+  from = looks_more b found n p.looks p.from p.count more;
+  count = length-append p.looks ((b + n, found) ∷ []) ∙ omega (arith, p.count);
+  seat = e ∙ ap (lost (b + n) found) p.seat ∙ ap (λ (ls : List (ℕ × ℕ)). record v { looks = ls }) (append_assoc v.looks p.looks ((b + n, found) ∷ []));
+}
+
+-- the seats between change nothing that a win asks about
+pub passed-holds : (b n : ℕ) (v u : View) → Passed b n v u → u.holds ≡ v.holds
+passed-holds b n v u p = ap (λ (w : View). w.holds) p.seat

@@ -1,0 +1,28 @@
+-- What a pool's name says of its table.
+use Rattle.std.proofs.Common.{◌≡◌, ℕ, ◌<◌, sym, ◌∙◌, ap, subst, arith}
+use Rattle.atomic_table.specs.Seated.{TableId}
+use Rattle.pin_core.specs.Buffers.{buffers, room}
+use Rattle.pin_core.specs.declared.sizes.Sizes.{Sizes}
+use Rattle.pin_core.proofs.Places.{place-within}
+use Rattle.pinned_pool.specs.Rule.{word_at}
+use Rattle.pinned_pool.specs.Named.{IsPoolOf}
+
+module _ (table id : TableId) (sizes key : Sizes) (p : IsPoolOf table sizes id key) where
+  pub near : (b : ℕ) → b < buffers sizes → (b < buffers key) × (b < id.words)
+  near b h = let e = ap buffers p.sizes_are in (omega (arith, e, h), omega (arith, e, h, p.words))
+
+  pub some_word : 0 < id.words
+  some_word = omega (arith, p.words, p.some)
+
+  -- a data word stands where the table's own sizes have it
+  pub record DataWord (b i k : ℕ) : Type 0 where
+    pub inside : k < id.words
+    pub place : k ≡ word_at key b i
+    pub fits : i < room key b
+
+  pub data_word : (b i k : ℕ) → b < buffers sizes → i < room sizes b → k ≡ word_at sizes b i → DataWord b i k
+  data_word b i k h fits e =
+      let back = sym p.sizes_are in
+      let there : k ≡ word_at key b i = e ∙ ap (λ (z : Sizes). word_at z b i) back in
+      let fits' : i < room key b = subst (λ (z : Sizes). i < room z b) back fits in
+      record { inside = omega (arith, there, p.words, place-within key b i (near b h).0 fits'); place = there; fits = fits' }

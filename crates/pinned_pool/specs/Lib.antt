@@ -1,0 +1,13 @@
+pub mod Views
+pub mod Moves
+pub mod Rule
+pub mod Plays
+pub mod Claims
+pub mod Named
+pub mod Blanks
+pub mod Ends
+pub mod StepKinds
+pub mod InWords
+pub mod Addresses
+pub mod Seats
+pub mod Runs

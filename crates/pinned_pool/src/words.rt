@@ -1,0 +1,80 @@
+//! The data words of a buffer, under a hold.
+ghost use Rattle.std.specs.Prelude.{◌≡◌, ◌+◌, ◌<◌, ◌≤◌, length, slice_index};
+ghost use Rattle.view_sums.specs.Total.{total};
+ghost use Rattle.pin_core.specs.Buffers.{buffers, room};
+ghost use Rattle.pin_core.specs.Holding.{at, sole_at};
+ghost use Rattle.pinned_pool.specs.Rule.{word_at};
+ghost use Rattle.pinned_pool.specs.Moves.{put, front_of};
+
+use crate::hold::Hold;
+use crate::name::PoolName;
+use crate::plays::{Load, Place, Put};
+use crate::pool::Pool;
+use crate::seat::PoolSeat;
+use std::marker::Brand;
+
+impl<N: PoolName> Pool<N> {
+    // Where a buffer's data word stands in the table.
+    fn word_of(&self, buffer: u32, index: u32) -> usize
+        requires { buffer < buffers N.sizes }
+        ensures { result ≡ word_at N.sizes buffer index }
+    {
+        let buffer = buffer as usize;
+        let small = self.small as usize;
+        let large = self.large as usize;
+        let first = if buffer < small {
+            64 * buffer
+        } else {
+            64 * small + 512 * (buffer - small)
+        };
+        small + large + first + index as usize
+    }
+
+    fn put_as<W: Place>(&self, seat: &mut PoolSeat<N>, hold: &Hold<N>, index: u32, word: u64)
+        requires place { (W.buffer ≡ hold.now.buffer) × (W.index ≡ index) }
+        requires exclusive { 0 < total (sole_at hold.now.buffer) seat.old.holds }
+        requires index { (index ≤ length (front_of hold.now.buffer seat.old.holds)) × (index < room N.sizes hold.now.buffer) }
+        ensures { seat.new ≡ put hold.now.buffer index word seat.old }
+    {
+        let at = self.word_of(hold.buffer, index);
+        self.table.shared.store::<Put<W>>(&mut seat.seat, at, word);
+    }
+
+    /// Writes the front's next word, or an earlier one, after which the front ends.
+    pub fn put_word(&self, seat: &mut PoolSeat<N>, hold: &Hold<N>, index: u32, word: u64)
+        requires exclusive { 0 < total (sole_at hold.now.buffer) seat.old.holds }
+        requires index { (index ≤ length (front_of hold.now.buffer seat.old.holds)) × (index < room N.sizes hold.now.buffer) }
+        ensures { seat.new ≡ put hold.now.buffer index word seat.old }
+    {
+        self.put_as::<Brand>(seat, hold, index, word);
+    }
+
+    fn load_as<W: Place>(&self, seat: &mut PoolSeat<N>, buffer: u32, index: u32) -> u64
+        requires place { (W.buffer ≡ buffer) × (W.index ≡ index) }
+        requires held { 0 < total (at buffer) seat.old.holds }
+        requires index { index < length (front_of buffer seat.old.holds) }
+        ensures { (seat.new ≡ seat.old) × (result ≡ slice_index (front_of buffer seat.old.holds) index) }
+    {
+        let at = &mut seat.seat;
+        let word = self.word_of(buffer, index);
+        self.table.shared.load::<Load<W>>(at, word)
+    }
+
+    /// A word of the front of a buffer that the seat holds.
+    pub fn load_at(&self, seat: &mut PoolSeat<N>, buffer: u32, index: u32) -> u64
+        requires held { 0 < total (at buffer) seat.old.holds }
+        requires index { index < length (front_of buffer seat.old.holds) }
+        ensures { (seat.new ≡ seat.old) × (result ≡ slice_index (front_of buffer seat.old.holds) index) }
+    {
+        self.load_as::<Brand>(seat, buffer, index)
+    }
+
+    /// A word of the hold's front.
+    pub fn load_word(&self, seat: &mut PoolSeat<N>, hold: &Hold<N>, index: u32) -> u64
+        requires held { 0 < total (at hold.now.buffer) seat.old.holds }
+        requires index { index < length (front_of hold.now.buffer seat.old.holds) }
+        ensures { (seat.new ≡ seat.old) × (result ≡ slice_index (front_of hold.now.buffer seat.old.holds) index) }
+    {
+        self.load_at(seat, hold.buffer(), index)
+    }
+}
