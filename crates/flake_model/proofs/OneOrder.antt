@@ -7,7 +7,7 @@ use Rattle.flake_model.specs.Store.{Operation}
 use Rattle.flake_model.specs.Command.{Command, parts}
 use Rattle.flake_model.specs.Journal.{call_steps, session_steps}
 use Rattle.flake_model.specs.OneThread.{entries_of, history_from}
-use Rattle.flake_model.specs.Order.{IsBefore, numbered, HasOneOrder}
+use Rattle.flake_model.specs.Order.{IsBefore, IsRising, numbered, HasOneOrder}
 use Rattle.flake_model.proofs.Streams.{all_append}
 use Rattle.flake_model.proofs.OneSession.{entry_at, entries_append}
 
@@ -15,11 +15,6 @@ use Rattle.flake_model.proofs.OneSession.{entry_at, entries_append}
 abbrev places : ℕ → List Entry → List ℕ
 places place [] = []
 places place (entry ∷ entries) = place ∷ places (place + 1) entries
-
--- each entry is before those behind it
-abbrev IsRising : List Entry → Type 0
-IsRising [] = Unit {0}
-IsRising (entry ∷ entries) = AllByRecursion (λ later. IsBefore entry later) entries × IsRising entries
 
 abbrev Among : {A : Type 0} → List A → A → Type 0
 Among [] x = ⊥
