@@ -1,0 +1,9 @@
+pub mod Pages
+pub mod Ranks
+pub mod Keeps
+pub mod Steps
+pub mod Owned
+pub mod Dealt
+pub mod Ends
+pub mod Gathered
+pub mod Shown
