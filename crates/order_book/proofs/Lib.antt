@@ -7,3 +7,6 @@ pub mod Dealt
 pub mod Ends
 pub mod Gathered
 pub mod Shown
+pub mod Numbers
+pub mod Among
+pub mod Ordered

@@ -2,7 +2,8 @@ use Rattle.std.proofs.Common.{◌≡◌, [], List, map, ◌∙◌, ap, refl, sym
 use Rattle.order_book.specs.Pages.{Page, ShardList, SessionList, shown_shard, shown_session}
 use Rattle.order_book.specs.Rule.{nobody}
 use Rattle.order_book.specs.Named.{shard_page, session_page}
-use Rattle.order_book.specs.Tied.{AreOne, AreClosed}
+use Rattle.order_book.specs.Tied.{AreOne}
+use Rattle.order_book.specs.Closed.{AreClosed}
 use Rattle.order_book.specs.declared.rule.Sizes.{Sizes}
 use Rattle.order_book.proofs.Owned.{some_word}
 use Rattle.order_book.proofs.Keeps.{comes}
