@@ -10,3 +10,5 @@ pub mod Shown
 pub mod Numbers
 pub mod Among
 pub mod Ordered
+pub mod Found
+pub mod Replayed
