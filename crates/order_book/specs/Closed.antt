@@ -1,6 +1,6 @@
 -- What the seats of a closed book have in common, and the journal that they make.
-use Rattle.std.specs.Prelude.{◌≡◌, ℕ, List, [], ◌∷◌, map, length, Some}
-use Rattle.std.specs.List.{flat_map}
+use Rattle.std.specs.Prelude.{◌≡◌, ◌==◌, ℕ, List, [], ◌∷◌, map, length, Some}
+use Rattle.std.specs.List.{filter}
 use Rattle.view_sums.specs.Total.{Each}
 use Rattle.flake_base.specs.declared.journal.Entry.{Entry}
 use Rattle.flake_model.specs.Store.{Answer}
@@ -52,3 +52,19 @@ pub record AreAnswered (commands : List (List Command)) (shards : List ShardList
 -- at each entry of the session the journal's replay answers what the session was told there, and nothing where it was told nothing
 abbrev pub IsReplayed : List (List Command) → List (List Entry) → SessionList → Type 0
 IsReplayed commands journal session = (entry : Entry) → entry.session ≡ session.number → answer_at entry (answers_of commands journal) ≡ answer_at entry (answers_in (own_deeds session))
+
+-- the shard's deeds of a session
+abbrev pub deeds_by : ℕ → ShardList → List Deed
+deeds_by session shard = filter (λ (deed : Deed). deed.entry.session == session) shard.told
+
+-- the session's deeds in a shard
+abbrev pub deeds_in : ℕ → SessionList → List Deed
+deeds_in shard session = map (λ (told : ℕ × Deed). told.1) (filter (λ (told : ℕ × Deed). told.0 == shard) session.told)
+
+-- the shard's deeds of the session are the session's deeds in that shard, in the same order; and so are the entries
+pub record IsShared (shard : ShardList) (session : SessionList) : Type 0 where
+  pub deeds : deeds_by session.number shard ≡ deeds_in shard.number session
+  pub entries : of_session session.number (entries_of shard.told) ≡ entries_of (deeds_in shard.number session)
+
+abbrev pub AreShared : List ShardList → List SessionList → Type 0
+AreShared shards sessions = Each (λ (shard : ShardList). Each (IsShared shard) sessions) shards
