@@ -1,11 +1,11 @@
 -- Legal deeds are what the replay of their entries gives.
-use Rattle.std.proofs.Common.{◌≡◌, ℕ, ◌<◌, ◌⊎◌, inl, inr, List, [], ◌∷◌, ◌++◌, Some, length, map, refl, ap, sym, ◌∙◌, subst, ⊎_elim, eqb, eq-eqb, arith}
+use Rattle.std.proofs.Common.{◌≡◌, ℕ, ◌<◌, inl, inr, List, [], ◌∷◌, ◌++◌, length, map, refl, ap, sym, ◌∙◌, subst, ⊎_elim, eqb, eq-eqb}
 use Rattle.std.specs.List.{flat_map}
 use Rattle.std.specs.FinMap as finite
 use Rattle.std.proofs.lemmas.List.{length-map}
 use Rattle.view_sums.specs.Total.{Each}
 use Rattle.flake_base.specs.declared.journal.Entry.{Entry}
-use Rattle.flake_model.specs.Store.{Store, Answer, answer, after}
+use Rattle.flake_model.specs.Store.{Store, Answer, after}
 use Rattle.flake_model.specs.Command.{Command}
 use Rattle.flake_model.specs.Deed.{Deed, Places, places_after, entries_of, answers_in, IsLegalFrom, IsLegal}
 use Rattle.flake_model.specs.Journal.{step_of, answers_from, answers_of, answer_at}
@@ -17,7 +17,7 @@ use Rattle.order_book.specs.Tied.{AreOne}
 use Rattle.order_book.specs.Closed.{AreClosed, AreRising, AreMeant, AreAnswered, IsReplayed, journal_of, own_deeds}
 use Rattle.order_book.specs.declared.rule.Sizes.{Sizes}
 use Rattle.order_book.proofs.Among.{each-among, among-each, among-append, among-left, among-right, among-filter, among-filtered, among-map, HasSource, among-mapped}
-use Rattle.order_book.proofs.Numbers.{HasPage, all_present}
+use Rattle.order_book.proofs.Numbers.{all_present}
 use Rattle.order_book.proofs.Found.{same_answer}
 use Rattle.order_book.proofs.Ordered.{entry_of, all-among, in_session, session_page_of, rising_shown}
 use Rattle.order_book.proofs.Shown.{map-map}
@@ -106,7 +106,7 @@ module _ (z : Sizes) (ps qs : List Page) (one : AreOne z ps qs) (shards : length
       let home = session_page_of z ps qs one sessions p from.source p_is from.among in
       let own = in_session z ps qs one sessions p home.found from.source p_is home.among from.among (sym home.number_is) in
       each-among _ (deeds_of home.found.deeds) d (each-among (λ (q : Page). AreMeant commands (deeds_of q.deeds)) qs home.found meant home.among)
-          (subst (λ (e : Deed). Among (deeds_of home.found.deeds) e) from.is (among-map (λ (x : Ranked). x.deed) home.found.deeds from.source own))))
+      (subst (λ (e : Deed). Among (deeds_of home.found.deeds) e) from.is (among-map (λ (x : Ranked). x.deed) home.found.deeds from.source own))))
 
   found_own : (q : Page) → Among qs q → IsRising (map entry_of q.deeds) → (entry : Entry) → entry.session ≡ q.number
       → answer_at entry (all_answers ps) ≡ answer_at entry (answers_in (deeds_of q.deeds))

@@ -1,9 +1,10 @@
 -- What seats show of their pages.
-use Rattle.std.proofs.Common.{◌≡◌, ℕ, zero, suc, ◌+◌, List, [], ◌∷◌, ◌++◌, length, map, sym, refl, ap, ◌∙◌, arith}
+use Rattle.std.proofs.Common.{◌≡◌, ℕ, zero, suc, ◌+◌, List, [], ◌∷◌, length, map, refl, ap, ◌∙◌, arith}
 use Rattle.std.specs.List.{range_with_len}
 use Rattle.std.proofs.lemmas.List.{map-append, length-map}
+use Rattle.view_sums.specs.Total.{Each}
 use Rattle.flake_model.specs.Deed.{Deed}
-use Rattle.order_book.specs.Pages.{Ranked, Page, page, deeds_of, placed, ShardList, SessionList, shown_shard, shown_session, new_shard, new_session, shard_with, session_with}
+use Rattle.order_book.specs.Pages.{Ranked, Page, page, deeds_of, ShardList, shown_shard, shown_session, new_shard, shard_with, session_with}
 use Rattle.order_book.specs.Rule.{empty_pages}
 use Rattle.order_book.specs.Plays.{added}
 
@@ -24,3 +25,8 @@ session-added p x = ap (λ (told : List (ℕ × Deed)). record { number = p.numb
 
 pub as_long : (xs : List Ranked) → length (deeds_of xs) ≡ length xs
 as_long xs = length-map xs (λ (x : Ranked). x.deed)
+
+-- a new book's shards have no deeds
+pub none_told : (n k : ℕ) → Each (λ (list : ShardList). list.told ≡ []) (map new_shard (range_with_len n k))
+none_told n zero = tt
+none_told n (suc k) = (refl, none_told (n + 1) k)
