@@ -7,7 +7,7 @@ use Rattle.flake_model.specs.Store.{Operation}
 use Rattle.flake_model.specs.Command.{Command, parts}
 use Rattle.flake_model.specs.Journal.{call_steps, session_steps}
 use Rattle.flake_model.specs.OneThread.{entries_of, history_from}
-use Rattle.flake_model.specs.Order.{IsBefore, numbered, HasOneOrder}
+use Rattle.flake_model.specs.Order.{IsBefore, IsRising, numbered, HasOneOrder}
 use Rattle.flake_model.proofs.Streams.{all_append}
 use Rattle.flake_model.proofs.OneSession.{entry_at, entries_append}
 
@@ -16,16 +16,12 @@ abbrev places : ℕ → List Entry → List ℕ
 places place [] = []
 places place (entry ∷ entries) = place ∷ places (place + 1) entries
 
--- each entry is before those behind it
-abbrev IsRising : List Entry → Type 0
-IsRising [] = Unit {0}
-IsRising (entry ∷ entries) = AllByRecursion (λ later. IsBefore entry later) entries × IsRising entries
-
-abbrev Among : {A : Type 0} → List A → A → Type 0
+-- the item stands in the list
+abbrev pub Among : {A : Type 0} → List A → A → Type 0
 Among [] x = ⊥
 Among (y ∷ ys) x = (y ≡ x) ⊎ Among ys x
 
-among : {A : Type 0} (xs : List A) (x : A) (k : ℕ) → k < length xs → slice_index_or xs k x ≡ x → Among xs x
+pub among : {A : Type 0} (xs : List A) (x : A) (k : ℕ) → k < length xs → slice_index_or xs k x ≡ x → Among xs x
 among [] x k below is = absurd (omega arith)
 among (y ∷ ys) x zero below is = inl is
 among (y ∷ ys) x (suc k) below is = inr (among ys x k (omega arith) is)
@@ -65,11 +61,11 @@ rising call [] = tt
 rising call (command ∷ commands) = subst IsRising (sym (entries_append (call_steps 0 call 0 (parts command)) (session_steps 0 (call + 1) commands)))
     (rising_before call 0 (parts command) commands (rising (call + 1) commands))
 
-before_itself : (a : Entry) → IsBefore a a → ⊥
+pub before_itself : (a : Entry) → IsBefore a a → ⊥
 before_itself a (inl less) = omega arith
 before_itself a (inr same) = omega (arith, same.1)
 
-both_ways : (a b : Entry) → IsBefore a b → IsBefore b a → ⊥
+pub both_ways : (a b : Entry) → IsBefore a b → IsBefore b a → ⊥
 both_ways a b (inl less) (inl more) = omega arith
 both_ways a b (inl less) (inr same) = omega (arith, same.0)
 both_ways a b (inr same) (inl more) = omega (arith, same.0)
