@@ -1,5 +1,5 @@
 -- The words of the command line.
-use Rattle.std.specs.Prelude.{ℕ, if◌then◌else◌, List, [], ◌∷◌, Option, Some, None, codes, map, string_bytes}
+use Rattle.std.specs.Prelude.{ℕ, if◌then◌else◌, List, [], ◌∷◌, Option, Some, None, IfSome, codes, map, string_bytes}
 use Rattle.std.specs.Prelude.{String}
 use Rattle.std.specs.Global.{Global}
 use Rattle.std.specs.Str.{bytes_eq}
@@ -13,3 +13,7 @@ file_of (command ∷ file ∷ more ∷ words) = None
 
 abbrev pub file_among : List (String Global) → Option (List ℕ)
 file_among words = file_of (map (λ word. string_bytes word) words)
+
+-- what holds of the named file's bytes, where the words name one and the host tells what it holds
+abbrev pub IfHeld : List (String Global) → (List ℕ → Option (List ℕ)) → (List ℕ → Type 0) → Type 0
+IfHeld words holds P = IfSome (file_among words) (λ name. IfSome (holds name) P)

@@ -1,11 +1,11 @@
 // The whole program, over any host and any wires.
-ghost use Rattle.std.specs.Prelude.{◌≡◌, ◌≢◌, ◌⊎◌, ◌↔◌, ◌<◌, ◌≤◌, ◌∷◌, List, [], ℕ, map, slice_index, length, All, IsNone, IsSome, IfSome, Some};
+ghost use Rattle.std.specs.Prelude.{◌≡◌, ◌≢◌, ◌⊎◌, ◌↔◌, ◌<◌, ◌≤◌, ◌∷◌, List, [], ℕ, map, slice_index, length, All, IsNone, IfSome};
 ghost use Rattle.flake_base.specs.Causes.{Rose};
 ghost use Rattle.flake_model.specs.Run.{WasServed};
 ghost use Rattle.flake_model.specs.Wire.{FaultsAre};
 ghost use Rattle.flake_program.specs.Built.{histories, IsServable, IsNotServable};
 ghost use Rattle.flake_program.specs.Told.{Says, text_of};
-ghost use Rattle.flake_program.specs.Words.{file_among};
+ghost use Rattle.flake_program.specs.Words.{file_among, IfHeld};
 
 use crate::outcome::{Detail, Opened, Outcome, Refusal};
 use crate::source::serve_source;
@@ -24,42 +24,59 @@ pub fn run<R, H: Host>(
 ) -> Outcome<H::In>
     // The headline: the journal has the served commands' parts, and the wire was sent the texts of the replies that
     // the journal's history gives.
-    ensures served { result.ends.items ≢ [] → IfSome (file_among words.now) (λ name. IfSome (H.holds host.old name) (λ bytes.
-        WasServed (bytes ∷ []) result.ends.items (histories result.journal.items) (map (λ w. sent w) wires.items) (map (λ w. sent w) result.wires.items))) }
-    ensures faults { result.ends.items ≢ [] → FaultsAre (map (λ end. end.failed) result.ends.items) (map (λ w. put_faults w) wires.items) (map (λ w. put_faults w) result.wires.items) }
-    ensures servable { result.ends.items ≢ [] → IfSome (file_among words.now) (λ name. IfSome (H.holds host.old name) IsServable) }
+    ensures served { result.ends.items ≢ [] → IfHeld words.now (H.holds host.old) (λ bytes.
+        WasServed (bytes ∷ []) result.ends.items (histories result.journal.items)
+        (map (λ w. sent w) wires.items) (map (λ w. sent w) result.wires.items)) }
+    ensures faults { result.ends.items ≢ [] → FaultsAre (map (λ end. end.failed) result.ends.items)
+        (map (λ w. put_faults w) wires.items) (map (λ w. put_faults w) result.wires.items) }
+    ensures servable { result.ends.items ≢ [] → IfHeld words.now (H.holds host.old) IsServable }
 
     // Something was served with 0 and 5, whole, and may have been with 6; with the others nothing was touched.
-    ensures ended { (result.status ≡ 0) ⊎ (result.status ≡ 5) → map (λ end. end.end) result.ends.items ≡ End.Clean ∷ [] }
+    ensures ended { (result.status ≡ 0) ⊎ (result.status ≡ 5)
+        → map (λ end. end.end) result.ends.items ≡ End.Clean ∷ [] }
     ensures one_end { length result.ends.items ≤ 1 }
-    ensures refused { (result.status ≡ 1) ⊎ (result.status ≡ 2) ⊎ (result.status ≡ 4) ⊎ (result.status ≡ 10) → result.ends.items ≡ [] }
-    ensures unserved { result.ends.items ≡ [] → (result.wires.items ≡ wires.items) × (result.journal.items ≡ []) }
+    ensures refused { (result.status ≡ 1) ⊎ (result.status ≡ 2) ⊎ (result.status ≡ 4) ⊎ (result.status ≡ 10)
+        → result.ends.items ≡ [] }
+    ensures unserved { result.ends.items ≡ []
+        → (result.wires.items ≡ wires.items) × (result.journal.items ≡ []) }
 
     // Each status has its cause.
-    ensures statuses { (result.status ≡ 0) ⊎ (result.status ≡ 1) ⊎ (result.status ≡ 2) ⊎ (result.status ≡ 4) ⊎ (result.status ≡ 5) ⊎ (result.status ≡ 6) ⊎ (result.status ≡ 10) }
+    ensures statuses { (result.status ≡ 0) ⊎ (result.status ≡ 1) ⊎ (result.status ≡ 2) ⊎ (result.status ≡ 4)
+        ⊎ (result.status ≡ 5) ⊎ (result.status ≡ 6) ⊎ (result.status ≡ 10) }
     ensures bad_words { (result.status ≡ 1) ↔ (IsNone (file_among words.now) ⊎ (wires.items ≡ [])) }
-    ensures open_fault { result.status ≡ 2 → IfSome (file_among words.now) (λ name. Rose (H.open_faults host.old name) (H.open_faults host.new name)) }
-    ensures no_open_fault { result.status ≢ 2 → result.status ≢ 6 → (name : List ℕ) → H.open_faults host.new name ≡ H.open_faults host.old name }
-    ensures read_fault { result.status ≡ 4 → All (λ opened. 0 < H.In.read_faults opened.source) result.sources.items }
-    ensures no_read_fault { result.status ≢ 4 → result.status ≢ 6 → All (λ opened. H.In.read_faults opened.source ≡ 0) result.sources.items }
+    ensures open_fault { result.status ≡ 2 → IfSome (file_among words.now) (λ name.
+        Rose (H.open_faults host.old name) (H.open_faults host.new name)) }
+    ensures no_open_fault { result.status ≢ 2 → result.status ≢ 6
+        → (name : List ℕ) → H.open_faults host.new name ≡ H.open_faults host.old name }
+    ensures read_fault { result.status ≡ 4
+        → All (λ opened. 0 < H.In.read_faults opened.source) result.sources.items }
+    ensures no_read_fault { result.status ≢ 4 → result.status ≢ 6
+        → All (λ opened. H.In.read_faults opened.source ≡ 0) result.sources.items }
     ensures write_fault { result.status ≡ 5 → Rose (H.say_faults host.old) (H.say_faults host.new)
-        ⊎ Rose (slice_index (map (λ w. put_faults w) wires.items) 0) (slice_index (map (λ w. put_faults w) result.wires.items) 0) }
-    ensures quiet { result.status ≡ 0 → (H.say_faults host.new ≡ H.say_faults host.old) × (map (λ w. put_faults w) result.wires.items ≡ map (λ w. put_faults w) wires.items) }
-    ensures not_built { result.status ≡ 10 → IfSome (file_among words.now) (λ name. IfSome (H.holds host.old name) IsNotServable) }
+        ⊎ Rose (slice_index (map (λ w. put_faults w) wires.items) 0)
+        (slice_index (map (λ w. put_faults w) result.wires.items) 0) }
+    ensures quiet { result.status ≡ 0 → (H.say_faults host.new ≡ H.say_faults host.old)
+        × (map (λ w. put_faults w) result.wires.items ≡ map (λ w. put_faults w) wires.items) }
+    ensures not_built { result.status ≡ 10 → IfHeld words.now (H.holds host.old) IsNotServable }
 
     // Nothing is refused without a cause: where the words are accepted, no count rose and memory was not wanting, an
     // input that can be served is.
     ensures complete { result.status ≢ 6 → wires.items ≢ [] → IfSome (file_among words.now) (λ name.
-        (Rose (H.open_faults host.old name) (H.open_faults host.new name) → ⊥) → All (λ opened. H.In.read_faults opened.source ≡ 0) result.sources.items
+        (Rose (H.open_faults host.old name) (H.open_faults host.new name) → ⊥)
+        → All (λ opened. H.In.read_faults opened.source ≡ 0) result.sources.items
         → (Rose (H.say_faults host.old) (H.say_faults host.new) → ⊥)
-        → (Rose (slice_index (map (λ w. put_faults w) wires.items) 0) (slice_index (map (λ w. put_faults w) result.wires.items) 0) → ⊥)
+        → (Rose (slice_index (map (λ w. put_faults w) wires.items) 0)
+        (slice_index (map (λ w. put_faults w) result.wires.items) 0) → ⊥)
         → IfSome (H.holds host.old name) (λ bytes. IsServable bytes → result.status ≡ 0)) }
 
     // What goes with the status.
-    ensures detail { ((result.status ≡ 2) ⊎ (result.status ≡ 4) → result.detail ≡ Detail.File 0) × (result.status ≢ 2 → result.status ≢ 4 → result.detail ≡ Detail.Nothing) }
-    ensures opened { (result.status ≡ 0) ⊎ (result.status ≡ 4) ⊎ (result.status ≡ 5) ⊎ (result.status ≡ 10) → map (λ opened. opened.file) result.sources.items ≡ 0 ∷ [] }
+    ensures detail { ((result.status ≡ 2) ⊎ (result.status ≡ 4) → result.detail ≡ Detail.File 0)
+        × (result.status ≢ 2 → result.status ≢ 4 → result.detail ≡ Detail.Nothing) }
+    ensures opened { (result.status ≡ 0) ⊎ (result.status ≡ 4) ⊎ (result.status ≡ 5) ⊎ (result.status ≡ 10)
+        → map (λ opened. opened.file) result.sources.items ≡ 0 ∷ [] }
     ensures sources { (length result.sources.items ≤ 1) × All (λ opened. opened.file ≡ 0) result.sources.items }
-    ensures said { result.status ≢ 6 → Says (text_of result.status result.ends.items) (H.said host.old) (H.said host.new) (H.say_faults host.old) (H.say_faults host.new) }
+    ensures said { result.status ≢ 6 → Says (text_of result.status result.ends.items)
+        (H.said host.old) (H.said host.new) (H.say_faults host.old) (H.say_faults host.new) }
 {
     let file = file_word(words);
     let none = Vec::new(alloc);
