@@ -78,3 +78,8 @@ abbrev pub Grows : Begun → Begun → Type 0
 Grows old new =
     ((more : List ℕ) × (texts new.words.items ≡ texts old.words.items) × (new.word.items ≡ old.word.items ++ more))
     ⊎ ((more : List ℕ) × (others : Words) × (texts new.words.items ≡ texts old.words.items ++ (old.word.items ++ more) ∷ others))
+
+-- The bytes have an error at this place behind the front.
+abbrev pub Breaks : Begun → List ℕ → Stop → Type 0
+Breaks begun bytes (Fault kind place) = IsFaulty (front_of begun ++ bytes) [] kind (length (front_of begun) + place)
+Breaks begun bytes Memory = Unit {0}

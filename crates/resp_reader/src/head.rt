@@ -113,6 +113,7 @@ pub fn line(digits: Digits, head: Head, bytes: &[u8]) -> Result<(Digits, Option<
     ensures allowed { IfOk result (λ line. IsDigits head line.0) }
     ensures ok { IfOk result (λ line. MatchOption line.1 (digits_text line.0 ≡ digits_text digits ++ bytes.now)
         (λ rest. IsWhole line.0 × (digits_text digits ++ bytes.now ≡ digits_text line.0 ++ 13 ∷ rest.now))) }
+    ensures shorter { IfOk result (λ line. IfSome line.1 (λ rest. length rest.now < length bytes.now)) }
     ensures err { IfErr result (LineFault head digits bytes.now) }
 {
     let Some(end) = memchr(b'\r', bytes) else {
