@@ -74,10 +74,13 @@ abbrev pub IsSound : Begun → Type 0
 IsSound begun = IsState begun.state (texts begun.words.items) begun.word.items
 
 -- The new words begin with the old, and what had come of the next one is still in front.
+abbrev pub GrowsFrom : Words → List ℕ → Words → List ℕ → Type 0
+GrowsFrom words word news new =
+    ((more : List ℕ) × (news ≡ words) × (new ≡ word ++ more))
+    ⊎ ((more : List ℕ) × (others : Words) × (news ≡ words ++ (word ++ more) ∷ others))
+
 abbrev pub Grows : Begun → Begun → Type 0
-Grows old new =
-    ((more : List ℕ) × (texts new.words.items ≡ texts old.words.items) × (new.word.items ≡ old.word.items ++ more))
-    ⊎ ((more : List ℕ) × (others : Words) × (texts new.words.items ≡ texts old.words.items ++ (old.word.items ++ more) ∷ others))
+Grows old new = GrowsFrom (texts old.words.items) old.word.items (texts new.words.items) new.word.items
 
 -- The bytes have an error at this place behind the front.
 abbrev pub Breaks : Begun → List ℕ → Stop → Type 0

@@ -1,7 +1,9 @@
 // Elements in pieces of any length.
 ghost use Rattle.std.specs.Prelude.{◌≡◌, ◌≢◌, ◌<◌, ◌≤◌, ◌+◌, ◌++◌, ◌∷◌, [], List, ℕ, length, IfOk, IfErr, OnOk, Err};
 ghost use Rattle.resp_reader.specs.Head.{IsDigits, IsWhole};
-ghost use Rattle.resp_reader.specs.Begun.{IsState, IsOpen, Moves, Stops, IsSound, front_of, Breaks, Grows};
+ghost use Rattle.resp_reader.specs.Begun.{IsState, IsOpen, Moves, Stops, IsSound, front_of, Breaks, GrowsFrom, Grows};
+ghost use Rattle.flake_model.specs.Resp.{Words};
+ghost use Rattle.resp_reader.specs.Front.{texts};
 ghost use Rattle.resp_reader.specs.declared.begun.Stop.TheVariants.{Memory as OutOfMemory};
 
 use crate::head::{Digits, Head, line};
@@ -67,6 +69,15 @@ pub struct Begun {
     pub words: Vec<Bytes>,
     /// What came of the next.
     pub word: Bytes,
+}
+
+/// How far an element came.
+#[derive(Clone, Copy)]
+pub struct Mark {
+    pub state: State,
+    pub words: usize,
+    /// How many bytes of the next word.
+    pub len: usize,
 }
 
 fn start(bytes: &[u8]) -> Result<(State, &[u8]), Stop>
@@ -171,6 +182,44 @@ impl Begun {
             state: State::Start,
             words: Vec::new(alloc),
             word: Bytes::new(alloc),
+        }
+    }
+
+    pub fn mark(&self) -> Mark
+        ensures state { result.state ≡ self.now.state }
+        ensures words { result.words ≡ length (texts self.now.words.items) }
+        ensures len { result.len ≡ length self.now.word.items }
+    {
+        Mark {
+            state: self.state,
+            words: self.words.len(),
+            len: self.word.len(),
+        }
+    }
+
+    /// Goes back to where the mark was made.
+    pub fn back(&mut self, mark: Mark)
+        ensures state { self.new.state ≡ mark.state }
+        ensures words { (words : Words) (word : List ℕ) → length words ≡ mark.words → length word ≡ mark.len
+            → GrowsFrom words word (texts self.old.words.items) self.old.word.items → (texts self.new.words.items ≡ words) × (self.new.word.items ≡ word) }
+    {
+        self.reopen(mark.words);
+        self.word.truncate(mark.len);
+        self.state = mark.state;
+    }
+
+    // Goes back to so many whole words, where there are more, with the next one open.
+    fn reopen(&mut self, count: usize)
+        ensures same { length self.old.words.items ≤ count → (self.new.words ≡ self.old.words) × (self.new.word ≡ self.old.word) }
+        ensures open { (words others : Words) (word : List ℕ) → length words ≡ count → texts self.old.words.items ≡ words ++ word ∷ others
+            → (texts self.new.words.items ≡ words) × (self.new.word.items ≡ word) }
+    {
+        if self.words.len() <= count {
+            return;
+        }
+        self.words.truncate(count + 1);
+        if let Some(word) = self.words.pop() {
+            self.word = word;
         }
     }
 
