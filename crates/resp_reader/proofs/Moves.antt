@@ -54,13 +54,13 @@ pub start_stops : (bytes : List ℕ) → 0 < length bytes → ((rest : List ℕ)
 start_stops bytes some none words word sound = fault_here [] bytes 42 4 (cut_in_null [] (element_text null_array) refl (lit< tt)) not_a_mark inline some none
 
 -- a count line can go on
-cut_count : (digits : Digits) → IsDigits Count digits → IsCutShort (42 ∷ digits_text digits)
+pub cut_count : (digits : Digits) → IsDigits Count digits → IsCutShort (42 ∷ digits_text digits)
 cut_count Nothing allowed = cut_in_null (42 ∷ []) (45 ∷ 49 ∷ 13 ∷ 10 ∷ []) refl (lit< tt)
 cut_count (Number n) allowed = cut_in_count n (decimal n) crlf allowed refl (lit< tt)
 cut_count Minus allowed = cut_in_null (42 ∷ 45 ∷ []) (49 ∷ 13 ∷ 10 ∷ []) refl (lit< tt)
 cut_count MinusOne allowed = cut_in_null (42 ∷ 45 ∷ 49 ∷ []) (13 ∷ 10 ∷ []) refl (lit< tt)
 
-cut_count_end : (digits : Digits) → IsDigits Count digits → IsWhole digits → IsCutShort (42 ∷ (digits_text digits ++ 13 ∷ []))
+pub cut_count_end : (digits : Digits) → IsDigits Count digits → IsWhole digits → IsCutShort (42 ∷ (digits_text digits ++ 13 ∷ []))
 cut_count_end Nothing allowed whole = absurd whole
 cut_count_end (Number n) allowed whole = cut_in_count n (decimal n ++ 13 ∷ []) (10 ∷ []) allowed (append_assoc (decimal n) (13 ∷ []) (10 ∷ [])) (lit< tt)
 cut_count_end Minus allowed whole = absurd whole
@@ -105,7 +105,7 @@ at_word_stops count bytes some none words word sound =
     (λ byte other. no_mark_in_array count words byte sound.0.most sound.0.allowed sound.0.less other) (at_word count words sound.0.less) some none
 
 -- a word of a length, with its text
-word_of : (len : ℕ) → len ≤ 1048576 → (word : List ℕ) × IsWord word × (bulk_string word ≡ 36 ∷ (decimal len ++ 13 ∷ 10 ∷ (word ++ crlf)))
+pub word_of : (len : ℕ) → len ≤ 1048576 → (word : List ℕ) × IsWord word × (bulk_string word ≡ 36 ∷ (decimal len ++ 13 ∷ 10 ∷ (word ++ crlf)))
 word_of len most =
     let word : List ℕ = replicate len 0 in
     let is : length word ≡ len = length-replicate len 0 in
@@ -113,7 +113,7 @@ word_of len most =
     (word, omega arith, shape ∙ ap (λ n. 36 ∷ (decimal n ++ 13 ∷ 10 ∷ (word ++ crlf))) is)
 
 -- a length line is the front of a word
-length_begins : (digits : Digits) → IsDigits Length digits → (word : List ℕ) × (more : List ℕ) × IsWord word × (bulk_string word ≡ 36 ∷ digits_text digits ++ more) × (0 < length more)
+pub length_begins : (digits : Digits) → IsDigits Length digits → (word : List ℕ) × (more : List ℕ) × IsWord word × (bulk_string word ≡ 36 ∷ digits_text digits ++ more) × (0 < length more)
 length_begins Nothing allowed = let found = word_of 0 (lit≤ tt) in (found.0, decimal 0 ++ 13 ∷ 10 ∷ (found.0 ++ crlf), found.1, found.2, omega (arith, length-append (decimal 0) (13 ∷ 10 ∷ (found.0 ++ crlf))))
 length_begins (Number n) allowed = let found = word_of n allowed in (found.0, 13 ∷ 10 ∷ (found.0 ++ crlf), found.1, found.2, omega arith)
 length_begins Minus allowed = absurd allowed

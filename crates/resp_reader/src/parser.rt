@@ -1,13 +1,15 @@
 // Elements behind one another, in pieces of any length.
-ghost use Rattle.std.specs.Prelude.{◌≡◌, ◌<◌, ◌≤◌, ◌+◌, ◌++◌, ◌∷◌, [], List, ℕ, length, IfOk, OnOk, OnErr, IfErr};
+ghost use Rattle.std.specs.Prelude.{◌≡◌, ◌≢◌, ◌<◌, ◌≤◌, ◌+◌, ◌++◌, ◌∷◌, [], List, ℕ, length, IfOk, OnOk, OnErr, IfErr, Some, None};
 ghost use Rattle.std.specs.Option.{option_to_list};
 ghost use Rattle.flake_model.specs.Resp.{Words, array, request_of, judged_bytes};
 ghost use Rattle.resp_reader.specs.Front.{texts};
 ghost use Rattle.resp_reader.specs.Begun.{front_of, IsSound, IsOpen, Breaks, GrowsFrom, Grows};
 ghost use Rattle.resp_reader.specs.Parser.{IsKept, TakesTo, CanGoBack, IsBack, IsMark, StopsAt};
+ghost use Rattle.resp_reader.specs.Reader.{error_at, Reads, progress};
+ghost use Rattle.resp_reader.specs.Errors.{HasError};
 ghost use Rattle.resp_reader.specs.declared.parser.Parser.{Parser};
 
-use crate::Request;
+use crate::{ReadError, Request};
 use crate::begun::{Begun, Mark, State, Stop};
 use std::alloc::Global;
 use std::collections::VecDeque;
@@ -25,6 +27,20 @@ pub struct Parser {
     pub place: u64,
 }
 
+/// How many bytes of an input are judged: 64 MiB.
+const JUDGED: u64 = 67_108_864;
+
+fn fault(kind: u8, place: u64) -> ReadError
+    ensures { result ≡ error_at kind place }
+{
+    match kind {
+        1 => ReadError::BadCount { place },
+        2 => ReadError::ExpectedBulk { place },
+        3 => ReadError::BadLength { place },
+        _ => ReadError::Inline { place },
+    }
+}
+
 impl Parser {
     pub fn new(alloc: Global) -> Self
         ensures kept { IsKept result }
@@ -38,6 +54,42 @@ impl Parser {
             begun: Begun::new(alloc),
             taken: 0,
             place: 0,
+        }
+    }
+
+    /// Takes a piece, as far as it is judged.
+    pub fn feed(&mut self, piece: &[u8]) -> Result<(), ReadError>
+        requires { IsKept self.old }
+        ensures kept { OnOk result (IsKept self.new) }
+        ensures ok { OnOk result ((bytes : List ℕ) (given : List Words) → Reads bytes given (progress self.old None)
+            → Reads (bytes ++ piece.now) given (progress self.new None)) }
+        ensures err { IfErr result (λ e. e ≢ ReadError.Memory → (bytes : List ℕ) (given : List Words) → Reads bytes given (progress self.old None)
+            → Reads (bytes ++ piece.now) given (progress self.new (Some e))) }
+        ensures memory { IfErr result (λ e. e ≡ ReadError.Memory → IsBack self.old self.new) }
+    {
+        let left = JUDGED - self.taken;
+        if piece.len() as u64 <= left {
+            return self.judge(piece);
+        }
+        let (piece, _) = piece.split_at(left as usize);
+        self.judge(piece)?;
+        Err(ReadError::TooLong { taken: JUDGED })
+    }
+
+    // Takes a piece that is judged whole.
+    fn judge(&mut self, piece: &[u8]) -> Result<(), ReadError>
+        requires kept { IsKept self.old }
+        requires judged { self.old.taken + length piece.now ≤ judged_bytes }
+        ensures ok { OnOk result (TakesTo self.old self.new piece.now []) }
+        ensures kept { OnOk result (IsKept self.new) }
+        ensures err { IfErr result (λ e. e ≢ ReadError.Memory → HasError self.old self.new piece.now e) }
+        ensures memory { IfErr result (λ e. e ≡ ReadError.Memory → IsBack self.old self.new) }
+    {
+        let fed = self.taken;
+        match self.take(piece) {
+            Ok(()) => Ok(()),
+            Err(Stop::Memory) => Err(ReadError::Memory),
+            Err(Stop::Fault { kind, place }) => Err(fault(kind, fed + place as u64)),
         }
     }
 
