@@ -1,18 +1,19 @@
 -- What was fed in all, from piece to piece.
-use Rattle.std.proofs.Common.{◌≡◌, ◌≢◌, ℕ, ◌+◌, ◌-◌, ◌<◌, ◌≤◌, ◌⊎◌, inl, inr, List, [], ◌∷◌, ◌++◌, Option, Some, None, length, take, drop, arith, refl, ap, sym, ◌∙◌, subst, append_assoc, append-nil, length-append}
-use Rattle.std.specs.Prelude.{Result, Ok, Err, OnOk, IfErr}
+use Rattle.std.proofs.Common.{◌≡◌, ◌≢◌, ℕ, ◌+◌, ◌-◌, ◌<◌, ◌≤◌, ◌⊎◌, inl, inr, List, [], ◌∷◌, ◌++◌, Option, Some, None, length, take, drop, arith, refl, ap, sym, ◌∙◌, subst, append_assoc, append-nil, length-append, lit<}
+use Rattle.std.specs.Prelude.{Result, Ok, Err, OnOk, IfErr, MatchOption}
 use Rattle.std.proofs.lemmas.List.{take_all, take-append-le, take-append-drop, length-take-le, length-drop}
 use Rattle.std.proofs.lemmas.Bool.{cases_lt}
 use Rattle.std.proofs.Math.Seq.{take-append-add}
 use Rattle.flake_base.specs.declared.session.End.TheVariants as ends
-use Rattle.flake_model.specs.Resp.{Words, Element, IsElement, AllElements, stream, requests_of, IsCutShort, FaultKind, inline, in_count, at_word, in_word, IsClean, IsTruncated, IsFaulty, judged_bytes, Parses}
+use Rattle.flake_model.specs.Resp.{Words, Element, null_array, element_text, IsElement, AllElements, stream, requests_of, IsCutShort, FaultKind, inline, in_count, at_word, in_word, IsClean, IsTruncated, IsFaulty, judged_bytes, Parses}
+use Rattle.flake_model.proofs.Fronts.{cut_in_null}
 use Rattle.flake_model.proofs.Streams.{all_append, stream-append, requests_of-append}
 use Rattle.resp_reader.specs.declared.error.ReadError.{ReadError}
 use Rattle.resp_reader.specs.declared.error.ReadError.TheVariants.{BadCount, ExpectedBulk, BadLength, Inline, TooLong, Memory}
 use Rattle.resp_reader.specs.declared.parser.Parser.{Parser}
 use Rattle.resp_reader.specs.Begun.{front_of}
 use Rattle.resp_reader.specs.Parser.{IsKept, TakesTo, HasFault}
-use Rattle.resp_reader.specs.Reader.{end_of, IsTaken, error_at, IsReadTo, Reads, progress}
+use Rattle.resp_reader.specs.Reader.{end_of, IsTaken, error_at, Progress, IsReadTo, Reads, progress}
 use Rattle.resp_reader.specs.Errors.{HasError}
 use Rattle.resp_reader.proofs.Parsers.{faulty_behind}
 use Rattle.resp_reader.proofs.Cuts.{cut_short}
@@ -121,3 +122,99 @@ failed_on (Ok x) old new piece kept judged found = tt
 failed_on (Err e) old new piece kept judged found = λ other bytes given read.
     let all : take (judged_bytes - old.taken) piece ≡ piece = take_all (judged_bytes - old.taken) piece (omega arith) in
     error_on bytes given old new piece e kept read (subst (λ p. HasError old new p e) (sym all) (found other))
+
+-- more bytes behind an error
+faulty_more : (bytes more : List ℕ) (requests : List Words) (kind place : ℕ) → IsFaulty bytes requests kind place → IsFaulty (bytes ++ more) requests kind place
+faulty_more bytes more requests kind place fault = record {
+  elements = fault.elements;
+  front = fault.front;
+  byte = fault.byte;
+  more = fault.more ++ more;
+  allowed = fault.allowed;
+  begun = fault.begun;
+  refused = fault.refused;
+  bytes_are = ap (λ b. b ++ more) fault.bytes_are ∙ append_assoc (stream fault.elements ++ fault.front) (fault.byte ∷ fault.more) more;
+  requests_are = fault.requests_are;
+  place_is = fault.place_is;
+  kind_is = fault.kind_is;
+}
+
+still_faulty : (bytes piece : List ℕ) (requests : List Words) (kind place : ℕ) → Parses bytes requests (ends.Protocol kind place) → Parses (bytes ++ piece) requests (ends.Protocol kind place)
+still_faulty bytes piece requests kind place fault =
+    elim (cases_lt (length bytes) judged_bytes) [
+      inl short ↦ (
+        let whole : IsFaulty bytes requests kind place = subst (λ b. IsFaulty b requests kind place) (take_all judged_bytes bytes (omega arith)) fault in
+        subst (λ b. IsFaulty b requests kind place) (sym (judged_on bytes piece (omega arith))) (faulty_more bytes (take (judged_bytes - length bytes) piece) requests kind place whole))
+      | inr long ↦ subst (λ b. IsFaulty b requests kind place) (sym (take-append-le judged_bytes bytes piece long)) fault
+    ]
+
+still_too_long : (bytes piece : List ℕ) (requests : List Words) → Parses bytes requests ends.TooLong → Parses (bytes ++ piece) requests ends.TooLong
+still_too_long bytes piece requests (long, parsed) =
+    (omega (arith, length-append bytes piece),
+        subst (λ b. IsClean b requests ⊎ ((place : ℕ) × IsTruncated b requests place)) (sym (take-append-le judged_bytes bytes piece (omega arith))) parsed)
+
+-- an input that has an error has it whatever is behind
+pub still_closed : (bytes piece : List ℕ) (requests : List Words) (error : ReadError) → IsTaken error → Parses bytes requests (end_of error) → Parses (bytes ++ piece) requests (end_of error)
+still_closed bytes piece requests (BadCount place) taken parsed = still_faulty bytes piece requests 1 place parsed
+still_closed bytes piece requests (ExpectedBulk place) taken parsed = still_faulty bytes piece requests 2 place parsed
+still_closed bytes piece requests (BadLength place) taken parsed = still_faulty bytes piece requests 3 place parsed
+still_closed bytes piece requests (Inline place) taken parsed = still_faulty bytes piece requests 4 place parsed
+still_closed bytes piece requests (TooLong taken) is parsed = still_too_long bytes piece requests parsed
+still_closed bytes piece requests Memory taken parsed = absurd taken
+
+-- a closed reader
+pub closed_on : (bytes : List ℕ) (given : List Words) (reader : Progress) (piece : List ℕ) (error : ReadError) → reader.closed ≡ Some error → Reads bytes given reader → Reads (bytes ++ piece) given reader
+closed_on bytes given reader piece error closed read =
+    let requests = given ++ reader.requests in
+    let known : IsTaken error × Parses bytes requests (end_of error) =
+        subst (λ c. MatchOption c (IsReadTo bytes requests reader.place reader.front) (λ e. IsTaken e × Parses bytes requests (end_of e))) closed read in
+    subst (λ c. MatchOption c (IsReadTo (bytes ++ piece) requests reader.place reader.front) (λ e. IsTaken e × Parses (bytes ++ piece) requests (end_of e))) (sym closed)
+    (known.0, still_closed bytes piece requests error known.0 known.1)
+
+-- a request was given
+pub given_on : (bytes : List ℕ) (given : List Words) (old new : Progress) (some : List Words) → old.requests ≡ some ++ new.requests → new.front ≡ old.front → new.place ≡ old.place → new.closed ≡ old.closed
+    → Reads bytes given old → Reads bytes (given ++ some) new
+given_on bytes given old new some requests front place closed read =
+    let all : given ++ old.requests ≡ (given ++ some) ++ new.requests = ap (λ r. given ++ r) requests ∙ sym (append_assoc given some new.requests) in
+    subst (λ c. MatchOption c (IsReadTo bytes ((given ++ some) ++ new.requests) new.place new.front) (λ e. IsTaken e × Parses bytes ((given ++ some) ++ new.requests) (end_of e))) (sym closed)
+    (subst (λ f. MatchOption old.closed (IsReadTo bytes ((given ++ some) ++ new.requests) new.place f) (λ e. IsTaken e × Parses bytes ((given ++ some) ++ new.requests) (end_of e))) (sym front)
+    (subst (λ p. MatchOption old.closed (IsReadTo bytes ((given ++ some) ++ new.requests) p old.front) (λ e. IsTaken e × Parses bytes ((given ++ some) ++ new.requests) (end_of e))) (sym place)
+    (subst (λ r. MatchOption old.closed (IsReadTo bytes r old.place old.front) (λ e. IsTaken e × Parses bytes r (end_of e))) all read)))
+
+-- nothing was fed
+pub nothing_fed : (reader : Progress) → reader.requests ≡ [] → reader.front ≡ [] → reader.place ≡ 0 → reader.closed ≡ None → Reads [] [] reader
+nothing_fed reader requests front place closed =
+    let start : IsReadTo [] reader.requests reader.place reader.front = record {
+      elements = [];
+      allowed = tt;
+      judged = omega arith;
+      bytes_are = sym front;
+      requests_are = requests;
+      place_is = place;
+      cut_short = subst IsCutShort (sym front) (cut_in_null [] (element_text null_array) refl (lit< tt));
+    } in
+    subst (λ c. MatchOption c (IsReadTo [] reader.requests reader.place reader.front) (λ e. IsTaken e × Parses [] reader.requests (end_of e))) (sym closed) start
+
+-- what was fed is the whole input
+pub input_ends : (bytes : List ℕ) (given : List Words) (reader : Progress) → reader.closed ≡ None → Reads bytes given reader
+    → ((reader.front ≡ []) × Parses bytes (given ++ reader.requests) ends.Clean) ⊎ ((0 < length reader.front) × Parses bytes (given ++ reader.requests) (ends.Truncated reader.place))
+input_ends bytes given reader closed read =
+    let requests = given ++ reader.requests in
+    let known : IsReadTo bytes requests reader.place reader.front =
+        subst (λ c. MatchOption c (IsReadTo bytes requests reader.place reader.front) (λ e. IsTaken e × Parses bytes requests (end_of e))) closed read in
+    elim (read_ends bytes requests reader.place reader.front known) [
+      inl whole ↦ inl (whole.0, (known.judged, whole.1))
+      | inr cut ↦ inr (cut.0, (known.judged, cut.1))
+    ]
+
+pub clean_end : (bytes : List ℕ) (given : List Words) (reader : Progress) → reader.closed ≡ None → length reader.front ≡ 0 → Reads bytes given reader → Parses bytes (given ++ reader.requests) ends.Clean
+clean_end bytes given reader closed none read =
+    elim (input_ends bytes given reader closed read) [ inl whole ↦ whole.1 | inr cut ↦ absurd (let some : 0 < length reader.front = cut.0 in omega arith) ]
+
+pub truncated_end : (bytes : List ℕ) (given : List Words) (reader : Progress) (place : ℕ) → reader.closed ≡ None → 0 < length reader.front → reader.place ≡ place → Reads bytes given reader
+    → Parses bytes (given ++ reader.requests) (ends.Truncated place)
+truncated_end bytes given reader place closed some is read =
+    elim (input_ends bytes given reader closed read) [
+      inl whole ↦ absurd (omega (arith, ap length whole.0))
+      | inr cut ↦ subst (λ p. Parses bytes (given ++ reader.requests) (ends.Truncated p)) is cut.1
+    ]
