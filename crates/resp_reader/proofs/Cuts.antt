@@ -1,9 +1,9 @@
 -- What came of an element that isn't whole is cut short.
-use Rattle.std.proofs.Common.{◌≡◌, ℕ, ◌+◌, ◌-◌, ◌<◌, ◌≤◌, List, [], ◌∷◌, ◌++◌, length, replicate, arith, refl, ap, sym, ◌∙◌, subst, append_assoc, append-nil, length-append, lit<}
+use Rattle.std.proofs.Common.{◌≡◌, ℕ, ◌-◌, ◌<◌, ◌≤◌, List, [], ◌∷◌, ◌++◌, length, replicate, arith, refl, ap, sym, ◌∙◌, append_assoc, append-nil, length-append, lit<}
 use Rattle.std.specs.Fmt.{decimal}
 use Rattle.std.proofs.lemmas.List.{length-replicate}
 use Rattle.flake_model.specs.Resp.{Words, crlf, bulk_string, IsWord, element_text, null_array, IsCutShort}
-use Rattle.flake_model.specs.Fronts.{array_front, word_front}
+use Rattle.flake_model.specs.Fronts.{word_front}
 use Rattle.flake_model.proofs.Fronts.{word_shape, cut_in_word, cut_at_word, cut_in_null}
 use Rattle.resp_reader.specs.declared.begun.State.{State}
 use Rattle.resp_reader.specs.declared.begun.State.TheVariants.{Start, InCount, CountEnd, AtWord, InLength, LengthEnd, InWord, WordEnd, Null, Whole}
@@ -18,9 +18,9 @@ partial_word len word part most =
     let whole = word ++ missing in
     let is : length whole ≡ len = omega (arith, length-append word missing, length-replicate {A = ℕ} (len - length word) 0) in
     let shape : bulk_string whole ≡ 36 ∷ (decimal (length whole) ++ 13 ∷ 10 ∷ (word ++ (missing ++ crlf))) =
-        sym (append-nil (bulk_string whole)) ∙ word_shape whole [] ∙ ap (λ b. 36 ∷ (decimal (length whole) ++ 13 ∷ 10 ∷ b)) (append_assoc word missing crlf) in
+    sym (append-nil (bulk_string whole)) ∙ word_shape whole [] ∙ ap (λ b. 36 ∷ (decimal (length whole) ++ 13 ∷ 10 ∷ b)) (append_assoc word missing crlf) in
     let apart : 36 ∷ (decimal len ++ 13 ∷ 10 ∷ (word ++ (missing ++ crlf))) ≡ (36 ∷ (decimal len ++ 13 ∷ 10 ∷ word)) ++ (missing ++ crlf) =
-        ap (λ b. 36 ∷ b) (sym (append_assoc (decimal len) (13 ∷ 10 ∷ word) (missing ++ crlf))) in
+    ap (λ b. 36 ∷ b) (sym (append_assoc (decimal len) (13 ∷ 10 ∷ word) (missing ++ crlf))) in
     (whole, missing ++ crlf, omega arith, shape ∙ ap (λ n. 36 ∷ (decimal n ++ 13 ∷ 10 ∷ (word ++ (missing ++ crlf)))) is ∙ apart, omega (arith, length-append missing crlf))
 
 pub cut_short : (state : State) (words : Words) (word : List ℕ) → IsState state words word → IsOpen state → IsCutShort (state_front state words word)

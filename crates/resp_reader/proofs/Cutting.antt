@@ -1,5 +1,5 @@
 -- It doesn't matter how an input was cut.
-use Rattle.std.proofs.Common.{◌≡◌, ◌⊎◌, inl, inr, ℕ, ◌<◌, List, [], ◌++◌, Option, Some, None, length, refl, ap, sym, ◌∙◌, subst}
+use Rattle.std.proofs.Common.{◌≡◌, inl, inr, ℕ, List, ◌++◌, Option, Some, None, length, refl, ap, sym, ◌∙◌}
 use Rattle.std.specs.Prelude.{MatchOption}
 use Rattle.flake_base.specs.declared.session.End.{End}
 use Rattle.flake_base.specs.declared.session.End.TheVariants as ends
@@ -29,7 +29,7 @@ no_error_is Memory taken = absurd taken
 open_or_closed : (bytes : List ℕ) (some others : List Words) (place : ℕ) (front : List ℕ) (error : ReadError) → IsReadTo bytes some place front → IsTaken error → Parses bytes others (end_of error) → ⊥
 open_or_closed bytes some others place front error read taken parsed =
     elim (read_ends bytes some place front read) [
-      inl whole ↦ (no_error_is error taken).0 (sym (one_parse bytes some others ends.Clean (end_of error) (read.judged, whole.1) parsed).1)
+      | inl whole ↦ (no_error_is error taken).0 (sym (one_parse bytes some others ends.Clean (end_of error) (read.judged, whole.1) parsed).1)
       | inr cut ↦ (no_error_is error taken).1 place (sym (one_parse bytes some others (ends.Truncated place) (end_of error) (read.judged, cut.1) parsed).1)
     ]
 

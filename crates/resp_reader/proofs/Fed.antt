@@ -1,11 +1,11 @@
 -- What was fed in all, from piece to piece.
-use Rattle.std.proofs.Common.{◌≡◌, ◌≢◌, ℕ, ◌+◌, ◌-◌, ◌<◌, ◌≤◌, ◌⊎◌, inl, inr, List, [], ◌∷◌, ◌++◌, Option, Some, None, length, take, drop, arith, refl, ap, sym, ◌∙◌, subst, append_assoc, append-nil, length-append, lit<}
+use Rattle.std.proofs.Common.{◌≡◌, ◌≢◌, ℕ, ◌+◌, ◌-◌, ◌<◌, ◌≤◌, ◌⊎◌, inl, inr, List, [], ◌∷◌, ◌++◌, Some, None, length, take, arith, refl, ap, sym, ◌∙◌, subst, append_assoc, append-nil, length-append, lit<}
 use Rattle.std.specs.Prelude.{Result, Ok, Err, OnOk, IfErr, MatchOption}
-use Rattle.std.proofs.lemmas.List.{take_all, take-append-le, take-append-drop, length-take-le, length-drop}
+use Rattle.std.proofs.lemmas.List.{take_all, take-append-le, length-take-le}
 use Rattle.std.proofs.lemmas.Bool.{cases_lt}
 use Rattle.std.proofs.Math.Seq.{take-append-add}
 use Rattle.flake_base.specs.declared.session.End.TheVariants as ends
-use Rattle.flake_model.specs.Resp.{Words, Element, null_array, element_text, IsElement, AllElements, stream, requests_of, IsCutShort, FaultKind, inline, in_count, at_word, in_word, IsClean, IsTruncated, IsFaulty, judged_bytes, Parses}
+use Rattle.flake_model.specs.Resp.{Words, null_array, element_text, IsElement, stream, requests_of, IsCutShort, FaultKind, inline, in_count, at_word, in_word, IsClean, IsTruncated, IsFaulty, judged_bytes, Parses}
 use Rattle.flake_model.proofs.Fronts.{cut_in_null}
 use Rattle.flake_model.proofs.Streams.{all_append, stream-append, requests_of-append}
 use Rattle.resp_reader.specs.declared.error.ReadError.{ReadError}
@@ -53,9 +53,9 @@ fault_on bytes given old new piece kind place kept read fault =
     let judged = take (judged_bytes - old.taken) piece in
     let behind = faulty_behind read.elements (front_of old.begun ++ judged) fault.requests kind (length (front_of old.begun) + place) read.allowed fault.faulty in
     let all : take judged_bytes (bytes ++ piece) ≡ stream read.elements ++ (front_of old.begun ++ judged) =
-        judged_on bytes piece read.judged ∙ ap (λ n. bytes ++ take (judged_bytes - n) piece) count ∙ ap (λ b. b ++ judged) read.bytes_are ∙ append_assoc (stream read.elements) (front_of old.begun) judged in
+    judged_on bytes piece read.judged ∙ ap (λ n. bytes ++ take (judged_bytes - n) piece) count ∙ ap (λ b. b ++ judged) read.bytes_are ∙ append_assoc (stream read.elements) (front_of old.begun) judged in
     let requests : given ++ new.ready.items ≡ requests_of read.elements ++ fault.requests =
-        ap (λ r. given ++ r) fault.ready_is ∙ sym (append_assoc given old.ready.items fault.requests) ∙ ap (λ r. r ++ fault.requests) read.requests_are in
+    ap (λ r. given ++ r) fault.ready_is ∙ sym (append_assoc given old.ready.items fault.requests) ∙ ap (λ r. r ++ fault.requests) read.requests_are in
     let at : old.taken + place ≡ length (stream read.elements) + (length (front_of old.begun) + place) = omega (arith, read.place_is, kept.taken_is) in
     subst (λ b. IsFaulty b (given ++ new.ready.items) kind (old.taken + place)) (sym all)
     (subst (λ r. IsFaulty (stream read.elements ++ (front_of old.begun ++ judged)) r kind (old.taken + place)) (sym requests)
@@ -78,22 +78,28 @@ error_on bytes given old new piece error kept read found =
 -- what was read to an end: whole elements, or the front of one behind them
 pub read_ends : (bytes : List ℕ) (requests : List Words) (place : ℕ) (front : List ℕ) → IsReadTo bytes requests place front
     → ((front ≡ []) × IsClean bytes requests) ⊎ ((0 < length front) × IsTruncated bytes requests place)
-read_ends bytes requests place [] read = inl (refl, record {
-  elements = read.elements;
-  allowed = read.allowed;
-  bytes_are = read.bytes_are ∙ append-nil (stream read.elements);
-  requests_are = read.requests_are;
-})
-read_ends bytes requests place (byte ∷ front) read = inr (omega arith, record {
-  elements = read.elements;
-  front = byte ∷ front;
-  allowed = read.allowed;
-  begun = omega arith;
-  cut_short = read.cut_short;
-  bytes_are = read.bytes_are;
-  requests_are = read.requests_are;
-  place_is = read.place_is;
-})
+read_ends bytes requests place [] read = inl (
+  refl,
+  record {
+    elements = read.elements;
+    allowed = read.allowed;
+    bytes_are = read.bytes_are ∙ append-nil (stream read.elements);
+    requests_are = read.requests_are;
+  },
+)
+read_ends bytes requests place (byte ∷ front) read = inr (
+  omega arith,
+  record {
+    elements = read.elements;
+    front = byte ∷ front;
+    allowed = read.allowed;
+    begun = omega arith;
+    cut_short = read.cut_short;
+    bytes_are = read.bytes_are;
+    requests_are = read.requests_are;
+    place_is = read.place_is;
+  },
+)
 
 -- more came than is judged
 pub too_long_on : (bytes : List ℕ) (given : List Words) (old new : Parser) (piece : List ℕ) → IsKept old → IsKept new → Reads bytes given (progress old None)
@@ -104,11 +110,16 @@ too_long_on bytes given old new piece kept now read longer taken =
     let size : length judged ≡ judged_bytes - old.taken = length-take-le (judged_bytes - old.taken) piece (omega arith) in
     let all : take judged_bytes (bytes ++ piece) ≡ bytes ++ judged = judged_on bytes piece read.judged ∙ ap (λ n. bytes ++ take (judged_bytes - n) piece) count in
     let read' : IsReadTo (bytes ++ judged) (given ++ new.ready.items) new.place (front_of new.begun) = read_on bytes given old new judged kept now taken (omega (arith, kept.judged)) read in
-    let long : judged_bytes < length (bytes ++ piece) = omega (arith, length-append bytes piece, kept.judged) in
-    (refl, (long, elim (read_ends (bytes ++ judged) (given ++ new.ready.items) new.place (front_of new.begun) read') [
-      inl whole ↦ inl (subst (λ b. IsClean b (given ++ new.ready.items)) (sym all) whole.1)
-      | inr cut ↦ inr (new.place, subst (λ b. IsTruncated b (given ++ new.ready.items) new.place) (sym all) cut.1)
-    ]))
+    let long : judged_bytes < length (bytes ++ piece) = omega (arith, length-append bytes piece, kept.judged) in (
+      refl,
+      (
+        long,
+        elim (read_ends (bytes ++ judged) (given ++ new.ready.items) new.place (front_of new.begun) read') [
+          | inl whole ↦ inl (subst (λ b. IsClean b (given ++ new.ready.items)) (sym all) whole.1)
+          | inr cut ↦ inr (new.place, subst (λ b. IsTruncated b (given ++ new.ready.items) new.place) (sym all) cut.1)
+        ],
+      ),
+    )
 
 -- a piece that is judged whole
 pub fed_on : {X : Type 0} (result : Result X ReadError) (old new : Parser) (piece : List ℕ) → IsKept old → old.taken + length piece ≤ judged_bytes → OnOk result (IsKept new) → OnOk result (TakesTo old new piece [])
@@ -142,16 +153,17 @@ faulty_more bytes more requests kind place fault = record {
 still_faulty : (bytes piece : List ℕ) (requests : List Words) (kind place : ℕ) → Parses bytes requests (ends.Protocol kind place) → Parses (bytes ++ piece) requests (ends.Protocol kind place)
 still_faulty bytes piece requests kind place fault =
     elim (cases_lt (length bytes) judged_bytes) [
-      inl short ↦ (
-        let whole : IsFaulty bytes requests kind place = subst (λ b. IsFaulty b requests kind place) (take_all judged_bytes bytes (omega arith)) fault in
-        subst (λ b. IsFaulty b requests kind place) (sym (judged_on bytes piece (omega arith))) (faulty_more bytes (take (judged_bytes - length bytes) piece) requests kind place whole))
+      | inl short ↦ (
+          let whole : IsFaulty bytes requests kind place = subst (λ b. IsFaulty b requests kind place) (take_all judged_bytes bytes (omega arith)) fault in
+          subst (λ b. IsFaulty b requests kind place) (sym (judged_on bytes piece (omega arith))) (faulty_more bytes (take (judged_bytes - length bytes) piece) requests kind place whole))
       | inr long ↦ subst (λ b. IsFaulty b requests kind place) (sym (take-append-le judged_bytes bytes piece long)) fault
     ]
 
 still_too_long : (bytes piece : List ℕ) (requests : List Words) → Parses bytes requests ends.TooLong → Parses (bytes ++ piece) requests ends.TooLong
-still_too_long bytes piece requests (long, parsed) =
-    (omega (arith, length-append bytes piece),
-        subst (λ b. IsClean b requests ⊎ ((place : ℕ) × IsTruncated b requests place)) (sym (take-append-le judged_bytes bytes piece (omega arith))) parsed)
+still_too_long bytes piece requests (long, parsed) = (
+  omega (arith, length-append bytes piece),
+  subst (λ b. IsClean b requests ⊎ ((place : ℕ) × IsTruncated b requests place)) (sym (take-append-le judged_bytes bytes piece (omega arith))) parsed,
+)
 
 -- an input that has an error has it whatever is behind
 pub still_closed : (bytes piece : List ℕ) (requests : List Words) (error : ReadError) → IsTaken error → Parses bytes requests (end_of error) → Parses (bytes ++ piece) requests (end_of error)
@@ -167,7 +179,7 @@ pub closed_on : (bytes : List ℕ) (given : List Words) (reader : Progress) (pie
 closed_on bytes given reader piece error closed read =
     let requests = given ++ reader.requests in
     let known : IsTaken error × Parses bytes requests (end_of error) =
-        subst (λ c. MatchOption c (IsReadTo bytes requests reader.place reader.front) (λ e. IsTaken e × Parses bytes requests (end_of e))) closed read in
+    subst (λ c. MatchOption c (IsReadTo bytes requests reader.place reader.front) (λ e. IsTaken e × Parses bytes requests (end_of e))) closed read in
     subst (λ c. MatchOption c (IsReadTo (bytes ++ piece) requests reader.place reader.front) (λ e. IsTaken e × Parses (bytes ++ piece) requests (end_of e))) (sym closed)
     (known.0, still_closed bytes piece requests error known.0 known.1)
 
@@ -201,9 +213,9 @@ pub input_ends : (bytes : List ℕ) (given : List Words) (reader : Progress) →
 input_ends bytes given reader closed read =
     let requests = given ++ reader.requests in
     let known : IsReadTo bytes requests reader.place reader.front =
-        subst (λ c. MatchOption c (IsReadTo bytes requests reader.place reader.front) (λ e. IsTaken e × Parses bytes requests (end_of e))) closed read in
+    subst (λ c. MatchOption c (IsReadTo bytes requests reader.place reader.front) (λ e. IsTaken e × Parses bytes requests (end_of e))) closed read in
     elim (read_ends bytes requests reader.place reader.front known) [
-      inl whole ↦ inl (whole.0, (known.judged, whole.1))
+      | inl whole ↦ inl (whole.0, (known.judged, whole.1))
       | inr cut ↦ inr (cut.0, (known.judged, cut.1))
     ]
 
@@ -215,6 +227,6 @@ pub truncated_end : (bytes : List ℕ) (given : List Words) (reader : Progress) 
     → Parses bytes (given ++ reader.requests) (ends.Truncated place)
 truncated_end bytes given reader place closed some is read =
     elim (input_ends bytes given reader closed read) [
-      inl whole ↦ absurd (omega (arith, ap length whole.0))
+      | inl whole ↦ absurd (omega (arith, ap length whole.0))
       | inr cut ↦ subst (λ p. Parses bytes (given ++ reader.requests) (ends.Truncated p)) is cut.1
     ]

@@ -1,5 +1,5 @@
 -- The lines that begin arrays and words, byte by byte.
-use Rattle.std.proofs.Common.{◌≡◌, ◌≢◌, ℕ, ◌+◌, ◌-◌, ◌*◌, ◌/◌, ◌%◌, ◌<◌, ◌≤◌, ◌^◌, ◌⊎◌, inl, inr, suc, true, nat_eq, get_or, take, drop, List, [], ◌∷◌, ◌++◌, length, arith, refl, ap, sym, ◌∙◌, subst, append_assoc, lit<, lit≤}
+use Rattle.std.proofs.Common.{◌≡◌, ◌≢◌, ℕ, ◌+◌, ◌-◌, ◌*◌, ◌/◌, ◌%◌, ◌<◌, ◌≤◌, ◌^◌, ◌⊎◌, inl, inr, suc, true, nat_eq, get_or, take, drop, List, [], ◌∷◌, ◌++◌, length, arith, ap, sym, ◌∙◌, subst, append_assoc, lit<, lit≤}
 use Rattle.std.specs.Fmt.{decimal}
 use Rattle.std.specs.Char.{digit_value}
 use Rattle.std.specs.Str.Parse.{AllDigits, digits_value}
@@ -16,15 +16,15 @@ use Rattle.flake_model.proofs.Fronts.{not_null_mark, not_null_one, not_null_line
 use Rattle.resp_reader.specs.declared.head.Head.{Head}
 use Rattle.resp_reader.specs.declared.head.Head.TheVariants.{Count, Length}
 use Rattle.resp_reader.specs.declared.head.Digits.{Digits}
-use Rattle.resp_reader.specs.declared.head.Digits.TheVariants.{Nothing, Number, Minus, MinusOne}
+use Rattle.resp_reader.specs.declared.head.Digits.TheVariants.{Nothing, Minus, MinusOne}
 use Rattle.resp_reader.specs.Head.{limit_of, digits_text, IsDigits, NoLine, LineFault}
 
 -- what isn't a digit has no value as one
 pub no_digit : (byte : ℕ) → ((digit : ℕ) → digit < 10 → byte ≢ 48 + digit) → 10 ≤ digit_value byte
 no_digit byte other = elim (cases_lt (digit_value byte) 10) [
-    inl small ↦ (let range = digit_from_value byte small in absurd (other (byte - 48) (omega (arith, range)) (omega (arith, range))))
-    | inr large ↦ large
-  ]
+  | inl small ↦ (let range = digit_from_value byte small in absurd (other (byte - 48) (omega (arith, range)) (omega (arith, range))))
+  | inr large ↦ large
+]
 
 digit_is : (digit : ℕ) → digit < 10 → digit_value (48 + digit) ≡ digit
 digit_is digit small = grind (arith, nat_tests)
@@ -61,7 +61,7 @@ pub past_limit : (head : Head) (n digit : ℕ) → n ≤ limit_of head → digit
 past_limit head n digit small is_digit large =
     let within : n < 2 ^ 64 = omega (arith, small_limit head) in
     let value : digits_value 10 (decimal n ++ (48 + digit) ∷ []) ≡ n * 10 + digit =
-        digits_value_push 10 (decimal n) (48 + digit) ∙ ap (λ m. m * 10 + digit_value (48 + digit)) (decimal_is_IsNumeral n within).1 ∙ ap (λ d. n * 10 + d) (digit_is digit is_digit) in
+    digits_value_push 10 (decimal n) (48 + digit) ∙ ap (λ m. m * 10 + digit_value (48 + digit)) (decimal_is_IsNumeral n within).1 ∙ ap (λ d. n * 10 + d) (digit_is digit is_digit) in
     no_line head (decimal n) (48 + digit)
     (too_large (limit_of head) (decimal n) (48 + digit) (small_limit head) (some_digits n within).1 (omega arith) (omega arith))
     (not_null_digits (decimal n) (48 + digit) (some_digits n within).0 (some_digits n within).1)
@@ -122,8 +122,8 @@ pub fault_at : (head : Head) (digits now : Digits) (bytes : List ℕ) (place : �
     → NoLine head (digits_text now) (get_or bytes place 0) → LineFault head digits bytes place
 fault_at head digits now bytes place allowed below now_is refused =
     fault_behind head digits now bytes place (get_or bytes place 0) (take place bytes) (drop (suc place) bytes) allowed
-        (sym (take-append-drop place bytes) ∙ ap (λ rest. take place bytes ++ rest) (drop-cons bytes place 0 below))
-        (sym (length-take-le place bytes (omega arith))) now_is refused
+    (sym (take-append-drop place bytes) ∙ ap (λ rest. take place bytes ++ rest) (drop-cons bytes place 0 below))
+    (sym (length-take-le place bytes (omega arith))) now_is refused
 
 -- a CR where the line has no number yet
 pub no_number_yet : (head : Head) (now : Digits) → IsDigits head now → (now ≡ Nothing) ⊎ (now ≡ Minus) → NoLine head (digits_text now) 13

@@ -1,5 +1,5 @@
 -- How an element goes on, state by state.
-use Rattle.std.proofs.Common.{◌≡◌, ◌≢◌, ℕ, ◌+◌, ◌-◌, ◌<◌, ◌≤◌, ◌^◌, zero, suc, List, [], ◌∷◌, ◌++◌, length, replicate, arith, refl, ap, sym, ◌∙◌, subst, append_assoc, append-nil, length-append, lit<, lit≤}
+use Rattle.std.proofs.Common.{◌≡◌, ◌≢◌, ℕ, ◌+◌, ◌<◌, ◌≤◌, List, [], ◌∷◌, ◌++◌, length, replicate, arith, refl, ap, sym, ◌∙◌, subst, append_assoc, append-nil, length-append, lit<, lit≤}
 use Rattle.std.specs.Prelude.{Result, Ok, Err, IfErr}
 use Rattle.std.specs.Fmt.{decimal}
 use Rattle.std.specs.Char.{digit_value}
@@ -7,7 +7,7 @@ use Rattle.std.specs.Str.Parse.{AllDigits}
 use Rattle.std.specs.List.{AllByRecursion, Contains}
 use Rattle.std.proofs.lemmas.List.{length-replicate}
 use Rattle.flake_model.specs.Resp.{Words, crlf, bulk_string, IsWord, element_text, null_array, IsCutShort, FaultKind, inline, in_count, at_word, in_word, IsFaulty}
-use Rattle.flake_model.specs.Fronts.{NoNumber, NoNull, NoWordGoesOn, NoElementGoesOn, array_front, word_front}
+use Rattle.flake_model.specs.Fronts.{NoNull, NoWordGoesOn, NoElementGoesOn, array_front, word_front}
 use Rattle.flake_model.proofs.Grammar.{NoCr-digits}
 use Rattle.flake_model.proofs.Streams.{all_append}
 use Rattle.flake_model.proofs.Digits.{no_line_feed, no_minus, NoLf-digits, not_at}
@@ -22,7 +22,7 @@ use Rattle.resp_reader.specs.declared.begun.Stop.TheVariants.{Fault, Memory as O
 use Rattle.resp_reader.specs.declared.begun.State.{State}
 use Rattle.resp_reader.specs.declared.begun.Begun.{Begun}
 use Rattle.resp_reader.specs.Front.{texts}
-use Rattle.resp_reader.specs.Head.{digits_text, IsDigits, IsWhole, LineFault, NoLine}
+use Rattle.resp_reader.specs.Head.{digits_text, IsDigits, IsWhole, LineFault}
 use Rattle.resp_reader.specs.Begun.{state_front, IsState, Moves, Stops, IsArray, IsSound, Breaks}
 use Rattle.resp_reader.proofs.Heads.{some_digits}
 
@@ -71,7 +71,7 @@ line_fault : (front text came : List ℕ) (byte : ℕ) (more bytes now : List �
     → IsCutShort (front ++ now) → NoElementGoesOn (front ++ now) byte → FaultKind (front ++ now) kind → IsFaulty ((front ++ text) ++ bytes) [] kind (length (front ++ text) + place)
 line_fault front text came byte more bytes now place kind bytes_are now_is place_is begun refused kind_is =
     let all : (front ++ now) ++ byte ∷ more ≡ (front ++ text) ++ bytes =
-        ap (λ t. (front ++ t) ++ byte ∷ more) now_is ∙ ap (λ t. t ++ byte ∷ more) (sym (append_assoc front text came)) ∙ append_assoc (front ++ text) came (byte ∷ more) ∙ ap (λ b. (front ++ text) ++ b) (sym bytes_are) in
+    ap (λ t. (front ++ t) ++ byte ∷ more) now_is ∙ ap (λ t. t ++ byte ∷ more) (sym (append_assoc front text came)) ∙ append_assoc (front ++ text) came (byte ∷ more) ∙ ap (λ b. (front ++ text) ++ b) (sym bytes_are) in
     let at : length (front ++ now) ≡ length (front ++ text) + place = omega (arith, ap length now_is, length-append front now, length-append front text, length-append text came) in
     subst (λ place. IsFaulty ((front ++ text) ++ bytes) [] kind place) at (subst (λ b. IsFaulty b [] kind (length (front ++ now))) all (faulty [] (front ++ now) byte more kind tt begun refused kind_is))
 
@@ -127,9 +127,9 @@ in_length_stops count digits bytes place fault words word sound =
     let start : (front ++ 36 ∷ []) ++ digits_text digits ≡ front ++ 36 ∷ digits_text digits = append_assoc front (36 ∷ []) (digits_text digits) in
     subst (λ b. IsFaulty (b ++ bytes) [] 3 (length b + place)) start
     (line_fault (front ++ 36 ∷ []) (digits_text digits) fault.front fault.byte fault.more bytes (digits_text fault.now) place 3 fault.bytes_are fault.now_is fault.place_is
-        (subst IsCutShort (sym same) (cut_in_word count words found.0 (36 ∷ digits_text fault.now) found.1 sound.0.most sound.0.allowed sound.0.less found.2 found.3 found.4))
-        (subst (λ b. NoElementGoesOn b fault.byte) (sym same) (no_word_in_array count words (36 ∷ digits_text fault.now) fault.byte sound.0.most sound.0.allowed sound.0.less (not_a_length (digits_text fault.now) fault.byte fault.refused)))
-        (subst (λ b. FaultKind b 3) (sym same) (in_word count words found.0 (digits_text fault.now) found.1 sound.0.less found.3 found.4)))
+    (subst IsCutShort (sym same) (cut_in_word count words found.0 (36 ∷ digits_text fault.now) found.1 sound.0.most sound.0.allowed sound.0.less found.2 found.3 found.4))
+    (subst (λ b. NoElementGoesOn b fault.byte) (sym same) (no_word_in_array count words (36 ∷ digits_text fault.now) fault.byte sound.0.most sound.0.allowed sound.0.less (not_a_length (digits_text fault.now) fault.byte fault.refused)))
+    (subst (λ b. FaultKind b 3) (sym same) (in_word count words found.0 (digits_text fault.now) found.1 sound.0.less found.3 found.4)))
 
 -- an error at the next byte inside a word
 pub fault_in_word : (count : ℕ) (words : Words) (word begun more bytes : List ℕ) (mark : ℕ) → IsArray count words → IsWord word → bulk_string word ≡ 36 ∷ begun ++ more → 0 < length more
@@ -145,61 +145,6 @@ length_end_stops count len bytes some none words word sound =
     let begins : bulk_string found.0 ≡ 36 ∷ (decimal len ++ 13 ∷ []) ++ 10 ∷ (found.0 ++ crlf) = found.2 ∙ ap (λ b. 36 ∷ b) (sym (append_assoc (decimal len) (13 ∷ []) (10 ∷ (found.0 ++ crlf)))) in
     fault_in_word count words found.0 (decimal len ++ 13 ∷ []) (10 ∷ (found.0 ++ crlf)) bytes 10 sound.0 found.1 begins (omega arith)
     (λ byte other. not_a_length (decimal len ++ 13 ∷ []) byte (no_line_feed 1048576 (decimal len) byte (lit< tt) (NoCr-digits (decimal len) (some_digits len (omega (arith, sound.2))).1) other)) some none
-
-pub count_more : (digits new : Digits) (bytes : List ℕ) → IsDigits Count new → digits_text new ≡ digits_text digits ++ bytes → Moves (InCount digits) bytes (InCount new) []
-count_more digits new bytes allowed is words word sound = ((sound.0, sound.1, allowed), ap (λ t. 42 ∷ t) (sym is ∙ sym (append-nil (digits_text new))))
-
-pub count_ends : (digits new : Digits) (bytes rest : List ℕ) → IsDigits Count new → IsWhole new → digits_text digits ++ bytes ≡ digits_text new ++ 13 ∷ rest → Moves (InCount digits) bytes (CountEnd new) rest
-count_ends digits new bytes rest allowed whole is words word sound =
-    ((sound.0, sound.1, allowed, whole), ap (λ t. 42 ∷ t) (is ∙ sym (append_assoc (digits_text new) (13 ∷ []) rest)))
-
--- a count line with its line end
-count_line : (text bytes rest : List ℕ) → bytes ≡ 10 ∷ rest → (42 ∷ (text ++ 13 ∷ [])) ++ bytes ≡ 42 ∷ (text ++ 13 ∷ 10 ∷ rest)
-count_line text bytes rest is = ap (λ b. 42 ∷ (text ++ 13 ∷ [] ++ b)) is ∙ ap (λ t. 42 ∷ t) (append_assoc text (13 ∷ []) (10 ∷ rest))
-
-pub null_ends : (digits : Digits) (bytes rest : List ℕ) → ((n : ℕ) → digits ≡ Number n → ⊥) → bytes ≡ 10 ∷ rest → Moves (CountEnd digits) bytes Null rest
-null_ends Nothing bytes rest other is words word sound = absurd sound.3
-null_ends (Number n) bytes rest other is words word sound = absurd (other n refl)
-null_ends Minus bytes rest other is words word sound = absurd sound.3
-null_ends MinusOne bytes rest other is words word sound = ((sound.0, sound.1), count_line (45 ∷ 49 ∷ []) bytes rest is)
-
--- an array's head, with no words yet
-head_line : (count : ℕ) (words : Words) (bytes rest : List ℕ) → words ≡ [] → bytes ≡ 10 ∷ rest → (42 ∷ (decimal count ++ 13 ∷ [])) ++ bytes ≡ array_front count words ++ rest
-head_line count words bytes rest none is =
-    let shape : 42 ∷ (decimal count ++ 13 ∷ 10 ∷ rest) ≡ array_front count [] ++ rest = sym (simp append_assoc) in
-    count_line (decimal count) bytes rest is ∙ shape ∙ ap (λ w. array_front count w ++ rest) (sym none)
-
-pub array_begins : (count : ℕ) (bytes rest : List ℕ) → 0 < count → bytes ≡ 10 ∷ rest → Moves (CountEnd (Number count)) bytes (AtWord count) rest
-array_begins count bytes rest some is words word sound =
-    ((record { allowed = subst (AllByRecursion IsWord) (sym sound.0) tt; less = omega (arith, ap length sound.0); most = sound.2 }, sound.1), head_line count words bytes rest sound.0 is)
-
-pub empty_array : (count : ℕ) (bytes rest : List ℕ) → count ≡ 0 → bytes ≡ 10 ∷ rest → Moves (CountEnd (Number count)) bytes (Whole count) rest
-empty_array count bytes rest none is words word sound =
-    ((subst (AllByRecursion IsWord) (sym sound.0) tt, omega (arith, ap length sound.0), sound.2, sound.1), head_line count words bytes rest sound.0 is)
-
-pub word_marked : (count : ℕ) (bytes rest : List ℕ) → bytes ≡ 36 ∷ rest → Moves (AtWord count) bytes (InLength count Nothing) rest
-word_marked count bytes rest is words word sound =
-    ((sound.0, sound.1, tt), ap (λ b. array_front count words ++ b) is ∙ sym (append_assoc (array_front count words) (36 ∷ []) rest))
-
--- the front of a word behind an array's
-in_array : (count : ℕ) (words : Words) (text bytes now rest : List ℕ) → text ++ bytes ≡ now ++ rest → (array_front count words ++ 36 ∷ text) ++ bytes ≡ (array_front count words ++ 36 ∷ now) ++ rest
-in_array count words text bytes now rest is =
-    append_assoc (array_front count words) (36 ∷ text) bytes ∙ ap (λ t. array_front count words ++ 36 ∷ t) is ∙ sym (append_assoc (array_front count words) (36 ∷ now) rest)
-
-pub length_more : (count : ℕ) (digits new : Digits) (bytes : List ℕ) → IsDigits Length new → digits_text new ≡ digits_text digits ++ bytes → Moves (InLength count digits) bytes (InLength count new) []
-length_more count digits new bytes allowed is words word sound =
-    ((sound.0, sound.1, allowed), in_array count words (digits_text digits) bytes (digits_text new) [] (sym is ∙ sym (append-nil (digits_text new))))
-
-pub length_ends : (count : ℕ) (digits : Digits) (len : ℕ) (bytes rest : List ℕ) → len ≤ 1048576 → digits_text digits ++ bytes ≡ decimal len ++ 13 ∷ rest → Moves (InLength count digits) bytes (LengthEnd count len) rest
-length_ends count digits len bytes rest allowed is words word sound =
-    ((sound.0, sound.1, allowed), in_array count words (digits_text digits) bytes (decimal len ++ 13 ∷ []) rest (is ∙ sym (append_assoc (decimal len) (13 ∷ []) rest)))
-
-pub word_begins : (count len : ℕ) (bytes rest : List ℕ) → bytes ≡ 10 ∷ rest → Moves (LengthEnd count len) bytes (InWord count len) rest
-word_begins count len bytes rest is words word sound =
-    let none : 13 ∷ 10 ∷ word ≡ 13 ∷ 10 ∷ [] = ap (λ w. 13 ∷ 10 ∷ w) sound.1 in
-    ((sound.0, omega (arith, ap length sound.1), sound.2),
-        in_array count words (decimal len ++ 13 ∷ []) bytes (decimal len ++ 13 ∷ 10 ∷ word) rest
-        (ap (λ b. (decimal len ++ 13 ∷ []) ++ b) is ∙ append_assoc (decimal len) (13 ∷ []) (10 ∷ rest) ∙ sym (append_assoc (decimal len) (13 ∷ 10 ∷ []) rest) ∙ ap (λ t. (decimal len ++ t) ++ rest) (sym none)))
 
 -- an error behind a word's bytes
 pub word_stops : (count len : ℕ) (words : Words) (word bytes : List ℕ) → IsState (InWord count len) words word → length word ≡ len → 0 < length bytes → ((rest : List ℕ) → bytes ≢ 13 ∷ rest)

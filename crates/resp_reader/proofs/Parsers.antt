@@ -1,12 +1,10 @@
 -- Elements behind one another, off the bytes that came.
-use Rattle.std.proofs.Common.{◌≡◌, ℕ, ◌+◌, ◌<◌, ◌≤◌, ◌⊎◌, inl, inr, List, [], ◌∷◌, ◌++◌, Some, None, length, arith, refl, ap, sym, ◌∙◌, subst, append-nil, append_assoc, length-append}
-use Rattle.std.specs.List.{AllByRecursion}
+use Rattle.std.proofs.Common.{◌≡◌, ℕ, ◌+◌, ◌<◌, ◌≤◌, inl, inr, List, [], ◌∷◌, ◌++◌, length, arith, refl, ap, sym, ◌∙◌, subst, append-nil, append_assoc, length-append}
 use Rattle.std.specs.Option.{option_to_list}
-use Rattle.flake_model.specs.Resp.{Words, IsWord, Element, array, null_array, IsElement, element_text, AllElements, stream, request_of, requests_of, IsFaulty, judged_bytes}
+use Rattle.flake_model.specs.Resp.{Words, Element, array, null_array, IsElement, element_text, AllElements, stream, request_of, requests_of, IsFaulty, judged_bytes}
 use Rattle.flake_model.specs.Fronts.{array_front}
 use Rattle.flake_model.proofs.Streams.{all_append, stream-append, requests_of-append}
 use Rattle.resp_reader.specs.declared.begun.State.TheVariants.{Start, Null, Whole}
-use Rattle.resp_reader.specs.declared.begun.Begun.{Begun}
 use Rattle.resp_reader.specs.declared.begun.Mark.{Mark}
 use Rattle.resp_reader.specs.declared.parser.Parser.{Parser}
 use Rattle.resp_reader.specs.Front.{texts}
@@ -27,15 +25,6 @@ element_taken old new element allowed front_is none ready place = record {
   bytes_are = append-nil (front_of old.begun) ∙ front_is ∙ sym (append-nil (element_text element)) ∙ sym (append-nil (stream (element ∷ []))) ∙ ap (λ rest. stream (element ∷ []) ++ rest) (sym (append-nil (front_of new.begun) ∙ none));
   ready_is = ready ∙ ap (λ more. old.ready.items ++ more) (request_to_list element);
   place_is = place ∙ ap (λ front. old.place + length front) (front_is ∙ sym (append-nil (element_text element)));
-}
-
-pub nothing_taken : (parser : Parser) → TakesTo parser parser [] []
-nothing_taken parser = record {
-  elements = [];
-  allowed = tt;
-  bytes_are = refl;
-  ready_is = sym (append-nil parser.ready.items);
-  place_is = omega arith;
 }
 
 -- a null array is whole
@@ -61,11 +50,12 @@ pub given_back : (old new : Parser) (count : ℕ) → old.begun.state ≡ Whole 
     → new.ready.items ≡ old.ready.items ++ option_to_list (request_of (array (texts old.begun.words.items))) → CanGoBack old new
 given_back old new count whole sound none word ready =
     by_words (texts old.begun.words.items) refl ready where
-  empty : old.begun.word.items ≡ []
-  empty = (subst (λ s. IsState s (texts old.begun.words.items) old.begun.word.items) whole sound).3
-  by_words : (words : Words) → words ≡ texts old.begun.words.items → new.ready.items ≡ old.ready.items ++ option_to_list (request_of (array words)) → CanGoBack old new
-  by_words [] is ready = same_back old new (ready ∙ append-nil old.ready.items) (none ∙ is) word
-  by_words (first ∷ words) is ready = inr (first ∷ words, [], ready, λ other. inl (other, is, ap (λ w. w ++ other) (sym empty)))
+      empty : old.begun.word.items ≡ []
+      empty = (subst (λ s. IsState s (texts old.begun.words.items) old.begun.word.items) whole sound).3
+
+      by_words : (words : Words) → words ≡ texts old.begun.words.items → new.ready.items ≡ old.ready.items ++ option_to_list (request_of (array words)) → CanGoBack old new
+      by_words [] is ready = same_back old new (ready ∙ append-nil old.ready.items) (none ∙ is) word
+      by_words (first ∷ words) is ready = inr (first ∷ words, [], ready, λ other. inl (other, is, ap (λ w. w ++ other) (sym empty)))
 
 -- more bytes led to another state
 pub stepped : (start old new : Parser) (bytes rest behind : List ℕ) → TakesTo start old bytes rest → front_of old.begun ++ rest ≡ front_of new.begun ++ behind
@@ -82,7 +72,7 @@ stepped start old new bytes rest behind so_far front ready place = record {
 pub taken_on : (start old new : Parser) (bytes rest : List ℕ) → TakesTo start old bytes rest → TakesTo old new [] [] → TakesTo start new bytes rest
 taken_on start old new bytes rest so_far more =
     let front : front_of old.begun ≡ stream more.elements ++ front_of new.begun =
-        sym (append-nil (front_of old.begun)) ∙ more.bytes_are ∙ ap (λ b. stream more.elements ++ b) (append-nil (front_of new.begun)) in
+    sym (append-nil (front_of old.begun)) ∙ more.bytes_are ∙ ap (λ b. stream more.elements ++ b) (append-nil (front_of new.begun)) in
     let behind : front_of old.begun ++ rest ≡ stream more.elements ++ (front_of new.begun ++ rest) = ap (λ b. b ++ rest) front ∙ append_assoc (stream more.elements) (front_of new.begun) rest in
     record {
       elements = so_far.elements ++ more.elements;
@@ -115,7 +105,7 @@ pub faulty_behind : (elements : List Element) (bytes : List ℕ) (requests : Lis
 faulty_behind elements bytes requests kind place allowed fault =
     let text : stream (elements ++ fault.elements) ≡ stream elements ++ stream fault.elements = stream-append elements fault.elements in
     let front : stream (elements ++ fault.elements) ++ fault.front ≡ stream elements ++ (stream fault.elements ++ fault.front) =
-        ap (λ t. t ++ fault.front) text ∙ append_assoc (stream elements) (stream fault.elements) fault.front in
+    ap (λ t. t ++ fault.front) text ∙ append_assoc (stream elements) (stream fault.elements) fault.front in
     record {
       elements = elements ++ fault.elements;
       front = fault.front;
@@ -140,7 +130,7 @@ pub stopped : (start old new : Parser) (bytes rest : List ℕ) (kind read place 
 stopped start old new bytes rest kind read place so_far ready read_is fault =
     let behind = faulty_behind so_far.elements (front_of old.begun ++ rest) [] kind (length (front_of old.begun) + place) so_far.allowed fault in
     let at : length (stream so_far.elements) + (length (front_of old.begun) + place) ≡ length (front_of start.begun) + (read + place) =
-        omega (arith, ap length so_far.bytes_are, length-append (front_of start.begun) bytes, length-append (stream so_far.elements) (front_of old.begun ++ rest), length-append (front_of old.begun) rest) in
+    omega (arith, ap length so_far.bytes_are, length-append (front_of start.begun) bytes, length-append (stream so_far.elements) (front_of old.begun ++ rest), length-append (front_of old.begun) rest) in
     record {
       requests = requests_of so_far.elements ++ [];
       faulty = subst (λ p. IsFaulty (front_of start.begun ++ bytes) (requests_of so_far.elements ++ []) kind p) at
@@ -159,19 +149,20 @@ pub went_back : (before old mid new : Parser) (held : ℕ) (mark : Mark) → hel
     → (length old.ready.items ≤ held → mid ≡ old)
     → ((ready others : List Words) (first : Words) → length ready ≡ held → old.ready.items ≡ ready ++ first ∷ others → (mid.ready.items ≡ ready) × (texts mid.begun.words.items ≡ first))
     → ((words : Words) (word : List ℕ) → length words ≡ mark.words → length word ≡ mark.len → GrowsFrom words word (texts mid.begun.words.items) mid.begun.word.items
-        → (texts new.begun.words.items ≡ words) × (new.begun.word.items ≡ word))
+    → (texts new.begun.words.items ≡ words) × (new.begun.word.items ≡ word))
     → new.begun.state ≡ mark.state → new.ready.items ≡ mid.ready.items → new.place ≡ before.place → new.taken ≡ before.taken → IsBack before new
 went_back before old mid new held mark held_is marked back same reclaimed reopened state ready place taken =
     let found : (mid.ready.items ≡ before.ready.items) × GrowsFrom (texts before.begun.words.items) before.begun.word.items (texts mid.begun.words.items) mid.begun.word.items =
-        elim back [
-          inl here ↦ (
-            let is : mid ≡ old = same (omega (arith, ap length here.0)) in
-            (ap (λ (p : Parser). p.ready.items) is ∙ here.0,
-                subst (λ (p : Parser). GrowsFrom (texts before.begun.words.items) before.begun.word.items (texts p.begun.words.items) p.begun.word.items) (sym is) here.1))
-          | inr given ↦ (
-            let is = reclaimed before.ready.items given.1 given.0 (sym held_is) given.2 in
-            (is.0, subst (λ (words : Words). GrowsFrom (texts before.begun.words.items) before.begun.word.items words mid.begun.word.items) (sym is.1) (given.3 mid.begun.word.items)))
-        ] in
+    elim back [
+      | inl here ↦ (
+          let is : mid ≡ old = same (omega (arith, ap length here.0)) in (
+            ap (λ (p : Parser). p.ready.items) is ∙ here.0,
+            subst (λ (p : Parser). GrowsFrom (texts before.begun.words.items) before.begun.word.items (texts p.begun.words.items) p.begun.word.items) (sym is) here.1,
+          ))
+      | inr given ↦ (
+          let is = reclaimed before.ready.items given.1 given.0 (sym held_is) given.2 in
+          (is.0, subst (λ (words : Words). GrowsFrom (texts before.begun.words.items) before.begun.word.items words mid.begun.word.items) (sym is.1) (given.3 mid.begun.word.items)))
+    ] in
     let words = reopened (texts before.begun.words.items) before.begun.word.items (sym marked.words) (sym marked.len) found.1 in
     record {
       ready = ready ∙ found.0;

@@ -1,5 +1,5 @@
 -- An element as far as it came.
-use Rattle.std.specs.Prelude.{◌≡◌, ℕ, ◌+◌, ◌<◌, ◌≤◌, ◌⊎◌, List, [], ◌∷◌, ◌++◌, length, Option, Some, None}
+use Rattle.std.specs.Prelude.{◌≡◌, ℕ, ◌+◌, ◌<◌, ◌≤◌, ◌⊎◌, List, [], ◌∷◌, ◌++◌, length}
 use Rattle.std.specs.Fmt.{decimal}
 use Rattle.std.specs.List.{AllByRecursion}
 use Rattle.resp_reader.specs.declared.head.Head.TheVariants.{Count, Length}
@@ -8,7 +8,7 @@ use Rattle.resp_reader.specs.declared.begun.State.TheVariants.{Start, InCount, C
 use Rattle.resp_reader.specs.declared.begun.Begun.{Begun}
 use Rattle.resp_reader.specs.declared.begun.Stop.{Stop}
 use Rattle.resp_reader.specs.declared.begun.Stop.TheVariants.{Fault, Memory}
-use Rattle.flake_model.specs.Resp.{Words, IsWord, Element, array, null_array, element_text, IsFaulty}
+use Rattle.flake_model.specs.Resp.{Words, IsWord, null_array, element_text, IsFaulty}
 use Rattle.flake_model.specs.Fronts.{array_front, word_front}
 use Rattle.resp_reader.specs.Front.{texts}
 use Rattle.resp_reader.specs.Head.{digits_text, IsDigits, IsWhole}

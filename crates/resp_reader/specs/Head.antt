@@ -1,5 +1,5 @@
 -- The line that begins an array or a word, as far as it came.
-use Rattle.std.specs.Prelude.{◌≡◌, ◌≢◌, ℕ, ◌<◌, ◌≤◌, List, [], ◌∷◌, ◌++◌, length, Option, Some, None}
+use Rattle.std.specs.Prelude.{◌≡◌, ℕ, ◌≤◌, List, [], ◌∷◌, ◌++◌, length}
 use Rattle.std.specs.Fmt.{decimal}
 use Rattle.resp_reader.specs.declared.head.Head.{Head}
 use Rattle.resp_reader.specs.declared.head.Head.TheVariants.{Count, Length}

@@ -1,5 +1,5 @@
 -- Elements behind one another, as far as they came.
-use Rattle.std.specs.Prelude.{◌≡◌, ℕ, ◌+◌, ◌<◌, ◌≤◌, ◌⊎◌, List, [], ◌∷◌, ◌++◌, length}
+use Rattle.std.specs.Prelude.{◌≡◌, ℕ, ◌+◌, ◌≤◌, ◌⊎◌, List, ◌∷◌, ◌++◌, length}
 use Rattle.resp_reader.specs.declared.begun.Stop.{Stop}
 use Rattle.resp_reader.specs.declared.begun.Stop.TheVariants.{Fault, Memory}
 use Rattle.resp_reader.specs.declared.begun.Mark.{Mark}
@@ -29,7 +29,7 @@ abbrev pub CanGoBack : Parser → Parser → Type 0
 CanGoBack old new =
     ((new.ready.items ≡ old.ready.items) × Grows old.begun new.begun)
     ⊎ ((first : Words) × (others : List Words) × (new.ready.items ≡ old.ready.items ++ first ∷ others)
-        × ((word : List ℕ) → GrowsFrom (texts old.begun.words.items) old.begun.word.items first word))
+    × ((word : List ℕ) → GrowsFrom (texts old.begun.words.items) old.begun.word.items first word))
 
 -- the mark of an element as far as it came
 pub record IsMark (mark : Mark) (begun : Begun) : Type 0 where

@@ -1,5 +1,5 @@
 -- What was fed to a reader, and what it gives.
-use Rattle.std.specs.Prelude.{◌≡◌, ℕ, ◌≤◌, Bool, ◌==◌, if◌then◌else◌, List, [], ◌++◌, length, Option, MatchOption}
+use Rattle.std.specs.Prelude.{◌≡◌, ℕ, ◌≤◌, ◌==◌, if◌then◌else◌, List, ◌++◌, length, Option, MatchOption}
 use Rattle.flake_base.specs.declared.session.End.{End}
 use Rattle.flake_base.specs.declared.session.End.TheVariants as ends
 use Rattle.flake_model.specs.Resp.{Words, Element, AllElements, stream, requests_of, IsCutShort, judged_bytes, Parses}

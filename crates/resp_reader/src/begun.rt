@@ -140,7 +140,13 @@ fn at_word(count: u32, bytes: &[u8]) -> Result<(State, &[u8]), Stop>
     ensures err { IfErr result (Stops (State.AtWord count) bytes.now) }
 {
     match strip(bytes, b'$') {
-        Some(rest) => Ok((State::InLength { count, digits: Digits::Nothing }, rest)),
+        Some(rest) => Ok((
+            State::InLength {
+                count,
+                digits: Digits::Nothing,
+            },
+            rest,
+        )),
         None => Err(Stop::Fault { kind: 2, place: 0 }),
     }
 }

@@ -9,8 +9,8 @@ ghost use Rattle.resp_reader.specs.Reader.{error_at, Reads, progress};
 ghost use Rattle.resp_reader.specs.Errors.{HasError};
 ghost use Rattle.resp_reader.specs.declared.parser.Parser.{Parser};
 
-use crate::{ReadError, Request};
 use crate::begun::{Begun, Mark, State, Stop};
+use crate::{ReadError, Request};
 use std::alloc::Global;
 use std::collections::VecDeque;
 use std::mem::replace;
@@ -175,7 +175,10 @@ impl Parser {
                 Ok(behind) => rest = behind,
                 Err(Stop::Memory) => return Err(Stop::Memory),
                 Err(Stop::Fault { kind, place }) => {
-                    return Err(Stop::Fault { kind, place: read + place });
+                    return Err(Stop::Fault {
+                        kind,
+                        place: read + place,
+                    });
                 }
             }
             self.keep(self.taken + (bytes.len() - rest.len()) as u64)?;

@@ -1,6 +1,5 @@
-use Rattle.std.proofs.Common.{ℕ, List, [], ◌∷◌, sym, ◌∙◌, ap}
+use Rattle.std.proofs.Common.{[], ◌∷◌, sym, ◌∙◌, ap}
 use Rattle.std.proofs.lemmas.Fmt.{decimal_digit}
-use Rattle.resp_reader.specs.Head.{NoLine}
 use Rattle.resp_reader.proofs.Heads.{minus_in_length, no_first}
 use Rattle.resp_reader.proofs.head.first.Goals as goal
 

@@ -1,6 +1,5 @@
-use Rattle.std.proofs.Common.{◌≡◌, ◌++◌, [], ◌+◌, length, subst, sym, arith, ◌∙◌, ap}
+use Rattle.std.proofs.Common.{◌++◌, [], ◌+◌, length, subst, sym, arith}
 use Rattle.flake_model.specs.Resp.{IsFaulty}
-use Rattle.resp_reader.specs.declared.begun.State.TheVariants.{InWord}
 use Rattle.resp_reader.specs.Front.{texts}
 use Rattle.resp_reader.specs.Begun.{state_front, IsState}
 use Rattle.resp_reader.proofs.Moves.{word_stops}

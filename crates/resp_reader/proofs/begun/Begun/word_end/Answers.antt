@@ -1,6 +1,5 @@
-use Rattle.std.proofs.Common.{◌≡◌, ◌++◌, [], ◌+◌, length, subst, sym}
+use Rattle.std.proofs.Common.{◌++◌, [], ◌+◌, length, subst, sym}
 use Rattle.flake_model.specs.Resp.{IsFaulty}
-use Rattle.resp_reader.specs.declared.begun.State.TheVariants.{WordEnd}
 use Rattle.resp_reader.specs.Front.{texts}
 use Rattle.resp_reader.specs.Begun.{state_front, IsState}
 use Rattle.resp_reader.proofs.Moves.{word_end_stops}

@@ -1,4 +1,4 @@
-use Rattle.std.proofs.Common.{◌∙◌, ap, sym}
+use Rattle.std.proofs.Common.{◌∙◌, ap}
 use Rattle.resp_reader.proofs.Parsers.{went_back}
 use Rattle.resp_reader.proofs.parser.Parser.back.Goals as goal
 

@@ -1,4 +1,4 @@
-use Rattle.std.proofs.Common.{◌+◌, ◌<◌, ◌++◌, length, subst, arith}
+use Rattle.std.proofs.Common.{subst, arith}
 use Rattle.resp_reader.specs.Begun.{front_of}
 use Rattle.resp_reader.specs.Parser.{StopsAt, HasFault}
 use Rattle.resp_reader.proofs.Parsers.{fault_within}

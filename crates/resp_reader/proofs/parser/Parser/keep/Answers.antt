@@ -1,4 +1,4 @@
-use Rattle.std.proofs.Common.{◌∙◌, ap, sym}
+use Rattle.std.proofs.Common.{◌∙◌, ap}
 use Rattle.resp_reader.specs.Front.{texts}
 use Rattle.resp_reader.proofs.Parsers.{null_taken, array_taken, given_back}
 use Rattle.resp_reader.proofs.parser.Parser.keep.Goals as goal

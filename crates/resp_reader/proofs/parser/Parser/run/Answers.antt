@@ -1,8 +1,7 @@
-use Rattle.std.proofs.Common.{◌≡◌, ℕ, ◌+◌, ◌-◌, ◌<◌, ◌≤◌, ◌++◌, [], ◌∙◌, ap, sym, subst, length, arith}
+use Rattle.std.proofs.Common.{◌≡◌, ◌+◌, ◌-◌, ◌≤◌, ◌++◌, [], ◌∙◌, ap, subst, length, arith}
 use Rattle.flake_model.specs.Resp.{IsFaulty}
 use Rattle.resp_reader.specs.Begun.{front_of, Breaks}
 use Rattle.std.proofs.lemmas.Result.{err_from_is_err_and}
-use Rattle.resp_reader.specs.Parser.{TakesTo, CanGoBack}
 use Rattle.resp_reader.proofs.Parsers.{stepped, taken_on, grown_back, back_on, fault_within, stopped, place_of}
 use Rattle.resp_reader.proofs.parser.Parser.run.Goals as goal
 

@@ -1,6 +1,5 @@
-use Rattle.std.proofs.Common.{◌≡◌, ◌+◌, ◌<◌, ◌∙◌, sym, ap, length, arith}
+use Rattle.std.proofs.Common.{◌≡◌, ◌∙◌, sym, ap, length, arith}
 use Rattle.resp_reader.specs.Begun.{front_of}
-use Rattle.resp_reader.specs.Parser.{IsKept}
 use Rattle.resp_reader.specs.Reader.{Progress}
 use Rattle.resp_reader.proofs.Fed.{clean_end, truncated_end}
 use Rattle.resp_reader.proofs.reader.Reader.end.Goals as goal

@@ -1,6 +1,6 @@
-use Rattle.std.proofs.Common.{◌∙◌, sym, ap, refl}
+use Rattle.std.proofs.Common.{◌∙◌, sym, ap}
 use Rattle.std.specs.Option.{option_to_list}
-use Rattle.resp_reader.specs.Reader.{Progress, progress}
+use Rattle.resp_reader.specs.Reader.{Progress}
 use Rattle.resp_reader.proofs.Fed.{given_on}
 use Rattle.resp_reader.proofs.reader.Reader.next.Goals as goal
 
