@@ -8,7 +8,7 @@ use std::marker::Model;
 use std::slice::Iter;
 
 /// A list over a vector, with room that is taken ahead: a push is sure to succeed while some of it is left.
-#[derive(Drop)]
+#[derive(Debug, Drop)]
 pub struct Sequence<T> {
     vec: Vec<T>,
 }

@@ -9,3 +9,4 @@ pub mod Vectors
 pub mod OneParse
 pub mod OneSession
 pub mod OneOrder
+pub mod OneThread

@@ -24,6 +24,11 @@ abbrev pub replies_on : Store → List Command → List Reply
 replies_on store [] = []
 replies_on store (command ∷ commands) = reply_on store command ∷ replies_on (after_all store (parts command)) commands
 
+-- what commands leave
+abbrev pub store_on : Store → List Command → Store
+store_on store [] = store
+store_on store (command ∷ commands) = store_on (after_all store (parts command)) commands
+
 abbrev pub entries_of : List Step → List Entry
 entries_of steps = map (λ step. step.0) steps
 

@@ -65,3 +65,37 @@ fn bulk(alloc: Global, bytes: &[u8]) -> Result<Bytes, Memory>
     text.append(b"\r\n")?;
     Ok(text)
 }
+
+#[cfg(test)]
+mod tests {
+    use super::*;
+    use std::test::Fail;
+
+    #[test]
+    fn replies(rt: HostRuntime) -> Result<(), Fail> {
+        let alloc = rt.alloc();
+        let bulk = Reply::Bulk(Bytes::from_slice(alloc, b"hi\r\n")?);
+        assert_eq!(rt;
+            text(alloc, &bulk)?.as_slice(),
+            b"$4\r\nhi\r\n\r\n".as_slice()
+        );
+        let empty = Reply::Bulk(Bytes::new(alloc));
+        assert_eq!(rt; text(alloc, &empty)?.as_slice(), b"$0\r\n\r\n".as_slice());
+        assert_eq!(rt; text(alloc, &Reply::Ok)?.as_slice(), b"+OK\r\n".as_slice());
+        assert_eq!(rt;
+            text(alloc, &Reply::Null)?.as_slice(),
+            b"$-1\r\n".as_slice()
+        );
+        Ok(())
+    }
+
+    #[test]
+    fn lines(rt: HostRuntime) -> Result<(), Fail> {
+        let mut room = [0; 24];
+        assert_eq!(rt; line(&mut room, b':', 0), 4);
+        assert_eq!(rt; room[..4], b":0\r\n"[..4]);
+        assert_eq!(rt; line(&mut room, b'*', 18_446_744_073_709_551_615), 23);
+        assert_eq!(rt; room[..23], b"*18446744073709551615\r\n"[..23]);
+        Ok(())
+    }
+}

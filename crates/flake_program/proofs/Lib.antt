@@ -1,0 +1,4 @@
+pub mod Bytes
+pub mod Sessions
+pub mod Served
+pub mod Refusals

@@ -1,0 +1,61 @@
+//! A key-value server over files: requests from a file, replies to a wire.
+#![tactic(auto)]
+
+mod command;
+mod files;
+mod outcome;
+mod run;
+mod session;
+mod source;
+mod summary;
+mod table;
+mod tell;
+#[cfg(test)]
+mod tests;
+mod whole;
+mod words;
+
+use crate::files::{FileHost, FileWire};
+use crate::outcome::{OUT_OF_MEMORY, Refusal};
+use crate::run::run;
+use flake_base::Wire;
+use std::alloc::AllocError;
+use std::env;
+use std::io::ErrorKind;
+use std::process::ExitCode;
+
+// The words behind the program's name; none where one is no text, which makes them bad words.
+fn command_line(rt: &HostRuntime) -> Result<Vec<String>, AllocError> {
+    let mut words = Vec::new(rt.alloc());
+    match env::args(rt) {
+        Ok(args) => {
+            for word in args.skip(1) {
+                words.push(word)?;
+            }
+            Ok(words)
+        }
+        Err(error) if error.kind() == ErrorKind::OutOfMemory => Err(AllocError),
+        Err(_) => Ok(words),
+    }
+}
+
+// Session 0 writes to `out0.resp` in the folder where the program runs.
+fn serve(rt: &HostRuntime) -> Result<u8, AllocError> {
+    let alloc = rt.alloc();
+    let words = command_line(rt)?;
+    let name = String::from_str(alloc, "out0.resp")?;
+    let mut wires: Vec<Box<dyn Wire>> = Vec::with_capacity(alloc, 1)?;
+    wires.push(Box::new(alloc, FileWire::new(rt.clone()?, name))?)?;
+    let mut host = FileHost::new(rt.clone()?);
+    Ok(run(rt, alloc, words.as_slice(), &mut host, wires).status)
+}
+
+fn main(rt: HostRuntime) -> ExitCode {
+    match serve(&rt) {
+        Ok(status) => ExitCode::from(status),
+        Err(AllocError) => {
+            let _ = rt.print(Refusal::Memory.text());
+            ExitCode::from(OUT_OF_MEMORY)
+        }
+    }
+}

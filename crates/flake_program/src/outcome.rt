@@ -1,0 +1,117 @@
+use flake_base::{Ends, Journal, Wire};
+use std::alloc::Global;
+
+/// A source that was opened, by its file's number among the words, from 0.
+#[derive(Drop)]
+pub struct Opened<S> {
+    pub file: u16,
+    pub source: S,
+}
+
+/// What a status is about.
+#[derive(Clone, Copy, Debug, PartialEq, Eq)]
+pub enum Detail {
+    Nothing,
+    File(u16),
+}
+
+/// All was served.
+pub const SERVED: u8 = 0;
+
+/// A put on a wire, or what was to be said, failed.
+pub const WRITE_FAULT: u8 = 5;
+
+pub const OUT_OF_MEMORY: u8 = 6;
+
+/// Why nothing was served.
+#[derive(Clone, Copy, Debug, PartialEq, Eq)]
+pub enum Refusal {
+    BadWords,
+    OpenFault,
+    ReadFault,
+    NotBuilt,
+    Memory,
+}
+
+impl Refusal {
+    ghost use Rattle.std.specs.Prelude.{◌≡◌, ◌<◌, length};
+    ghost use Rattle.flake_program.specs.Refusals.{status_of, detail_of, refusal_text};
+
+    pub fn status(self) -> u8
+        ensures { result ≡ status_of self }
+    {
+        match self {
+            Refusal::BadWords => 1,
+            Refusal::OpenFault => 2,
+            Refusal::ReadFault => 4,
+            Refusal::Memory => OUT_OF_MEMORY,
+            Refusal::NotBuilt => 10,
+        }
+    }
+
+    pub fn detail(self) -> Detail
+        ensures { result ≡ detail_of self }
+    {
+        match self {
+            Refusal::OpenFault | Refusal::ReadFault => Detail::File(0),
+            Refusal::BadWords | Refusal::Memory | Refusal::NotBuilt => Detail::Nothing,
+        }
+    }
+
+    pub fn text(self) -> &'static str
+        ensures text { result.now ≡ refusal_text self }
+        ensures some { 0 < length result.now }
+    {
+        match self {
+            Refusal::BadWords => "bad words\n",
+            Refusal::OpenFault => "cannot open 0\n",
+            Refusal::ReadFault => "read fault 0\n",
+            Refusal::Memory => "out of memory\n",
+            Refusal::NotBuilt => "not built\n",
+        }
+    }
+}
+
+/// What a run has done.
+#[derive(Drop)]
+pub struct Outcome<S> {
+    pub status: u8,
+    pub detail: Detail,
+    /// How each session ended, in the order of the files; empty where nothing was served.
+    pub ends: Ends,
+    /// What each shard did, in order; empty where nothing was served.
+    pub journal: Journal,
+    /// Every source that was opened, in the order of the words.
+    pub sources: Vec<Opened<S>>,
+    /// All wires, at their places.
+    pub wires: Vec<Box<dyn Wire>>,
+}
+
+impl<S> Outcome<S> {
+    ghost use Rattle.std.specs.Prelude.{◌≡◌, []};
+    ghost use Rattle.flake_program.specs.Refusals.{status_of, detail_of};
+
+    /// An answer before any request ran.
+    pub fn unserved(
+        alloc: Global,
+        refusal: Refusal,
+        sources: Vec<Opened<S>>,
+        wires: Vec<Box<dyn Wire>>,
+    ) -> Self
+        ensures status { result.status ≡ status_of refusal }
+        ensures detail { result.detail ≡ detail_of refusal }
+        ensures ends { result.ends.items ≡ [] }
+        ensures journal { result.journal.items ≡ [] }
+        ensures sources { result.sources ≡ sources }
+        ensures wires { result.wires ≡ wires }
+    {
+        Outcome {
+            status: refusal.status(),
+            detail: refusal.detail(),
+            ends: Ends::new(alloc),
+            journal: Journal::new(alloc),
+            sources,
+            wires,
+        }
+    }
+}

@@ -1,0 +1,83 @@
+// What is said of sessions.
+ghost use Rattle.std.specs.Prelude.{◌≡◌, [], ◌∷◌, IfOk, string_bytes};
+ghost use Rattle.flake_model.specs.Said.{summary_from};
+
+use flake_base::{End, Memory, SessionEnd};
+use std::alloc::Global;
+use std::fmt;
+
+#[derive(Clone, Copy)]
+struct EndName(End);
+
+impl fmt::Display for EndName {
+    ghost use Rattle.std.specs.Prelude.{Some};
+    ghost use Rattle.flake_model.specs.Said.{end_text};
+
+    ghost output = { λ e. Some (end_text e.0) };
+
+    fn fmt<W: fmt::Write>(&self, f: &mut fmt::Formatter<W>) -> fmt::Result {
+        match self.0 {
+            End::Clean => f.write_str("clean"),
+            End::Protocol { kind, place } => write!(f, "protocol {kind} at {place}"),
+            End::Truncated { place } => write!(f, "truncated at {place}"),
+            End::TooLong => f.write_str("toolong"),
+            End::ReadFault => f.write_str("readfault"),
+            End::Memory => f.write_str("memory"),
+            End::Left => f.write_str("left"),
+        }
+    }
+}
+
+#[derive(Clone, Copy)]
+struct WireState {
+    failed: bool,
+}
+
+impl fmt::Display for WireState {
+    ghost use Rattle.std.specs.Prelude.{Some};
+    ghost use Rattle.flake_model.specs.Said.{wire_state};
+
+    ghost output = { λ w. Some (wire_state w.failed) };
+
+    fn fmt<W: fmt::Write>(&self, f: &mut fmt::Formatter<W>) -> fmt::Result {
+        f.write_str(if self.failed { "failed" } else { "whole" })
+    }
+}
+
+#[derive(Clone, Copy)]
+struct SessionLine {
+    session: u16,
+    end: SessionEnd,
+}
+
+impl fmt::Display for SessionLine {
+    ghost use Rattle.std.specs.Prelude.{Some};
+    ghost use Rattle.flake_model.specs.Said.{session_line};
+
+    ghost output = { λ l. Some (session_line l.session l.end) };
+
+    fn fmt<W: fmt::Write>(&self, f: &mut fmt::Formatter<W>) -> fmt::Result {
+        let session = self.session;
+        let name = EndName(self.end.end);
+        let taken = self.end.taken;
+        let replies = self.end.replies;
+        let wire = WireState {
+            failed: self.end.failed,
+        };
+        write!(
+            f,
+            "session {session} {name} taken {taken} replies {replies} wire {wire}\n"
+        )
+    }
+}
+
+/// The line of a run's only session.
+pub fn summary(alloc: Global, end: &SessionEnd) -> Result<String, Memory>
+    ensures { IfOk result (λ text. string_bytes text ≡ summary_from 0 (end.now ∷ [])) }
+{
+    let line = SessionLine {
+        session: 0,
+        end: *end,
+    };
+    Ok(format!(in alloc; "{line}")?)
+}

@@ -1,0 +1,10 @@
+pub mod Places
+pub mod Weights
+pub mod Keeps
+pub mod Steps
+pub mod Found
+pub mod AccountSums
+pub mod RawHolds
+pub mod Answering
+pub mod RawSteps
+pub mod Exact

@@ -1,0 +1,11 @@
+pub mod Buffers
+pub mod Holding
+pub mod Pins
+pub mod PinStep
+pub mod Sound
+pub mod Answers
+pub mod Accounts
+pub mod Raw
+pub mod State
+pub mod HeldCount
+pub mod Laws

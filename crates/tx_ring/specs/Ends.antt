@@ -1,0 +1,55 @@
+-- What a clause says of a ring's table and of its two ends.
+use Rattle.std.specs.Prelude.{◌≡◌, ℕ, ◌+◌, ◌*◌, ◌%◌, ◌<◌, ◌≤◌, List, [], ◌∷◌, true, false, length, slice_index, Option, Some}
+use Rattle.atomic_table.specs.Seated.{TableId}
+use Rattle.flake_base.specs.declared.segment.Seg.{Seg}
+use Rattle.tx_ring.specs.Words.{frame_words, IsFrame, size, extent}
+use Rattle.tx_ring.specs.Rule.{blank_driver, blank_device}
+use Rattle.tx_ring.specs.declared.view.DriverView.{DriverView}
+use Rattle.tx_ring.specs.declared.view.View.{View}
+use Rattle.tx_ring.specs.declared.view.DeviceView.{DeviceView}
+use Rattle.tx_ring.specs.declared.view.DeviceStage.TheVariants.{Resting, Fetching}
+use Rattle.atomic_table.specs.Table.{Me}
+use Rattle.tx_ring.specs.Moves.{fetching, holding}
+use Rattle.tx_ring.specs.declared.view.DriverStage.TheVariants.{Idle}
+
+abbrev pub IsSized : ℕ → TableId → Type 0
+IsSized n z = (z.slots ≡ n) × (z.words ≡ 3 + 2 * n) × (0 < n) × (n ≤ 4096)
+
+-- the driver's seat between two calls
+abbrev pub driving : {P : Type 0} → DriverView P → View P
+driving d = record { drives = true; gathers = false; driver = record d { draft = []; stage = Idle }; device = blank_device }
+
+-- the driver's seat, whatever the driver has begun
+abbrev pub steering : {P : Type 0} → DriverView P → View P
+steering d = record { drives = true; gathers = false; driver = d; device = blank_device }
+
+-- the device's seat
+abbrev pub gathering : {P : Type 0} → DeviceView P → View P
+gathering e = record { drives = false; gathers = true; driver = blank_driver; device = e }
+
+-- no frame is out with it
+abbrev pub IsAtRest : {P : Type 0} → Me (Option P) (View P) → Type 0
+IsAtRest m = (m ≡ (gathering m.0.device, [])) × (m.0.device.stage ≡ Resting)
+
+-- the descriptor `at` of the next frame is fetched next
+abbrev pub IsFetching : {P : Type 0} → (P → List Seg) → ℕ → Me (Option P) (View P) → ℕ → ℕ → P → Type 0
+IsFetching segs n m place at f = (m ≡ (gathering m.0.device, [])) × (m.0.device.stage ≡ Fetching f (2 * at)) × (at < size segs f) × IsFrame (segs f) × (place ≡ (extent segs m.0.device.completed + at) % n)
+
+-- what was fetched: its two words, and after the last one the frame's slot is out
+abbrev pub Fetched : {P : Type 0} → (P → List Seg) → Me (Option P) (View P) → Me (Option P) (View P) → ℕ → ℕ → ℕ → ℕ → P → Type 0
+Fetched segs m m' place at low high f = (low ≡ slice_index (frame_words false (segs f)) (2 * at)) × (high ≡ slice_index (frame_words false (segs f)) (2 * at + 1))
+    × (at + 1 < size segs f → m' ≡ (gathering (fetching f (2 * (at + 1)) m.0.device), []))
+    × (at + 1 ≡ size segs f → m' ≡ (gathering (holding f m.0.device), (place, Some f) ∷ []))
+
+abbrev pub with_draft : {P : Type 0} → List ℕ → View P → View P
+with_draft ws v = record v { driver = record v.driver { draft = ws } }
+
+module _ {P : Type 0} (segs : P → List Seg) where
+  -- whole descriptors stand past the tail, and `place` is where the next one goes, for which there is room
+  pub record IsDrafting (n : ℕ) (v : View P) (place : ℕ) : Type 0 where
+    pub drives : v.drives ≡ true
+    pub idle : v.driver.stage ≡ Idle
+    pub drafted : ℕ
+    pub whole : length v.driver.draft ≡ 2 * drafted
+    pub is_place : place ≡ (extent segs v.driver.posted + drafted) % n
+    pub room : extent segs v.driver.posted + drafted + 2 ≤ extent segs v.driver.reaped + n

@@ -1,0 +1,30 @@
+-- The descriptors of a frame, and the two words of each.
+use Rattle.std.specs.Prelude.{ℕ, List, [], ◌∷◌, ◌++◌, Bool, true, false}
+use Rattle.std.specs.Int.{w64, to_le_bytes}
+use Rattle.flake_base.specs.declared.segment.Seg.{Seg}
+use Rattle.tx_descriptor.specs.declared.legacy.Legacy.{Legacy}
+use Rattle.tx_descriptor.specs.Bytes.{descriptor_bytes}
+use Rattle.tx_ring.specs.Words.{second}
+use Rattle.tx_ring.specs.declared.job.Row.{Row}
+
+-- the descriptor of a segment: EOP and RS stand on a frame's last one alone, and DD once the frame is completed
+abbrev pub segment_descriptor : Seg → Bool → Bool → Legacy
+segment_descriptor s last done = record { address = s.address; len = s.len; eop = last; rs = last; dd = done }
+
+-- the bytes of a frame's descriptors before it is completed
+abbrev pub frame_bytes : List Seg → List (List ℕ)
+frame_bytes [] = []
+frame_bytes (s ∷ []) = descriptor_bytes (segment_descriptor s true false) ∷ []
+frame_bytes (s ∷ t ∷ ss) = descriptor_bytes (segment_descriptor s false false) ∷ frame_bytes (t ∷ ss)
+
+abbrev pub row : Seg → Bool → Row
+row s last = record { address = s.address; status = second s.len last false }
+
+-- the words of the same descriptors
+abbrev pub frame_rows : List Seg → List Row
+frame_rows [] = []
+frame_rows (s ∷ []) = row s true ∷ []
+frame_rows (s ∷ t ∷ ss) = row s false ∷ frame_rows (t ∷ ss)
+
+abbrev pub row_bytes : Row → List ℕ
+row_bytes r = to_le_bytes w64 r.address ++ to_le_bytes w64 r.status

@@ -1,0 +1,27 @@
+//! What is known of both ends of a ring when both are at hand.
+ghost use Rattle.std.specs.Prelude.{◌≡◌, length, false};
+ghost use Rattle.tx_ring.specs.Plays.{InOrder};
+ghost use Rattle.tx_ring.specs.Shown.{driver_ring, driver_view, posted, device_ring, device_view, completed, ended, IsResting};
+
+use crate::compare::compare;
+use crate::device::DeviceEnd;
+use crate::driver::Driver;
+use tx_descriptor::Framed;
+
+/// The driver reaped a prefix of what the device completed, and that is a prefix of what the driver posted.
+/// Both ends are told how far the other is, and their lists stay.
+pub fn both_ends<P: Framed>(driver: &mut Driver<P>, end: &mut DeviceEnd<P>)
+    requires { (device_ring end.old ≡ driver_ring driver.old) × IsResting end.old }
+    ensures ring { (driver_ring driver.new ≡ driver_ring driver.old)
+        × (device_ring end.new ≡ device_ring end.old) }
+    ensures order { InOrder (driver_view driver.old) (device_view end.old) × (ended end.old ≡ false) }
+    ensures driver { driver_view driver.new ≡ record (driver_view driver.old) { told = length (completed end.old) } }
+    ensures device { device_view end.new ≡ record (device_view end.old) { told = length (posted driver.old) } }
+    ensures rest { IsResting end.new }
+{
+    compare(
+        &driver.table.shared,
+        &mut driver.cursor.seat,
+        &mut end.cursor.seat,
+    );
+}

@@ -1,0 +1,4 @@
+pub mod Sums
+pub mod Items
+pub mod Eachs
+pub mod NumberedSums

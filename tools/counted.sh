@@ -1,0 +1,27 @@
+# Sourced by the scripts that check: counts checks, and says how each ends. It makes a folder, $room, that goes at the end.
+
+passed=0
+failed=0
+room=$(mktemp -d) || exit 1
+trap 'rm -rf -- "$room"' EXIT
+
+# check WHAT COMMAND..: one check, which passes where the command ends well; else what the command said is shown.
+check() {
+  what=$1
+  shift
+  if "$@" >"$room/said_by_check" 2>&1; then
+    passed=$((passed + 1))
+    printf 'passed  %s\n' "$what"
+  else
+    failed=$((failed + 1))
+    printf 'FAILED  %s\n' "$what"
+    head -c 2000 "$room/said_by_check" | sed 's/^/        /'
+  fi
+}
+
+# Says the sums and ends, well only where something passed and nothing failed.
+end_of_checks() {
+  printf '%s passed, %s failed\n' "$passed" "$failed"
+  [ "$passed" -gt 0 ] && [ "$failed" -eq 0 ]
+  exit
+}
