@@ -2,7 +2,9 @@
 //! many SETs: 16,268 have 67,105,500 bytes, the most below the limit of an input.
 #![tactic(auto)]
 
-ghost use Rattle.std.specs.Prelude.{◌≡◌};
+ghost use Rattle.std.specs.Prelude.{◌≡◌, ◌++◌, List, ℕ, IfOk};
+ghost use Rattle.flake_model.specs.Resp.{Words, Parses};
+ghost use Rattle.resp_reader.specs.Reader.{Reads, input_end};
 
 use anyhow::{Context, Result, bail};
 use resp_reader::{Ended, ReadError, Reader};
@@ -37,7 +39,9 @@ fn sets(alloc: Global, count: u32) -> std::result::Result<Vec<u8>, AllocError> {
 
 // Takes the requests that are whole, and counts them and their words' bytes.
 fn take(reader: &mut Reader, tally: &mut Tally)
-    ensures { reader.new.closed ≡ reader.old.closed }
+    ensures open { reader.new.closed ≡ reader.old.closed }
+    ensures fed { (bytes : List ℕ) (given : List Words) → Reads bytes given reader.old
+        → (more : List Words) × Reads bytes (given ++ more) reader.new }
 {
     while let Some(request) = reader.next() {
         tally.requests = tally.requests.saturating_add(1);
@@ -47,15 +51,21 @@ fn take(reader: &mut Reader, tally: &mut Tally)
     }
 }
 
-fn read(alloc: Global, input: &[u8]) -> std::result::Result<(Tally, Ended), ReadError> {
+// The end that is answered is that of the input.
+fn read(alloc: Global, input: &[u8]) -> std::result::Result<(Tally, Ended), ReadError>
+    ensures { IfOk result (λ found. (requests : List Words) × Parses input.now requests (input_end found.1)) }
+{
     let mut reader = Reader::new(alloc);
     let mut tally = Tally {
         requests: 0,
         bytes: 0,
     };
-    for piece in input.chunks(PIECE) {
+    let mut rest = input;
+    while !rest.is_empty() {
+        let (piece, behind) = rest.split_at(PIECE.min(rest.len()));
         reader.feed(piece)?;
         take(&mut reader, &mut tally);
+        rest = behind;
     }
     Ok((tally, reader.end()))
 }
