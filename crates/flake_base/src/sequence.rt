@@ -1,4 +1,4 @@
-ghost use Rattle.std.specs.Prelude.{◌≡◌, ◌<◌, ◌≤◌, ◌+◌, ◌-◌, ◌↔◌, ◌++◌, ◌==◌, ◌^◌, [], ◌∷◌, length, slice_get, slice_index_or, Some, IfOk, IsOk, IsNone, OnOk, OnErr, IfErr, IfSome, IfNone};
+ghost use Rattle.std.specs.Prelude.{◌≡◌, ◌<◌, ◌≤◌, ◌+◌, ◌-◌, ◌↔◌, ◌++◌, ◌==◌, ◌^◌, [], ◌∷◌, length, take, slice_get, slice_index_or, Some, IfOk, IsOk, IsNone, OnOk, OnErr, IfErr, IfSome, IfNone};
 ghost use Rattle.std.specs.Slice.Iter.{iter_rest};
 ghost use Rattle.std.specs.Iterator.Adapters.{IterYieldsInOrder};
 
@@ -130,5 +130,15 @@ impl Sequence<u8> {
     {
         self.vec.extend_from_slice(bytes)?;
         Ok(())
+    }
+}
+
+impl<T: Drop> Sequence<T> {
+    /// Drops the items behind the first `n`.
+    pub fn truncate(&mut self, n: usize)
+        ensures items { self.new.items ≡ take n self.old.items }
+        ensures spare { self.old.spare ≤ self.new.spare }
+    {
+        self.vec.truncate(n);
     }
 }

@@ -94,7 +94,7 @@ no_minus limit line byte small n behind rest below e =
     let number = decimal_is_IsNumeral n (omega arith) in
     not_minus (decimal n) (13 ∷ 10 ∷ behind) (line ++ byte ∷ rest) number.0.0 number.0.1 e
 
-NoLf-digits : (digits : List ℕ) → AllDigits 10 digits → AllByRecursion (λ b. b ≢ 10) digits
+pub NoLf-digits : (digits : List ℕ) → AllDigits 10 digits → AllByRecursion (λ b. b ≢ 10) digits
 NoLf-digits [] all = tt
 NoLf-digits (c ∷ digits) all = (λ e. absurd (omega (arith, subst (λ b. digit_value b < 10) e all.0)), NoLf-digits digits all.1)
 

@@ -1,0 +1,94 @@
+//! Makes SETs of 4 KiB, feeds them to a reader in pieces of 4,096 bytes, and says what came out. Its word is how
+//! many SETs: 16,268 have 67,105,500 bytes, the most below the limit of an input.
+#![tactic(auto)]
+
+ghost use Rattle.std.specs.Prelude.{◌≡◌, ◌++◌, List, ℕ, IfOk};
+ghost use Rattle.flake_model.specs.Resp.{Words, Parses};
+ghost use Rattle.resp_reader.specs.Reader.{Reads, input_end};
+
+use anyhow::{Context, Result, bail};
+use resp_reader::{Ended, ReadError, Reader};
+use std::alloc::{AllocError, Global};
+use std::env;
+
+const PIECE: usize = 4096;
+
+/// What came out of an input.
+#[derive(Drop)]
+struct Tally {
+    requests: u64,
+    bytes: u64,
+}
+
+// SET of the key `k` to 4,096 bytes, 4,125 in all.
+fn set(alloc: Global) -> std::result::Result<Vec<u8>, AllocError> {
+    let mut request = Vec::from_slice(alloc, b"*3\r\n$3\r\nSET\r\n$1\r\nk\r\n$4096\r\n")?;
+    request.extend_from_slice(&[b'v'; 4096])?;
+    request.extend_from_slice(b"\r\n")?;
+    Ok(request)
+}
+
+fn sets(alloc: Global, count: u32) -> std::result::Result<Vec<u8>, AllocError> {
+    let request = set(alloc)?;
+    let mut input = Vec::new(alloc);
+    for _ in 0..count {
+        input.extend_from_slice(&request)?;
+    }
+    Ok(input)
+}
+
+// Takes the requests that are whole, and counts them and their words' bytes.
+fn take(reader: &mut Reader, tally: &mut Tally)
+    ensures open { reader.new.closed ≡ reader.old.closed }
+    ensures fed { (bytes : List ℕ) (given : List Words) → Reads bytes given reader.old
+        → (more : List Words) × Reads bytes (given ++ more) reader.new }
+{
+    while let Some(request) = reader.next() {
+        tally.requests = tally.requests.saturating_add(1);
+        for i in 0..request.len() {
+            tally.bytes = tally.bytes.saturating_add(request.word(i).len() as u64);
+        }
+    }
+}
+
+// The end that is answered is that of the input.
+fn read(alloc: Global, input: &[u8]) -> std::result::Result<(Tally, Ended), ReadError>
+    ensures { IfOk result (λ found. (requests : List Words) × Parses input.now requests (input_end found.1)) }
+{
+    let mut reader = Reader::new(alloc);
+    let mut tally = Tally {
+        requests: 0,
+        bytes: 0,
+    };
+    let mut rest = input;
+    while !rest.is_empty() {
+        let (piece, behind) = rest.split_at(PIECE.min(rest.len()));
+        reader.feed(piece)?;
+        take(&mut reader, &mut tally);
+        rest = behind;
+    }
+    Ok((tally, reader.end()))
+}
+
+fn main(rt: HostRuntime) -> Result<()> {
+    let Some(word) = env::args(&rt)?.nth(1) else {
+        bail!("how many requests?");
+    };
+    let count = word
+        .as_str()
+        .parse::<u32>()
+        .context("the number of requests")?;
+    let input = sets(rt.alloc(), count)?;
+    match read(rt.alloc(), &input) {
+        Ok((tally, Ended::Clean)) => {
+            let Tally { requests, bytes } = tally;
+            println!(rt;
+                "{requests} requests with {bytes} bytes of words, in {} bytes",
+                input.len()
+            )?;
+            Ok(())
+        }
+        Ok((_, end)) => bail!("{end:?}"),
+        Err(error) => bail!("{error:?}"),
+    }
+}

@@ -1,0 +1,179 @@
+-- How an element goes on, state by state.
+use Rattle.std.proofs.Common.{◌≡◌, ◌≢◌, ℕ, ◌+◌, ◌<◌, ◌≤◌, List, [], ◌∷◌, ◌++◌, length, replicate, arith, refl, ap, sym, ◌∙◌, subst, append_assoc, append-nil, length-append, lit<, lit≤}
+use Rattle.std.specs.Prelude.{Result, Ok, Err, IfErr}
+use Rattle.std.specs.Fmt.{decimal}
+use Rattle.std.specs.Char.{digit_value}
+use Rattle.std.specs.Str.Parse.{AllDigits}
+use Rattle.std.specs.List.{AllByRecursion, Contains}
+use Rattle.std.proofs.lemmas.List.{length-replicate}
+use Rattle.flake_model.specs.Resp.{Words, crlf, bulk_string, IsWord, element_text, null_array, IsCutShort, FaultKind, inline, in_count, at_word, in_word, IsFaulty}
+use Rattle.flake_model.specs.Fronts.{NoNull, NoWordGoesOn, NoElementGoesOn, array_front, word_front}
+use Rattle.flake_model.proofs.Grammar.{NoCr-digits}
+use Rattle.flake_model.proofs.Streams.{all_append}
+use Rattle.flake_model.proofs.Digits.{no_line_feed, no_minus, NoLf-digits, not_at}
+use Rattle.flake_model.proofs.Fronts.{not_a_mark, not_a_count, not_null_line, not_null_line_feed, not_a_length, not_a_line_end, not_a_line_feed, no_word_in_array, no_mark_in_array, cut_in_count, cut_in_word, cut_at_word, cut_in_null}
+use Rattle.flake_model.proofs.Faults.{faulty}
+use Rattle.resp_reader.specs.declared.head.Head.TheVariants.{Count, Length}
+use Rattle.resp_reader.specs.declared.head.Digits.{Digits}
+use Rattle.resp_reader.specs.declared.head.Digits.TheVariants.{Nothing, Number, Minus, MinusOne}
+use Rattle.resp_reader.specs.declared.begun.State.TheVariants.{Start, InCount, CountEnd, AtWord, InLength, LengthEnd, InWord, WordEnd, Null, Whole}
+use Rattle.resp_reader.specs.declared.begun.Stop.{Stop}
+use Rattle.resp_reader.specs.declared.begun.Stop.TheVariants.{Fault, Memory as OutOfMemory}
+use Rattle.resp_reader.specs.declared.begun.State.{State}
+use Rattle.resp_reader.specs.declared.begun.Begun.{Begun}
+use Rattle.resp_reader.specs.Front.{texts}
+use Rattle.resp_reader.specs.Head.{digits_text, IsDigits, IsWhole, LineFault}
+use Rattle.resp_reader.specs.Begun.{state_front, IsState, Moves, Stops, IsArray, IsSound, Breaks}
+use Rattle.resp_reader.proofs.Heads.{some_digits}
+
+-- a byte that isn't the one that is wanted
+other_first : (bytes : List ℕ) (mark : ℕ) → 0 < length bytes → ((rest : List ℕ) → bytes ≢ mark ∷ rest) → (byte : ℕ) × (more : List ℕ) × (bytes ≡ byte ∷ more) × (byte ≢ mark)
+other_first [] mark some none = absurd (omega arith)
+other_first (byte ∷ more) mark some none = (byte, more, refl, λ same. none more (ap (λ b. b ∷ more) same))
+
+-- an error at the next byte
+pub fault_here : (front bytes : List ℕ) (mark kind : ℕ) → IsCutShort front → ((byte : ℕ) → byte ≢ mark → NoElementGoesOn front byte) → FaultKind front kind
+    → 0 < length bytes → ((rest : List ℕ) → bytes ≢ mark ∷ rest) → IsFaulty (front ++ bytes) [] kind (length front + 0)
+fault_here front bytes mark kind begun refused kind_is some none =
+    let other = other_first bytes mark some none in
+    let place : length front ≡ length front + 0 = omega arith in
+    subst (λ place. IsFaulty (front ++ bytes) [] kind place) place
+    (subst (λ b. IsFaulty (front ++ b) [] kind (length front)) (sym other.2) (faulty [] front other.0 other.1 kind tt begun (refused other.0 other.3) kind_is))
+
+-- no line has an LF before its CR
+no_lf : (digits : Digits) → IsDigits Count digits → AllByRecursion (λ b. b ≢ 10) (digits_text digits)
+no_lf Nothing allowed = tt
+no_lf (Number n) allowed = NoLf-digits (decimal n) (some_digits n (omega arith)).1
+no_lf Minus allowed = (λ e. absurd (omega (arith, e)), tt)
+no_lf MinusOne allowed = (λ e. absurd (omega (arith, e)), (λ e. absurd (omega (arith, e)), tt))
+
+none_among : (bytes : List ℕ) → AllByRecursion (λ b. b ≢ 10) bytes → Contains bytes 10 → ⊥
+none_among bytes all found = not_at 10 bytes all found.0 found.1 found.2
+
+pub start_stops : (bytes : List ℕ) → 0 < length bytes → ((rest : List ℕ) → bytes ≢ 42 ∷ rest) → Stops Start bytes (Fault 4 0)
+start_stops bytes some none words word sound = fault_here [] bytes 42 4 (cut_in_null [] (element_text null_array) refl (lit< tt)) not_a_mark inline some none
+
+-- a count line can go on
+pub cut_count : (digits : Digits) → IsDigits Count digits → IsCutShort (42 ∷ digits_text digits)
+cut_count Nothing allowed = cut_in_null (42 ∷ []) (45 ∷ 49 ∷ 13 ∷ 10 ∷ []) refl (lit< tt)
+cut_count (Number n) allowed = cut_in_count n (decimal n) crlf allowed refl (lit< tt)
+cut_count Minus allowed = cut_in_null (42 ∷ 45 ∷ []) (49 ∷ 13 ∷ 10 ∷ []) refl (lit< tt)
+cut_count MinusOne allowed = cut_in_null (42 ∷ 45 ∷ 49 ∷ []) (13 ∷ 10 ∷ []) refl (lit< tt)
+
+pub cut_count_end : (digits : Digits) → IsDigits Count digits → IsWhole digits → IsCutShort (42 ∷ (digits_text digits ++ 13 ∷ []))
+cut_count_end Nothing allowed whole = absurd whole
+cut_count_end (Number n) allowed whole = cut_in_count n (decimal n ++ 13 ∷ []) (10 ∷ []) allowed (append_assoc (decimal n) (13 ∷ []) (10 ∷ [])) (lit< tt)
+cut_count_end Minus allowed whole = absurd whole
+cut_count_end MinusOne allowed whole = cut_in_null (42 ∷ 45 ∷ 49 ∷ 13 ∷ []) (10 ∷ []) refl (lit< tt)
+
+-- an error in a line, in its element
+line_fault : (front text came : List ℕ) (byte : ℕ) (more bytes now : List ℕ) (place kind : ℕ) → bytes ≡ came ++ byte ∷ more → now ≡ text ++ came → place ≡ length came
+    → IsCutShort (front ++ now) → NoElementGoesOn (front ++ now) byte → FaultKind (front ++ now) kind → IsFaulty ((front ++ text) ++ bytes) [] kind (length (front ++ text) + place)
+line_fault front text came byte more bytes now place kind bytes_are now_is place_is begun refused kind_is =
+    let all : (front ++ now) ++ byte ∷ more ≡ (front ++ text) ++ bytes =
+    ap (λ t. (front ++ t) ++ byte ∷ more) now_is ∙ ap (λ t. t ++ byte ∷ more) (sym (append_assoc front text came)) ∙ append_assoc (front ++ text) came (byte ∷ more) ∙ ap (λ b. (front ++ text) ++ b) (sym bytes_are) in
+    let at : length (front ++ now) ≡ length (front ++ text) + place = omega (arith, ap length now_is, length-append front now, length-append front text, length-append text came) in
+    subst (λ place. IsFaulty ((front ++ text) ++ bytes) [] kind place) at (subst (λ b. IsFaulty b [] kind (length (front ++ now))) all (faulty [] (front ++ now) byte more kind tt begun refused kind_is))
+
+pub in_count_stops : (digits : Digits) (bytes : List ℕ) (place : ℕ) → LineFault Count digits bytes place → Stops (InCount digits) bytes (Fault 1 place)
+in_count_stops digits bytes place fault words word sound =
+    line_fault (42 ∷ []) (digits_text digits) fault.front fault.byte fault.more bytes (digits_text fault.now) place 1 fault.bytes_are fault.now_is fault.place_is
+    (cut_count fault.now fault.allowed) (not_a_count (digits_text fault.now) fault.byte fault.refused.0 fault.refused.1) (in_count (digits_text fault.now) (none_among (digits_text fault.now) (no_lf fault.now fault.allowed)))
+
+digits_then_cr : (digits : List ℕ) (byte : ℕ) → 0 < length digits → AllDigits 10 digits → NoNull (digits ++ 13 ∷ []) byte
+digits_then_cr [] byte some all rest e = omega arith
+digits_then_cr (c ∷ digits) byte some all rest e = not_null_line c (digits ++ 13 ∷ []) byte (λ is. absurd (omega (arith, subst (λ b. digit_value b < 10) is all.0))) rest e
+
+-- no count line goes on behind its CR but by LF
+no_count_end : (digits : Digits) (byte : ℕ) → IsDigits Count digits → IsWhole digits → byte ≢ 10 → NoElementGoesOn (42 ∷ (digits_text digits ++ 13 ∷ [])) byte
+no_count_end Nothing byte allowed whole other = absurd whole
+no_count_end (Number n) byte allowed whole other =
+    let text = some_digits n (omega arith) in
+    not_a_count (decimal n ++ 13 ∷ []) byte (no_line_feed 1024 (decimal n) byte (lit< tt) (NoCr-digits (decimal n) text.1) other) (digits_then_cr (decimal n) byte text.0 text.1)
+no_count_end Minus byte allowed whole other = absurd whole
+no_count_end MinusOne byte allowed whole other = not_a_count (45 ∷ 49 ∷ 13 ∷ []) byte (no_minus 1024 (49 ∷ 13 ∷ []) byte (lit< tt)) (not_null_line_feed byte other)
+
+pub count_end_stops : (digits : Digits) (bytes : List ℕ) → 0 < length bytes → ((rest : List ℕ) → bytes ≢ 10 ∷ rest) → Stops (CountEnd digits) bytes (Fault 1 0)
+count_end_stops digits bytes some none words word sound =
+    let line = digits_text digits ++ 13 ∷ [] in
+    let clear : AllByRecursion (λ b. b ≢ 10) line = all_append (λ b. b ≢ 10) (digits_text digits) (13 ∷ []) (no_lf digits sound.2) (λ e. absurd (omega (arith, e)), tt) in
+    fault_here (42 ∷ line) bytes 10 1 (cut_count_end digits sound.2 sound.3) (λ byte other. no_count_end digits byte sound.2 sound.3 other) (in_count line (none_among line clear)) some none
+
+pub at_word_stops : (count : ℕ) (bytes : List ℕ) → 0 < length bytes → ((rest : List ℕ) → bytes ≢ 36 ∷ rest) → Stops (AtWord count) bytes (Fault 2 0)
+at_word_stops count bytes some none words word sound =
+    fault_here (array_front count words) bytes 36 2 (cut_at_word count words sound.0.most sound.0.allowed sound.0.less)
+    (λ byte other. no_mark_in_array count words byte sound.0.most sound.0.allowed sound.0.less other) (at_word count words sound.0.less) some none
+
+-- a word of a length, with its text
+pub word_of : (len : ℕ) → len ≤ 1048576 → (word : List ℕ) × IsWord word × (bulk_string word ≡ 36 ∷ (decimal len ++ 13 ∷ 10 ∷ (word ++ crlf)))
+word_of len most =
+    let word : List ℕ = replicate len 0 in
+    let is : length word ≡ len = length-replicate len 0 in
+    let shape : bulk_string word ≡ 36 ∷ (decimal (length word) ++ 13 ∷ 10 ∷ (word ++ crlf)) = simp append_assoc in
+    (word, omega arith, shape ∙ ap (λ n. 36 ∷ (decimal n ++ 13 ∷ 10 ∷ (word ++ crlf))) is)
+
+-- a length line is the front of a word
+pub length_begins : (digits : Digits) → IsDigits Length digits → (word : List ℕ) × (more : List ℕ) × IsWord word × (bulk_string word ≡ 36 ∷ digits_text digits ++ more) × (0 < length more)
+length_begins Nothing allowed = let found = word_of 0 (lit≤ tt) in (found.0, decimal 0 ++ 13 ∷ 10 ∷ (found.0 ++ crlf), found.1, found.2, omega (arith, length-append (decimal 0) (13 ∷ 10 ∷ (found.0 ++ crlf))))
+length_begins (Number n) allowed = let found = word_of n allowed in (found.0, 13 ∷ 10 ∷ (found.0 ++ crlf), found.1, found.2, omega arith)
+length_begins Minus allowed = absurd allowed
+length_begins MinusOne allowed = absurd allowed
+
+pub in_length_stops : (count : ℕ) (digits : Digits) (bytes : List ℕ) (place : ℕ) → LineFault Length digits bytes place → Stops (InLength count digits) bytes (Fault 3 place)
+in_length_stops count digits bytes place fault words word sound =
+    let found = length_begins fault.now fault.allowed in
+    let front = array_front count words in
+    let same : (front ++ 36 ∷ []) ++ digits_text fault.now ≡ front ++ 36 ∷ digits_text fault.now = append_assoc front (36 ∷ []) (digits_text fault.now) in
+    let start : (front ++ 36 ∷ []) ++ digits_text digits ≡ front ++ 36 ∷ digits_text digits = append_assoc front (36 ∷ []) (digits_text digits) in
+    subst (λ b. IsFaulty (b ++ bytes) [] 3 (length b + place)) start
+    (line_fault (front ++ 36 ∷ []) (digits_text digits) fault.front fault.byte fault.more bytes (digits_text fault.now) place 3 fault.bytes_are fault.now_is fault.place_is
+    (subst IsCutShort (sym same) (cut_in_word count words found.0 (36 ∷ digits_text fault.now) found.1 sound.0.most sound.0.allowed sound.0.less found.2 found.3 found.4))
+    (subst (λ b. NoElementGoesOn b fault.byte) (sym same) (no_word_in_array count words (36 ∷ digits_text fault.now) fault.byte sound.0.most sound.0.allowed sound.0.less (not_a_length (digits_text fault.now) fault.byte fault.refused)))
+    (subst (λ b. FaultKind b 3) (sym same) (in_word count words found.0 (digits_text fault.now) found.1 sound.0.less found.3 found.4)))
+
+-- an error at the next byte inside a word
+pub fault_in_word : (count : ℕ) (words : Words) (word begun more bytes : List ℕ) (mark : ℕ) → IsArray count words → IsWord word → bulk_string word ≡ 36 ∷ begun ++ more → 0 < length more
+    → ((byte : ℕ) → byte ≢ mark → NoWordGoesOn (36 ∷ begun) byte) → 0 < length bytes → ((rest : List ℕ) → bytes ≢ mark ∷ rest)
+    → IsFaulty ((array_front count words ++ 36 ∷ begun) ++ bytes) [] 3 (length (array_front count words ++ 36 ∷ begun) + 0)
+fault_in_word count words word begun more bytes mark sound is begins longer refused some none =
+    fault_here (array_front count words ++ 36 ∷ begun) bytes mark 3 (cut_in_word count words word (36 ∷ begun) more sound.most sound.allowed sound.less is begins longer)
+    (λ byte other. no_word_in_array count words (36 ∷ begun) byte sound.most sound.allowed sound.less (refused byte other)) (in_word count words word begun more sound.less begins longer) some none
+
+pub length_end_stops : (count len : ℕ) (bytes : List ℕ) → 0 < length bytes → ((rest : List ℕ) → bytes ≢ 10 ∷ rest) → Stops (LengthEnd count len) bytes (Fault 3 0)
+length_end_stops count len bytes some none words word sound =
+    let found = word_of len sound.2 in
+    let begins : bulk_string found.0 ≡ 36 ∷ (decimal len ++ 13 ∷ []) ++ 10 ∷ (found.0 ++ crlf) = found.2 ∙ ap (λ b. 36 ∷ b) (sym (append_assoc (decimal len) (13 ∷ []) (10 ∷ (found.0 ++ crlf)))) in
+    fault_in_word count words found.0 (decimal len ++ 13 ∷ []) (10 ∷ (found.0 ++ crlf)) bytes 10 sound.0 found.1 begins (omega arith)
+    (λ byte other. not_a_length (decimal len ++ 13 ∷ []) byte (no_line_feed 1048576 (decimal len) byte (lit< tt) (NoCr-digits (decimal len) (some_digits len (omega (arith, sound.2))).1) other)) some none
+
+-- an error behind a word's bytes
+pub word_stops : (count len : ℕ) (words : Words) (word bytes : List ℕ) → IsState (InWord count len) words word → length word ≡ len → 0 < length bytes → ((rest : List ℕ) → bytes ≢ 13 ∷ rest)
+    → IsFaulty (state_front (InWord count len) words word ++ bytes) [] 3 (length (state_front (InWord count len) words word) + 0)
+word_stops count len words word bytes sound whole some none =
+    let front : word_front word ≡ 36 ∷ (decimal len ++ 13 ∷ 10 ∷ word) = let shape : word_front word ≡ 36 ∷ (decimal (length word) ++ 13 ∷ 10 ∷ word) = simp append_assoc in shape ∙ ap (λ n. 36 ∷ (decimal n ++ 13 ∷ 10 ∷ word)) whole in
+    let begins : bulk_string word ≡ 36 ∷ (decimal len ++ 13 ∷ 10 ∷ word) ++ crlf = ap (λ f. f ++ crlf) front in
+    fault_in_word count words word (decimal len ++ 13 ∷ 10 ∷ word) crlf bytes 13 sound.0 (omega (arith, sound.2)) begins (lit< tt)
+    (λ byte other. subst (λ f. NoWordGoesOn f byte) front (not_a_line_end word byte (omega (arith, sound.2)) other)) some none
+
+-- and behind the CR there
+pub word_end_stops : (count : ℕ) (words : Words) (word bytes : List ℕ) → IsState (WordEnd count) words word → 0 < length bytes → ((rest : List ℕ) → bytes ≢ 10 ∷ rest)
+    → IsFaulty (state_front (WordEnd count) words word ++ bytes) [] 3 (length (state_front (WordEnd count) words word) + 0)
+word_end_stops count words word bytes sound some none =
+    let begun = decimal (length word) ++ crlf ++ word ++ 13 ∷ [] in
+    let front : word_front word ++ 13 ∷ [] ≡ 36 ∷ begun = refl in
+    let begins : bulk_string word ≡ 36 ∷ begun ++ 10 ∷ [] = sym (append_assoc (word_front word) (13 ∷ []) (10 ∷ [])) in
+    fault_in_word count words word begun (10 ∷ []) bytes 10 sound.0 sound.1 begins (lit< tt)
+    (λ byte other. not_a_line_feed word byte sound.1 other) some none
+
+-- an error behind the front, by the state that it comes at
+pub breaks : {X Y : Type 0} (next : Result X Stop) (result : Result Y Stop) (begun : Begun) (state : State) (bytes : List ℕ) → begun.state ≡ state → IsSound begun
+    → IfErr next (Stops state bytes) → IfErr result (λ e. next ≡ Err e) → IfErr result (Breaks begun bytes)
+breaks next (Ok y) begun state bytes at sound stops same = tt
+breaks (Ok x) (Err e) begun state bytes at sound stops same = absurd cc
+breaks (Err d) (Err (Fault kind place)) begun state bytes at sound stops same =
+    let is : d ≡ Fault kind place = cc in
+    let words = texts begun.words.items in
+    let stop : Stops state bytes (Fault kind place) = subst (Stops state bytes) is stops in
+    subst (λ s. IsFaulty (state_front s words begun.word.items ++ bytes) [] kind (length (state_front s words begun.word.items) + place)) (sym at)
+    (stop words begun.word.items (subst (λ s. IsState s words begun.word.items) at sound))
+breaks (Err d) (Err OutOfMemory) begun state bytes at sound stops same = tt

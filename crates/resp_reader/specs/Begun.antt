@@ -1,0 +1,88 @@
+-- An element as far as it came.
+use Rattle.std.specs.Prelude.{◌≡◌, ℕ, ◌+◌, ◌<◌, ◌≤◌, ◌⊎◌, List, [], ◌∷◌, ◌++◌, length}
+use Rattle.std.specs.Fmt.{decimal}
+use Rattle.std.specs.List.{AllByRecursion}
+use Rattle.resp_reader.specs.declared.head.Head.TheVariants.{Count, Length}
+use Rattle.resp_reader.specs.declared.begun.State.{State}
+use Rattle.resp_reader.specs.declared.begun.State.TheVariants.{Start, InCount, CountEnd, AtWord, InLength, LengthEnd, InWord, WordEnd, Null, Whole}
+use Rattle.resp_reader.specs.declared.begun.Begun.{Begun}
+use Rattle.resp_reader.specs.declared.begun.Stop.{Stop}
+use Rattle.resp_reader.specs.declared.begun.Stop.TheVariants.{Fault, Memory}
+use Rattle.flake_model.specs.Resp.{Words, IsWord, null_array, element_text, IsFaulty}
+use Rattle.flake_model.specs.Fronts.{array_front, word_front}
+use Rattle.resp_reader.specs.Front.{texts}
+use Rattle.resp_reader.specs.Head.{digits_text, IsDigits, IsWhole}
+
+-- the bytes that lead to a state, by the words so far and what has come of the next
+abbrev pub state_front : State → Words → List ℕ → List ℕ
+state_front Start words word = []
+state_front (InCount digits) words word = 42 ∷ digits_text digits
+state_front (CountEnd digits) words word = 42 ∷ (digits_text digits ++ 13 ∷ [])
+state_front (AtWord count) words word = array_front count words
+state_front (InLength count digits) words word = array_front count words ++ 36 ∷ digits_text digits
+state_front (LengthEnd count len) words word = array_front count words ++ 36 ∷ (decimal len ++ 13 ∷ [])
+state_front (InWord count len) words word = array_front count words ++ 36 ∷ (decimal len ++ 13 ∷ 10 ∷ word)
+state_front (WordEnd count) words word = array_front count words ++ (word_front word ++ 13 ∷ [])
+state_front Null words word = element_text null_array
+state_front (Whole count) words word = array_front count words
+
+-- the words so far are allowed, and not all
+pub record IsArray (count : ℕ) (words : Words) : Type 0 where
+  pub allowed : AllByRecursion IsWord words
+  pub less : length words < count
+  pub most : count ≤ 1024
+
+abbrev pub IsState : State → Words → List ℕ → Type 0
+IsState Start words word = (words ≡ []) × (word ≡ [])
+IsState (InCount digits) words word = (words ≡ []) × (word ≡ []) × IsDigits Count digits
+IsState (CountEnd digits) words word = (words ≡ []) × (word ≡ []) × IsDigits Count digits × IsWhole digits
+IsState (AtWord count) words word = IsArray count words × (word ≡ [])
+IsState (InLength count digits) words word = IsArray count words × (word ≡ []) × IsDigits Length digits
+IsState (LengthEnd count len) words word = IsArray count words × (word ≡ []) × (len ≤ 1048576)
+IsState (InWord count len) words word = IsArray count words × (length word ≤ len) × (len ≤ 1048576)
+IsState (WordEnd count) words word = IsArray count words × IsWord word
+IsState Null words word = (words ≡ []) × (word ≡ [])
+IsState (Whole count) words word = AllByRecursion IsWord words × (length words ≡ count) × (count ≤ 1024) × (word ≡ [])
+
+-- no element is whole
+abbrev pub IsOpen : State → Type 0
+IsOpen Start = Unit {0}
+IsOpen (InCount digits) = Unit {0}
+IsOpen (CountEnd digits) = Unit {0}
+IsOpen (AtWord count) = Unit {0}
+IsOpen (InLength count digits) = Unit {0}
+IsOpen (LengthEnd count len) = Unit {0}
+IsOpen (InWord count len) = Unit {0}
+IsOpen (WordEnd count) = Unit {0}
+IsOpen Null = ⊥
+IsOpen (Whole count) = ⊥
+
+-- A state leads to another by the bytes up to the rest, whatever the words are.
+abbrev pub Moves : State → List ℕ → State → List ℕ → Type 0
+Moves old bytes new rest = (words : Words) (word : List ℕ) → IsState old words word → IsState new words word × (state_front old words word ++ bytes ≡ state_front new words word ++ rest)
+
+-- The bytes have an error at this place behind those that lead to the state.
+abbrev pub Stops : State → List ℕ → Stop → Type 0
+Stops state bytes (Fault kind place) = (words : Words) (word : List ℕ) → IsState state words word
+    → IsFaulty (state_front state words word ++ bytes) [] kind (length (state_front state words word) + place)
+Stops state bytes Memory = Unit {0}
+
+abbrev pub front_of : Begun → List ℕ
+front_of begun = state_front begun.state (texts begun.words.items) begun.word.items
+
+abbrev pub IsSound : Begun → Type 0
+IsSound begun = IsState begun.state (texts begun.words.items) begun.word.items
+
+-- The new words begin with the old, and what had come of the next one is still in front.
+abbrev pub GrowsFrom : Words → List ℕ → Words → List ℕ → Type 0
+GrowsFrom words word news new =
+    ((more : List ℕ) × (news ≡ words) × (new ≡ word ++ more))
+    ⊎ ((more : List ℕ) × (others : Words) × (news ≡ words ++ (word ++ more) ∷ others))
+
+abbrev pub Grows : Begun → Begun → Type 0
+Grows old new = GrowsFrom (texts old.words.items) old.word.items (texts new.words.items) new.word.items
+
+-- The bytes have an error at this place behind the front.
+abbrev pub Breaks : Begun → List ℕ → Stop → Type 0
+Breaks begun bytes (Fault kind place) = IsFaulty (front_of begun ++ bytes) [] kind (length (front_of begun) + place)
+Breaks begun bytes Memory = Unit {0}

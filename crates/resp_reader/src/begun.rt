@@ -1,0 +1,313 @@
+// Elements in pieces of any length.
+ghost use Rattle.std.specs.Prelude.{◌≡◌, ◌≢◌, ◌<◌, ◌≤◌, ◌+◌, ◌++◌, ◌∷◌, [], List, ℕ, length, IfOk, IfErr, OnOk, Err};
+ghost use Rattle.resp_reader.specs.Head.{IsDigits, IsWhole};
+ghost use Rattle.resp_reader.specs.Begun.{IsState, IsOpen, Moves, Stops, IsSound, front_of, Breaks, GrowsFrom, Grows};
+ghost use Rattle.flake_model.specs.Resp.{Words};
+ghost use Rattle.resp_reader.specs.Front.{texts};
+ghost use Rattle.resp_reader.specs.declared.begun.Stop.TheVariants.{Memory as OutOfMemory};
+
+use crate::head::{Digits, Head, line};
+use crate::line::strip;
+use flake_base::{Bytes, Memory};
+use std::alloc::{AllocError, Global};
+use std::mem::replace;
+
+/// What is awaited.
+#[derive(Clone, Copy)]
+pub enum State {
+    /// The mark of an element.
+    Start,
+    /// More of its count line, or the CR behind it.
+    InCount(Digits),
+    /// The LF of its count line.
+    CountEnd(Digits),
+    /// The mark of a word.
+    AtWord { count: u32 },
+    /// More of its length line, or the CR behind it.
+    InLength { count: u32, digits: Digits },
+    /// The LF of its length line.
+    LengthEnd { count: u32, len: u32 },
+    /// More of its bytes, or the CR behind them.
+    InWord { count: u32, len: u32 },
+    /// The LF behind its bytes.
+    WordEnd { count: u32 },
+    /// Nothing: a null array is whole.
+    Null,
+    /// Nothing: an array is whole.
+    Whole { count: u32 },
+}
+
+/// Why no more bytes are taken.
+#[derive(Clone, Copy)]
+pub enum Stop {
+    /// The byte at this place isn't allowed, by this kind of error.
+    Fault { kind: u8, place: usize },
+    Memory,
+}
+
+impl From<Memory> for Stop {
+    ghost from_gives = { λ _ e. e ≡ OutOfMemory };
+
+    fn from(_: Memory) -> Self {
+        Stop::Memory
+    }
+}
+
+impl From<AllocError> for Stop {
+    ghost from_gives = { λ _ e. e ≡ OutOfMemory };
+
+    fn from(_: AllocError) -> Self {
+        Stop::Memory
+    }
+}
+
+/// An element as far as it came.
+#[derive(Drop)]
+pub struct Begun {
+    pub state: State,
+    /// The whole words.
+    pub words: Vec<Bytes>,
+    /// What came of the next.
+    pub word: Bytes,
+}
+
+/// How far an element came.
+#[derive(Clone, Copy)]
+pub struct Mark {
+    pub state: State,
+    pub words: usize,
+    /// How many bytes of the next word.
+    pub len: usize,
+}
+
+fn start(bytes: &[u8]) -> Result<(State, &[u8]), Stop>
+    requires { 0 < length bytes.now }
+    ensures ok { IfOk result (λ r. Moves State.Start bytes.now r.0 r.1.now) }
+    ensures shorter { IfOk result (λ r. length r.1.now < length bytes.now) }
+    ensures err { IfErr result (Stops State.Start bytes.now) }
+{
+    match strip(bytes, b'*') {
+        Some(rest) => Ok((State::InCount(Digits::Nothing), rest)),
+        None => Err(Stop::Fault { kind: 4, place: 0 }),
+    }
+}
+
+fn in_count(digits: Digits, bytes: &[u8]) -> Result<(State, &[u8]), Stop>
+    requires allowed { IsDigits Head.Count digits }
+    requires some { 0 < length bytes.now }
+    ensures ok { IfOk result (λ r. Moves (State.InCount digits) bytes.now r.0 r.1.now) }
+    ensures shorter { IfOk result (λ r. length r.1.now < length bytes.now) }
+    ensures err { IfErr result (Stops (State.InCount digits) bytes.now) }
+{
+    match line(digits, Head::Count, bytes) {
+        Ok((digits, Some(rest))) => Ok((State::CountEnd(digits), rest)),
+        Ok((digits, None)) => Ok((State::InCount(digits), &[])),
+        Err(place) => Err(Stop::Fault { kind: 1, place }),
+    }
+}
+
+fn count_end(digits: Digits, bytes: &[u8]) -> Result<(State, &[u8]), Stop>
+    requires { 0 < length bytes.now }
+    ensures ok { IfOk result (λ r. Moves (State.CountEnd digits) bytes.now r.0 r.1.now) }
+    ensures shorter { IfOk result (λ r. length r.1.now < length bytes.now) }
+    ensures err { IfErr result (Stops (State.CountEnd digits) bytes.now) }
+{
+    let Some(rest) = strip(bytes, b'\n') else {
+        return Err(Stop::Fault { kind: 1, place: 0 });
+    };
+    match digits {
+        Digits::Number(count) => Ok((array(count), rest)),
+        _ => Ok((State::Null, rest)),
+    }
+}
+
+// An array of so many words, before the first.
+fn array(count: u32) -> State
+    ensures empty { count ≡ 0 → result ≡ State.Whole count }
+    ensures words { 0 < count → result ≡ State.AtWord count }
+{
+    if count == 0 {
+        State::Whole { count }
+    } else {
+        State::AtWord { count }
+    }
+}
+
+fn at_word(count: u32, bytes: &[u8]) -> Result<(State, &[u8]), Stop>
+    requires { 0 < length bytes.now }
+    ensures ok { IfOk result (λ r. Moves (State.AtWord count) bytes.now r.0 r.1.now) }
+    ensures shorter { IfOk result (λ r. length r.1.now < length bytes.now) }
+    ensures err { IfErr result (Stops (State.AtWord count) bytes.now) }
+{
+    match strip(bytes, b'$') {
+        Some(rest) => Ok((
+            State::InLength {
+                count,
+                digits: Digits::Nothing,
+            },
+            rest,
+        )),
+        None => Err(Stop::Fault { kind: 2, place: 0 }),
+    }
+}
+
+fn in_length(count: u32, digits: Digits, bytes: &[u8]) -> Result<(State, &[u8]), Stop>
+    requires allowed { IsDigits Head.Length digits }
+    requires some { 0 < length bytes.now }
+    ensures ok { IfOk result (λ r. Moves (State.InLength count digits) bytes.now r.0 r.1.now) }
+    ensures shorter { IfOk result (λ r. length r.1.now < length bytes.now) }
+    ensures err { IfErr result (Stops (State.InLength count digits) bytes.now) }
+{
+    match line(digits, Head::Length, bytes) {
+        Ok((Digits::Number(len), Some(rest))) => Ok((State::LengthEnd { count, len }, rest)),
+        Ok((_, Some(_))) => unreachable!(),
+        Ok((digits, None)) => Ok((State::InLength { count, digits }, &[])),
+        Err(place) => Err(Stop::Fault { kind: 3, place }),
+    }
+}
+
+fn length_end(count: u32, len: u32, bytes: &[u8]) -> Result<(State, &[u8]), Stop>
+    requires { 0 < length bytes.now }
+    ensures ok { IfOk result (λ r. Moves (State.LengthEnd count len) bytes.now r.0 r.1.now) }
+    ensures shorter { IfOk result (λ r. length r.1.now < length bytes.now) }
+    ensures err { IfErr result (Stops (State.LengthEnd count len) bytes.now) }
+{
+    match strip(bytes, b'\n') {
+        Some(rest) => Ok((State::InWord { count, len }, rest)),
+        None => Err(Stop::Fault { kind: 3, place: 0 }),
+    }
+}
+
+impl Begun {
+    pub fn new(alloc: Global) -> Self
+        ensures sound { IsSound result }
+        ensures start { result.state ≡ State.Start }
+        ensures empty { front_of result ≡ [] }
+    {
+        Begun {
+            state: State::Start,
+            words: Vec::new(alloc),
+            word: Bytes::new(alloc),
+        }
+    }
+
+    pub fn mark(&self) -> Mark
+        ensures state { result.state ≡ self.now.state }
+        ensures words { result.words ≡ length (texts self.now.words.items) }
+        ensures len { result.len ≡ length self.now.word.items }
+    {
+        Mark {
+            state: self.state,
+            words: self.words.len(),
+            len: self.word.len(),
+        }
+    }
+
+    /// Goes back to where the mark was made.
+    pub fn back(&mut self, mark: Mark)
+        ensures state { self.new.state ≡ mark.state }
+        ensures words { (words : Words) (word : List ℕ) → length words ≡ mark.words → length word ≡ mark.len
+            → GrowsFrom words word (texts self.old.words.items) self.old.word.items → (texts self.new.words.items ≡ words) × (self.new.word.items ≡ word) }
+    {
+        self.reopen(mark.words);
+        self.word.truncate(mark.len);
+        self.state = mark.state;
+    }
+
+    // Goes back to so many whole words, where there are more, with the next one open.
+    fn reopen(&mut self, count: usize)
+        ensures same { length self.old.words.items ≤ count → (self.new.words ≡ self.old.words) × (self.new.word ≡ self.old.word) }
+        ensures open { (words others : Words) (word : List ℕ) → length words ≡ count → texts self.old.words.items ≡ words ++ word ∷ others
+            → (texts self.new.words.items ≡ words) × (self.new.word.items ≡ word) }
+    {
+        if self.words.len() <= count {
+            return;
+        }
+        self.words.truncate(count + 1);
+        if let Some(word) = self.words.pop() {
+            self.word = word;
+        }
+    }
+
+    /// Takes bytes at the front, as far as they lead to another state, and answers the rest.
+    pub fn step<'a>(&mut self, alloc: Global, bytes: &'a [u8]) -> Result<&'a [u8], Stop>
+        requires sound { IsSound self.old }
+        requires open { IsOpen self.old.state }
+        requires some { 0 < length bytes.now }
+        ensures sound { OnOk result (IsSound self.new) }
+        ensures ok { IfOk result (λ rest. front_of self.old ++ bytes.now ≡ front_of self.new ++ rest.now) }
+        ensures shorter { IfOk result (λ rest. length rest.now < length bytes.now) }
+        ensures err { IfErr result (Breaks self.old bytes.now) }
+        ensures grows { Grows self.old self.new }
+    {
+        match self.state {
+            State::Start => self.go(start(bytes)),
+            State::InCount(digits) => self.go(in_count(digits, bytes)),
+            State::CountEnd(digits) => self.go(count_end(digits, bytes)),
+            State::AtWord { count } => self.go(at_word(count, bytes)),
+            State::InLength { count, digits } => self.go(in_length(count, digits, bytes)),
+            State::LengthEnd { count, len } => self.go(length_end(count, len, bytes)),
+            State::InWord { count, len } => self.in_word(count, len, bytes),
+            State::WordEnd { count } => self.word_end(alloc, count, bytes),
+            State::Null | State::Whole { .. } => unreachable!(),
+        }
+    }
+
+    fn go<'a>(&mut self, next: Result<(State, &'a [u8]), Stop>) -> Result<&'a [u8], Stop>
+        ensures words { (self.new.words ≡ self.old.words) × (self.new.word ≡ self.old.word) }
+        ensures ok { IfOk next.entry (λ n. (self.new.state ≡ n.0) × IfOk result (λ rest. rest.now ≡ n.1.now)) }
+        ensures err { IfErr next.entry (λ e. result ≡ Err e) }
+        ensures failed { IfErr result (λ e. next.entry ≡ Err e) }
+    {
+        let (state, rest) = next?;
+        self.state = state;
+        Ok(rest)
+    }
+
+    fn in_word<'a>(&mut self, count: u32, len: u32, bytes: &'a [u8]) -> Result<&'a [u8], Stop>
+        requires state { self.old.state ≡ State.InWord count len }
+        requires sound { IsSound self.old }
+        requires some { 0 < length bytes.now }
+        ensures sound { OnOk result (IsSound self.new) }
+        ensures ok { IfOk result (λ rest. front_of self.old ++ bytes.now ≡ front_of self.new ++ rest.now) }
+        ensures shorter { IfOk result (λ rest. length rest.now < length bytes.now) }
+        ensures err { IfErr result (Breaks self.old bytes.now) }
+        ensures grows { Grows self.old self.new }
+    {
+        let left = len as usize - self.word.len();
+        if left == 0 {
+            let Some(rest) = strip(bytes, b'\r') else {
+                return Err(Stop::Fault { kind: 3, place: 0 });
+            };
+            self.state = State::WordEnd { count };
+            return Ok(rest);
+        }
+        let (now, rest) = bytes.split_at(left.min(bytes.len()));
+        self.word.append(now)?;
+        Ok(rest)
+    }
+
+    fn word_end<'a>(&mut self, alloc: Global, count: u32, bytes: &'a [u8]) -> Result<&'a [u8], Stop>
+        requires state { self.old.state ≡ State.WordEnd count }
+        requires sound { IsSound self.old }
+        requires some { 0 < length bytes.now }
+        ensures sound { OnOk result (IsSound self.new) }
+        ensures ok { IfOk result (λ rest. front_of self.old ++ bytes.now ≡ front_of self.new ++ rest.now) }
+        ensures shorter { IfOk result (λ rest. length rest.now < length bytes.now) }
+        ensures err { IfErr result (Breaks self.old bytes.now) }
+        ensures grows { Grows self.old self.new }
+    {
+        let Some(rest) = strip(bytes, b'\n') else {
+            return Err(Stop::Fault { kind: 3, place: 0 });
+        };
+        self.words.reserve(1)?;
+        let word = replace(&mut self.word, Bytes::new(alloc));
+        let _ = self.words.push(word);
+        self.state = if self.words.len() == count as usize {
+            State::Whole { count }
+        } else {
+            State::AtWord { count }
+        };
+        Ok(rest)
+    }
+}

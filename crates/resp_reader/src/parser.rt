@@ -1,0 +1,259 @@
+// Elements behind one another, in pieces of any length.
+ghost use Rattle.std.specs.Prelude.{◌≡◌, ◌≢◌, ◌<◌, ◌≤◌, ◌+◌, ◌++◌, ◌∷◌, [], List, ℕ, length, IfOk, OnOk, OnErr, IfErr, Some, None};
+ghost use Rattle.std.specs.Option.{option_to_list};
+ghost use Rattle.flake_model.specs.Resp.{Words, array, request_of, judged_bytes};
+ghost use Rattle.resp_reader.specs.Front.{texts};
+ghost use Rattle.resp_reader.specs.Begun.{front_of, IsSound, IsOpen, Breaks, GrowsFrom, Grows};
+ghost use Rattle.resp_reader.specs.Parser.{IsKept, TakesTo, CanGoBack, IsBack, IsMark, StopsAt};
+ghost use Rattle.resp_reader.specs.Reader.{error_at, Reads, progress};
+ghost use Rattle.resp_reader.specs.Errors.{HasError};
+ghost use Rattle.resp_reader.specs.declared.parser.Parser.{Parser};
+
+use crate::begun::{Begun, Mark, State, Stop};
+use crate::{ReadError, Request};
+use std::alloc::Global;
+use std::collections::VecDeque;
+use std::mem::replace;
+
+/// The requests that are whole, and what came behind them.
+#[derive(Drop)]
+pub struct Parser {
+    alloc: Global,
+    pub ready: VecDeque<Request>,
+    pub begun: Begun,
+    /// How many bytes were taken.
+    pub taken: u64,
+    /// Where the element that isn't whole begins.
+    pub place: u64,
+}
+
+/// How many bytes of an input are judged: 64 MiB.
+const JUDGED: u64 = 67_108_864;
+
+fn fault(kind: u8, place: u64) -> ReadError
+    ensures { result ≡ error_at kind place }
+{
+    match kind {
+        1 => ReadError::BadCount { place },
+        2 => ReadError::ExpectedBulk { place },
+        3 => ReadError::BadLength { place },
+        _ => ReadError::Inline { place },
+    }
+}
+
+impl Parser {
+    pub fn new(alloc: Global) -> Self
+        ensures kept { IsKept result }
+        ensures ready { result.ready.items ≡ [] }
+        ensures front { front_of result.begun ≡ [] }
+        ensures place { result.place ≡ 0 }
+    {
+        Parser {
+            alloc,
+            ready: VecDeque::new(alloc),
+            begun: Begun::new(alloc),
+            taken: 0,
+            place: 0,
+        }
+    }
+
+    /// Takes a piece, as far as it is judged.
+    pub fn feed(&mut self, piece: &[u8]) -> Result<(), ReadError>
+        requires { IsKept self.old }
+        ensures kept { OnOk result (IsKept self.new) }
+        ensures ok { OnOk result ((bytes : List ℕ) (given : List Words) → Reads bytes given (progress self.old None)
+            → Reads (bytes ++ piece.now) given (progress self.new None)) }
+        ensures err { IfErr result (λ e. e ≢ ReadError.Memory → (bytes : List ℕ) (given : List Words) → Reads bytes given (progress self.old None)
+            → Reads (bytes ++ piece.now) given (progress self.new (Some e))) }
+        ensures memory { IfErr result (λ e. e ≡ ReadError.Memory → IsBack self.old self.new) }
+    {
+        let left = JUDGED - self.taken;
+        if piece.len() as u64 <= left {
+            return self.judge(piece);
+        }
+        let (piece, _) = piece.split_at(left as usize);
+        self.judge(piece)?;
+        Err(ReadError::TooLong { taken: JUDGED })
+    }
+
+    // Takes a piece that is judged whole.
+    fn judge(&mut self, piece: &[u8]) -> Result<(), ReadError>
+        requires kept { IsKept self.old }
+        requires judged { self.old.taken + length piece.now ≤ judged_bytes }
+        ensures ok { OnOk result (TakesTo self.old self.new piece.now []) }
+        ensures kept { OnOk result (IsKept self.new) }
+        ensures err { IfErr result (λ e. e ≢ ReadError.Memory → HasError self.old self.new piece.now e) }
+        ensures memory { IfErr result (λ e. e ≡ ReadError.Memory → IsBack self.old self.new) }
+    {
+        let fed = self.taken;
+        match self.take(piece) {
+            Ok(()) => Ok(()),
+            Err(Stop::Memory) => Err(ReadError::Memory),
+            Err(Stop::Fault { kind, place }) => Err(fault(kind, fed + place as u64)),
+        }
+    }
+
+    /// Takes all bytes. After want of memory it is as before.
+    pub fn take(&mut self, bytes: &[u8]) -> Result<(), Stop>
+        requires kept { IsKept self.old }
+        requires judged { self.old.taken + length bytes.now ≤ judged_bytes }
+        ensures ok { OnOk result (TakesTo self.old self.new bytes.now []) }
+        ensures kept { OnOk result (IsKept self.new) }
+        ensures err { IfErr result (StopsAt self.old self.new bytes.now) }
+        ensures memory { IfErr result (λ e. e ≡ Stop.Memory → IsBack self.old self.new) }
+        ensures taken { OnOk result (self.new.taken ≡ self.old.taken + length bytes.now) }
+    {
+        let held = self.ready.len();
+        let mark = self.begun.mark();
+        let place = self.place;
+        match self.run(bytes) {
+            Ok(()) => {
+                self.taken += bytes.len() as u64;
+                Ok(())
+            }
+            Err(Stop::Memory) => {
+                self.back(held, mark, place);
+                Err(Stop::Memory)
+            }
+            Err(fault) => Err(fault),
+        }
+    }
+
+    // Goes back to so many requests, and to the element that had begun.
+    fn back(&mut self, held: usize, mark: Mark, place: u64)
+        ensures { (before : Parser) → held ≡ length before.ready.items → IsMark mark before.begun → place ≡ before.place
+            → self.old.taken ≡ before.taken → CanGoBack before self.old → IsBack before self.new }
+    {
+        self.reclaim(held);
+        self.reopen(mark, place);
+    }
+
+    // Takes back the words of the request at this place, if there is one, and drops those behind it.
+    fn reclaim(&mut self, held: usize)
+        ensures same { length self.old.ready.items ≤ held → self.new ≡ self.old }
+        ensures words { (ready others : List Words) (first : Words) → length ready ≡ held → self.old.ready.items ≡ ready ++ first ∷ others
+            → (self.new.ready.items ≡ ready) × (texts self.new.begun.words.items ≡ first) }
+        ensures begun { (self.new.begun.state ≡ self.old.begun.state) × (self.new.begun.word ≡ self.old.begun.word) }
+        ensures places { (self.new.taken ≡ self.old.taken) × (self.new.place ≡ self.old.place) }
+    {
+        if self.ready.len() <= held {
+            return;
+        }
+        self.ready.truncate(held + 1);
+        if let Some(first) = self.ready.pop_back() {
+            self.begun.words = first.into_words();
+        }
+    }
+
+    fn reopen(&mut self, mark: Mark, place: u64)
+        ensures state { self.new.begun.state ≡ mark.state }
+        ensures words { (words : Words) (word : List ℕ) → length words ≡ mark.words → length word ≡ mark.len
+            → GrowsFrom words word (texts self.old.begun.words.items) self.old.begun.word.items
+            → (texts self.new.begun.words.items ≡ words) × (self.new.begun.word.items ≡ word) }
+        ensures ready { self.new.ready ≡ self.old.ready }
+        ensures places { (self.new.taken ≡ self.old.taken) × (self.new.place ≡ place) }
+    {
+        self.begun.back(mark);
+        self.place = place;
+    }
+
+    // Takes all bytes, or stops.
+    fn run(&mut self, bytes: &[u8]) -> Result<(), Stop>
+        requires kept { IsKept self.old }
+        requires judged { self.old.taken + length bytes.now ≤ judged_bytes }
+        ensures ok { OnOk result (TakesTo self.old self.new bytes.now []) }
+        ensures sound { OnOk result (IsSound self.new.begun) }
+        ensures open { OnOk result (IsOpen self.new.begun.state) }
+        ensures err { IfErr result (StopsAt self.old self.new bytes.now) }
+        ensures back { OnErr result (CanGoBack self.old self.new) }
+        ensures taken { self.new.taken ≡ self.old.taken }
+    {
+        let mut rest = bytes;
+        while !rest.is_empty() {
+            let read = bytes.len() - rest.len();
+            match self.step(rest) {
+                Ok(behind) => rest = behind,
+                Err(Stop::Memory) => return Err(Stop::Memory),
+                Err(Stop::Fault { kind, place }) => {
+                    return Err(Stop::Fault {
+                        kind,
+                        place: read + place,
+                    });
+                }
+            }
+            self.keep(self.taken + (bytes.len() - rest.len()) as u64)?;
+        }
+        Ok(())
+    }
+
+    fn step<'a>(&mut self, bytes: &'a [u8]) -> Result<&'a [u8], Stop>
+        requires sound { IsSound self.old.begun }
+        requires open { IsOpen self.old.begun.state }
+        requires some { 0 < length bytes.now }
+        ensures sound { OnOk result (IsSound self.new.begun) }
+        ensures ok { IfOk result (λ rest. front_of self.old.begun ++ bytes.now ≡ front_of self.new.begun ++ rest.now) }
+        ensures shorter { IfOk result (λ rest. length rest.now < length bytes.now) }
+        ensures err { IfErr result (Breaks self.old.begun bytes.now) }
+        ensures grows { Grows self.old.begun self.new.begun }
+        ensures ready { self.new.ready ≡ self.old.ready }
+        ensures places { (self.new.taken ≡ self.old.taken) × (self.new.place ≡ self.old.place) }
+    {
+        self.begun.step(self.alloc, bytes)
+    }
+
+    // Gives the request of an element that is whole, which ends here.
+    fn keep(&mut self, end: u64) -> Result<(), Stop>
+        requires sound { IsSound self.old.begun }
+        requires end { end ≡ self.old.place + length (front_of self.old.begun) }
+        ensures ok { OnOk result (TakesTo self.old self.new [] []) }
+        ensures sound { OnOk result (IsSound self.new.begun) }
+        ensures open { OnOk result (IsOpen self.new.begun.state) }
+        ensures err { IfErr result (λ e. e ≡ Stop.Memory) }
+        ensures back { CanGoBack self.old self.new }
+        ensures taken { self.new.taken ≡ self.old.taken }
+    {
+        match self.begun.state {
+            State::Null => {
+                self.start_at(end);
+                Ok(())
+            }
+            State::Whole { .. } => {
+                self.give()?;
+                self.start_at(end);
+                Ok(())
+            }
+            _ => Ok(()),
+        }
+    }
+
+    fn start_at(&mut self, place: u64)
+        ensures state { self.new.begun.state ≡ State.Start }
+        ensures place { self.new.place ≡ place }
+        ensures ready { self.new.ready ≡ self.old.ready }
+        ensures words { self.new.begun.words ≡ self.old.begun.words }
+        ensures word { self.new.begun.word ≡ self.old.begun.word }
+        ensures taken { self.new.taken ≡ self.old.taken }
+    {
+        self.begun.state = State::Start;
+        self.place = place;
+    }
+
+    // Gives the words as a request, where there are any.
+    fn give(&mut self) -> Result<(), Stop>
+        ensures ok { OnOk result (self.new.ready.items
+            ≡ self.old.ready.items ++ option_to_list (request_of (array (texts self.old.begun.words.items)))) }
+        ensures given { OnOk result (texts self.new.begun.words.items ≡ []) }
+        ensures err { IfErr result (λ e. e ≡ Stop.Memory) }
+        ensures kept { OnErr result ((self.new.ready.items ≡ self.old.ready.items) × (self.new.begun.words ≡ self.old.begun.words)) }
+        ensures begun { (self.new.begun.state ≡ self.old.begun.state) × (self.new.begun.word ≡ self.old.begun.word) }
+        ensures places { (self.new.taken ≡ self.old.taken) × (self.new.place ≡ self.old.place) }
+    {
+        if self.begun.words.is_empty() {
+            return Ok(());
+        }
+        self.ready.reserve(1)?;
+        let words = replace(&mut self.begun.words, Vec::new(self.alloc));
+        self.ready.push_back_reserved(Request::new(words));
+        Ok(())
+    }
+}
