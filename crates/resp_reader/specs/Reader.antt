@@ -1,5 +1,5 @@
 -- What was fed to a reader, and what it gives.
-use Rattle.std.specs.Prelude.{◌≡◌, ℕ, ◌≤◌, ◌==◌, if◌then◌else◌, List, ◌++◌, length, Option, MatchOption}
+use Rattle.std.specs.Prelude.{◌≡◌, ℕ, ◌+◌, ◌≤◌, ◌==◌, if◌then◌else◌, List, ◌++◌, length, Option, MatchOption}
 use Rattle.flake_base.specs.declared.session.End.{End}
 use Rattle.flake_base.specs.declared.session.End.TheVariants as ends
 use Rattle.flake_model.specs.Resp.{Words, Element, AllElements, stream, requests_of, IsCutShort, judged_bytes, Parses}
@@ -19,6 +19,10 @@ pub record Progress : Type 0 where
   pub place : ℕ
   -- the error that closed it
   pub closed : Option ReadError
+
+-- how many bytes an open reader was fed
+abbrev pub fed_to : Progress → ℕ
+fed_to reader = reader.place + length reader.front
 
 -- the end that an error is
 abbrev pub end_of : ReadError → End

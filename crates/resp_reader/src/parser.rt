@@ -66,6 +66,7 @@ impl Parser {
         ensures err { IfErr result (λ e. e ≢ ReadError.Memory → (bytes : List ℕ) (given : List Words) → Reads bytes given (progress self.old None)
             → Reads (bytes ++ piece.now) given (progress self.new (Some e))) }
         ensures memory { IfErr result (λ e. e ≡ ReadError.Memory → IsBack self.old self.new) }
+        ensures taken { OnOk result (self.new.taken ≡ self.old.taken + length piece.now) }
     {
         let left = JUDGED - self.taken;
         if piece.len() as u64 <= left {
@@ -84,6 +85,7 @@ impl Parser {
         ensures kept { OnOk result (IsKept self.new) }
         ensures err { IfErr result (λ e. e ≢ ReadError.Memory → HasError self.old self.new piece.now e) }
         ensures memory { IfErr result (λ e. e ≡ ReadError.Memory → IsBack self.old self.new) }
+        ensures taken { OnOk result (self.new.taken ≡ self.old.taken + length piece.now) }
     {
         let fed = self.taken;
         match self.take(piece) {

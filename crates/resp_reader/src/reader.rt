@@ -1,7 +1,7 @@
-ghost use Rattle.std.specs.Prelude.{◌≡◌, ◌≢◌, ◌++◌, ◌↔◌, [], List, ℕ, None, Some, IsNone, OnOk, IfErr, IfSome};
+ghost use Rattle.std.specs.Prelude.{◌≡◌, ◌≢◌, ◌+◌, ◌≤◌, ◌++◌, ◌↔◌, [], List, ℕ, length, None, Some, IsNone, OnOk, IfErr, IfSome};
 ghost use Rattle.std.specs.Option.{option_to_list};
-ghost use Rattle.flake_model.specs.Resp.{Words, Parses};
-ghost use Rattle.resp_reader.specs.Reader.{Reads, input_end};
+ghost use Rattle.flake_model.specs.Resp.{Words, Parses, judged_bytes};
+ghost use Rattle.resp_reader.specs.Reader.{Reads, fed_to, input_end};
 
 use crate::parser::Parser;
 use crate::{Ended, ReadError, Request};
@@ -32,6 +32,7 @@ impl Reader {
         ensures fed { Reads [] [] result }
         ensures requests { result.requests ≡ [] }
         ensures open { result.closed ≡ None }
+        ensures empty { fed_to result ≡ 0 }
     {
         Reader {
             parser: Parser::new(alloc),
@@ -47,6 +48,10 @@ impl Reader {
             → Reads (bytes ++ piece.now) given self.new }
         ensures ok { OnOk result (self.new.closed ≡ None) }
         ensures closes { IfErr result (λ e. e ≢ ReadError.Memory → self.new.closed ≡ Some e) }
+
+        // An open reader was fed no more than is judged.
+        ensures counted { OnOk result (fed_to self.new ≡ fed_to self.old + length piece.now) }
+        ensures judged { OnOk result (fed_to self.new ≤ judged_bytes) }
 
         // A closed reader stays as it is, and after want of memory any is as before.
         ensures again { IfSome self.old.closed (λ e. (result ≡ Err e) × (self.new ≡ self.old)) }

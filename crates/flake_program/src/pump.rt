@@ -1,0 +1,174 @@
+// Commands from a source.
+ghost use Rattle.std.specs.Prelude.{◌≡◌, ◌<◌, ◌+◌, ◌++◌, ◌∷◌, [], List, ℕ, Option, IfOk, IfErr, Err};
+ghost use Rattle.flake_model.specs.Command.{Command as Meaning};
+ghost use Rattle.flake_model.specs.Run.{protocol_error};
+ghost use Rattle.flake_program.specs.Pump.{IsPump, HasEnded, taken_by, stage_after};
+
+use command_exec::Command;
+use flake_base::{End, ErrorKind, Failed, Source};
+use resp_reader::{Ended, ReadError, Reader};
+use std::alloc::Global;
+use std::marker::Model;
+use std::mem::replace;
+
+/// The most bytes of one read.
+const PIECE: usize = 4096;
+
+/// How many bytes of an input are judged: 64 MiB.
+const JUDGED: u64 = 67_108_864;
+
+/// How far a pump has come.
+#[derive(Clone, Copy, Debug, PartialEq, Eq)]
+pub enum Stage {
+    /// More bytes may come.
+    Reading,
+    /// The input has an error, whose command isn't given yet.
+    Refused { kind: u8, place: u64 },
+    /// All that is left is in the reader.
+    Ended(End),
+}
+
+/// Reads a session's commands from a source, in pieces, and only when no whole request is left.
+#[derive(Drop)]
+pub struct Pump<S> {
+    alloc: Global,
+    source: S,
+    reader: Reader,
+    stage: Stage,
+    taken: u64,
+}
+
+impl<S: Source> Model for Pump<S> {
+    ghost use Rattle.std.specs.Prelude.{◌≡◌, ◌×◌, None};
+    ghost use Rattle.flake_program.specs.Pump.{PumpState, IsOpen};
+
+    ghost Value = { PumpState };
+
+    ghost view = { λ p. record { left = S.left p.source; faults = S.read_faults p.source; reader = p.reader; stage = p.stage; taken = p.taken } };
+
+    ghost invariant = { λ p. p.stage ≡ Stage.Reading → IsOpen p.reader p.taken };
+}
+
+// The error that answers a byte which no request has there.
+fn error_of(kind: u8) -> ErrorKind
+    ensures { result ≡ protocol_error kind }
+{
+    match kind {
+        1 => ErrorKind::ProtocolCount,
+        2 => ErrorKind::ProtocolBulk,
+        3 => ErrorKind::ProtocolLength,
+        _ => ErrorKind::ProtocolInline,
+    }
+}
+
+// What becomes of a pump whose reader doesn't take a piece.
+fn stopped(error: ReadError) -> Stage
+    ensures { result ≡ stage_after error }
+{
+    match error {
+        ReadError::BadCount { place } => Stage::Refused { kind: 1, place },
+        ReadError::ExpectedBulk { place } => Stage::Refused { kind: 2, place },
+        ReadError::BadLength { place } => Stage::Refused { kind: 3, place },
+        ReadError::Inline { place } => Stage::Refused { kind: 4, place },
+        ReadError::TooLong { .. } => Stage::Ended(End::TooLong),
+        ReadError::Memory => Stage::Ended(End::Memory),
+    }
+}
+
+// How many bytes a session took that ended so, of those that the source gave.
+fn taken_at(end: End, given: u64) -> u64
+    ensures { result ≡ taken_by end given }
+{
+    match end {
+        End::Protocol { place, .. } => place.saturating_add(1),
+        End::TooLong => JUDGED,
+        _ => given,
+    }
+}
+
+impl<S: Source> Pump<S> {
+    pub fn new(alloc: Global, source: S) -> Self
+        ensures { IsPump (S.left source) (S.read_faults source) [] result }
+    {
+        Pump {
+            alloc,
+            source,
+            reader: Reader::new(alloc),
+            stage: Stage::Reading,
+            taken: 0,
+        }
+    }
+
+    /// The next command, or how the input ended, which later calls answer again. A byte that no request has there
+    /// makes one command of its own.
+    pub fn next(&mut self) -> Result<Command, End>
+        ensures command { IfOk result (λ command. (input : Option (List ℕ)) (before : ℕ) (given : List Meaning) → IsPump input before given self.old
+            → IsPump input before (given ++ command ∷ []) self.new) }
+        ensures end { IfErr result (λ end. (input : Option (List ℕ)) (before : ℕ) (given : List Meaning) → IsPump input before given self.old
+            → HasEnded input before given end self.new) }
+        ensures ended { IfErr result (λ end. (self.new.stage ≡ Stage.Ended end) × (self.new.reader.requests ≡ [])) }
+        ensures again { (end : End) → self.old.stage ≡ Stage.Ended end → self.old.reader.requests ≡ [] → (result ≡ Err end) × (self.new.left ≡ self.old.left) × (self.new.faults ≡ self.old.faults) }
+    {
+        loop {
+            if let Some(request) = self.reader.next() {
+                return Ok(Command::of(request));
+            }
+            match self.stage {
+                Stage::Reading => self.read(),
+                Stage::Refused { kind, place } => {
+                    self.stage = Stage::Ended(End::Protocol { kind, place });
+                    return Ok(Command::protocol(error_of(kind)));
+                }
+                Stage::Ended(end) => {
+                    self.taken = taken_at(end, self.taken);
+                    return Err(end);
+                }
+            }
+        }
+    }
+
+    // Reads a piece, and feeds it.
+    fn read(&mut self)
+        requires reading { self.old.stage ≡ Stage.Reading }
+        requires none { self.old.reader.requests ≡ [] }
+        ensures kept { (input : Option (List ℕ)) (before : ℕ) (given : List Meaning) → IsPump input before given self.old → IsPump input before given self.new }
+        ensures further { self.new.stage ≡ Stage.Reading → self.old.taken < self.new.taken }
+    {
+        let mut room = [0; PIECE];
+        let Ok(count) = self.source.read(&mut room) else {
+            self.stage = Stage::Ended(End::ReadFault);
+            return;
+        };
+        if count == 0 {
+            self.stage = Stage::Ended(self.input_end());
+            return;
+        }
+        if let Err(error) = self.reader.feed(&room[..count]) {
+            self.stage = stopped(error);
+        }
+        self.taken += count as u64;
+    }
+
+    // How an input ended that was read whole.
+    fn input_end(&mut self) -> End {
+        let reader = replace(&mut self.reader, Reader::new(self.alloc));
+        match reader.end() {
+            Ended::Clean => End::Clean,
+            Ended::Truncated { place } => End::Truncated { place },
+        }
+    }
+
+    /// How many bytes of the input were taken; behind its end by what that is.
+    pub fn taken(&self) -> u64
+        ensures { result ≡ self.now.taken }
+    {
+        self.taken
+    }
+
+    pub fn into_source(self) -> S
+        ensures left { S.left result ≡ self.left }
+        ensures faults { S.read_faults result ≡ self.faults }
+    {
+        self.source
+    }
+}
