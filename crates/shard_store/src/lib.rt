@@ -1,0 +1,8 @@
+//! The store's shards: what a command asks of one key, and which shard a key belongs to.
+#![tactic(auto)]
+
+mod hash;
+mod part;
+
+pub use hash::shard_of;
+pub use part::{Part, PartOp};
