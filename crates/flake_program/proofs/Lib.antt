@@ -1,4 +1,5 @@
 pub mod Bytes
+pub mod Pumped
 pub mod Sessions
 pub mod Served
 pub mod Refusals

@@ -1,4 +1,5 @@
 pub mod Given
+pub mod Pump
 pub mod Table
 pub mod Asked
 pub mod Session

@@ -4,6 +4,7 @@
 mod command;
 mod files;
 mod outcome;
+mod pump;
 mod run;
 mod session;
 mod source;

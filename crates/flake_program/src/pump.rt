@@ -1,7 +1,9 @@
 // Commands from a source.
-ghost use Rattle.std.specs.Prelude.{◌≡◌, ◌<◌, ◌+◌, ◌++◌, ◌∷◌, [], List, ℕ, Option, IfOk, IfErr, Err};
+ghost use Rattle.std.specs.Prelude.{◌≡◌, ◌<◌, ◌⊎◌, ◌++◌, ◌∷◌, [], List, ℕ, Option, None, IfOk, IfErr, Err};
 ghost use Rattle.flake_model.specs.Command.{Command as Meaning};
+ghost use Rattle.flake_model.specs.Resp.{Words, Parses};
 ghost use Rattle.flake_model.specs.Run.{protocol_error};
+ghost use Rattle.resp_reader.specs.Reader.{Reads};
 ghost use Rattle.flake_program.specs.Pump.{IsPump, HasEnded, taken_by, stage_after};
 
 use command_exec::Command;
@@ -30,7 +32,7 @@ pub enum Stage {
 
 /// Reads a session's commands from a source, in pieces, and only when no whole request is left.
 #[derive(Drop)]
-pub struct Pump<S> {
+pub struct Pump<S: Source> {
     alloc: Global,
     source: S,
     reader: Reader,
@@ -39,8 +41,9 @@ pub struct Pump<S> {
 }
 
 impl<S: Source> Model for Pump<S> {
-    ghost use Rattle.std.specs.Prelude.{◌≡◌, ◌×◌, None};
+    ghost use Rattle.std.specs.Prelude.{◌≡◌};
     ghost use Rattle.flake_program.specs.Pump.{PumpState, IsOpen};
+    ghost use Rattle.flake_program.specs.declared.pump.Stage.{Stage};
 
     ghost Value = { PumpState };
 
@@ -83,6 +86,18 @@ fn taken_at(end: End, given: u64) -> u64
         End::Protocol { place, .. } => place.saturating_add(1),
         End::TooLong => JUDGED,
         _ => given,
+    }
+}
+
+// How an input ended that was read whole.
+fn input_end(reader: Reader) -> End
+    requires { reader.closed ≡ None }
+    ensures parsed { (bytes : List ℕ) (given : List Words) → Reads bytes given reader → Parses bytes (given ++ reader.requests) result }
+    ensures ends { (result ≡ End.Clean) ⊎ ((place : ℕ) × (result ≡ End.Truncated place)) }
+{
+    match reader.end() {
+        Ended::Clean => End::Clean,
+        Ended::Truncated { place } => End::Truncated { place },
     }
 }
 
@@ -140,21 +155,17 @@ impl<S: Source> Pump<S> {
             return;
         };
         if count == 0 {
-            self.stage = Stage::Ended(self.input_end());
+            let reader = replace(&mut self.reader, Reader::new(self.alloc));
+            self.stage = Stage::Ended(input_end(reader));
             return;
         }
-        if let Err(error) = self.reader.feed(&room[..count]) {
-            self.stage = stopped(error);
-        }
-        self.taken += count as u64;
-    }
-
-    // How an input ended that was read whole.
-    fn input_end(&mut self) -> End {
-        let reader = replace(&mut self.reader, Reader::new(self.alloc));
-        match reader.end() {
-            Ended::Clean => End::Clean,
-            Ended::Truncated { place } => End::Truncated { place },
+        match self.reader.feed(&room[..count]) {
+            Ok(()) => self.taken += count as u64,
+            Err(ReadError::Memory) => self.stage = Stage::Ended(End::Memory),
+            Err(error) => {
+                self.stage = stopped(error);
+                self.taken += count as u64;
+            }
         }
     }
 

@@ -1,0 +1,244 @@
+-- What a pump comes to, step by step.
+use Rattle.std.proofs.Common.{◌≡◌, ℕ, ◌+◌, ◌-◌, ◌<◌, ◌≤◌, ◌⊎◌, inl, inr, zero, suc, Bool, List, [], ◌∷◌, ◌++◌, Option, Some, None, IfSome, MatchOption, length, map, take, drop, arith, refl, ap, sym, ◌∙◌, subst, append_assoc, append-nil}
+use Rattle.std.proofs.lemmas.List.{map-append, length-append, length-map, length-take, take-append-drop, take-append-le}
+use Rattle.std.proofs.Math.Seq.{take-append-add, take-append_seam}
+use Rattle.flake_base.specs.Causes.{Rose}
+use Rattle.flake_base.specs.Reads.{Reads as Takes}
+use Rattle.flake_base.specs.declared.session.End.{End}
+use Rattle.flake_base.specs.declared.session.End.TheVariants.{Clean, Protocol, Truncated, TooLong, ReadFault, Memory, Left}
+use Rattle.flake_model.specs.Resp.{Words, judged_bytes, IsClean, IsTruncated, IsFaulty, Parses, requests_of, stream}
+use Rattle.flake_model.specs.Command.{Command, fault, command_of}
+use Rattle.flake_model.specs.Run.{protocol_error, commands_in, bytes_seen, IsSession, IsShown, IsTaken, IsServedCount}
+use Rattle.resp_reader.specs.declared.error.ReadError.{ReadError}
+use Rattle.resp_reader.specs.declared.error.ReadError.TheVariants.{BadCount, ExpectedBulk, BadLength, Inline}
+use Rattle.resp_reader.specs.declared.error.ReadError.TheVariants as errors
+use Rattle.resp_reader.specs.Reader.{Progress, Reads, IsReadTo, IsTaken as IsJudged, end_of}
+use Rattle.flake_program.specs.Given.{Gave}
+use Rattle.flake_program.specs.Pump.{BeginsWith, IsWhole, AreRead, IsEnded, IsAt, IsPump, PumpState, HasEnded, EndFaults, FaultsSo, ended_at, taken_by, stage_after}
+use Rattle.flake_program.specs.declared.pump.Stage.{Stage}
+use Rattle.flake_program.specs.declared.pump.Stage.TheVariants.{Reading, Refused, Ended}
+
+-- the first bytes of more are those of the first, and some behind them
+take_more : (n : ℕ) (bytes rest : List ℕ) → (more : List ℕ) × (take n (bytes ++ rest) ≡ take n bytes ++ more)
+take_more zero bytes rest = ([], refl)
+take_more (suc n) [] rest = (take (suc n) rest, refl)
+take_more (suc n) (b ∷ bytes) rest = let found = take_more n bytes rest in (found.0, ap (λ t. b ∷ t) found.1)
+
+faulty_more : (bytes more : List ℕ) (requests : List Words) (kind place : ℕ) → IsFaulty bytes requests kind place → IsFaulty (bytes ++ more) requests kind place
+faulty_more bytes more requests kind place faulty = record {
+  elements = faulty.elements;
+  front = faulty.front;
+  byte = faulty.byte;
+  more = faulty.more ++ more;
+  allowed = faulty.allowed;
+  begun = faulty.begun;
+  refused = faulty.refused;
+  bytes_are = ap (λ b. b ++ more) faulty.bytes_are ∙ append_assoc (stream faulty.elements ++ faulty.front) (faulty.byte ∷ faulty.more) more;
+  requests_are = faulty.requests_are;
+  place_is = faulty.place_is;
+  kind_is = faulty.kind_is;
+}
+
+-- an error, and an input that is too long, stay so whatever comes behind
+pub error_stays : (bytes rest : List ℕ) (requests : List Words) (kind place : ℕ) → Parses bytes requests (Protocol kind place) → Parses (bytes ++ rest) requests (Protocol kind place)
+error_stays bytes rest requests kind place faulty =
+    let more = take_more judged_bytes bytes rest in
+    subst (λ b. IsFaulty b requests kind place) (sym more.1) (faulty_more (take judged_bytes bytes) more.0 requests kind place faulty)
+
+pub long_stays : (bytes rest : List ℕ) (requests : List Words) → Parses bytes requests TooLong → Parses (bytes ++ rest) requests TooLong
+long_stays bytes rest requests long =
+    let same = take-append-le judged_bytes bytes rest (omega (arith, long.0)) in
+    (
+      omega (arith, long.0, length-append bytes rest),
+      subst (λ b. IsClean b requests ⊎ ((place : ℕ) × IsTruncated b requests place)) (sym same) long.1,
+    )
+
+opened : (bytes : List ℕ) (requests : List Words) (reader : Progress) → reader.closed ≡ None → Reads bytes requests reader → IsReadTo bytes (requests ++ reader.requests) reader.place reader.front
+opened bytes requests reader is reads =
+    subst (λ (c : Option ReadError). MatchOption c (IsReadTo bytes (requests ++ reader.requests) reader.place reader.front) (λ error. IsJudged error × Parses bytes (requests ++ reader.requests) (end_of error))) is reads
+
+closed_by : (bytes : List ℕ) (requests : List Words) (reader : Progress) (error : ReadError) → reader.closed ≡ Some error → Reads bytes requests reader → IsJudged error × Parses bytes (requests ++ reader.requests) (end_of error)
+closed_by bytes requests reader error is reads =
+    subst (λ (c : Option ReadError). MatchOption c (IsReadTo bytes (requests ++ reader.requests) reader.place reader.front) (λ error. IsJudged error × Parses bytes (requests ++ reader.requests) (end_of error))) is reads
+
+read_so_far : (bytes : List ℕ) (requests : List Words) (place : ℕ) (front : List ℕ) → IsReadTo bytes requests place front → AreRead bytes requests
+read_so_far bytes requests place [] read = record {
+  shown = Clean;
+  parsed = (read.judged, record { elements = read.elements; allowed = read.allowed; bytes_are = read.bytes_are ∙ append-nil (stream read.elements); requests_are = read.requests_are });
+  no_error = λ all. refl;
+}
+read_so_far bytes requests place (b ∷ front) read = record {
+  shown = Truncated place;
+  parsed = (
+    read.judged,
+    record {
+      elements = read.elements;
+      front = b ∷ front;
+      allowed = read.allowed;
+      begun = omega arith;
+      cut_short = read.cut_short;
+      bytes_are = read.bytes_are;
+      requests_are = read.requests_are;
+      place_is = read.place_is;
+    },
+  );
+  no_error = λ all. refl;
+}
+
+-- what an open reader was fed is whole requests, and perhaps the front of one
+pub open_are_read : (bytes : List ℕ) (requests : List Words) (reader : Progress) → reader.closed ≡ None → Reads bytes requests reader → AreRead bytes (requests ++ reader.requests)
+open_are_read bytes requests reader is reads = read_so_far bytes (requests ++ reader.requests) reader.place reader.front (opened bytes requests reader is reads)
+
+-- the bytes that came are in front of an input that is told
+begins : (input left : Option (List ℕ)) (bytes : List ℕ) → Gave input left bytes → BeginsWith input bytes
+begins None left bytes gave = tt
+begins (Some all) left bytes gave = (gave.0, gave.2)
+
+-- a source that has nothing more has given the whole input
+whole : (input left new : Option (List ℕ)) (bytes room : List ℕ) → Gave input left bytes → Takes left new 0 room → IsWhole input bytes
+whole None left new bytes room gave reads = tt
+whole (Some all) None new bytes room gave reads = absurd (cc (gave.1))
+whole (Some all) (Some l) new bytes room gave reads =
+    let rest : l ≡ gave.0 = cc (gave.1) in
+    gave.2 ∙ ap (λ r. bytes ++ r) (sym rest ∙ reads.end refl) ∙ append-nil bytes
+
+-- a source that gave a piece more
+gave_more : (input left new : Option (List ℕ)) (bytes piece room : List ℕ) (n : ℕ) → Gave input left bytes → Takes left new n room → piece ≡ take n room → Gave input new (bytes ++ piece)
+gave_more None None new bytes piece room n gave reads is = reads
+gave_more None (Some l) new bytes piece room n gave reads is = absurd (cc gave)
+gave_more (Some all) None new bytes piece room n gave reads is = absurd (cc (gave.1))
+gave_more (Some all) (Some l) new bytes piece room n gave reads is =
+    let rest : l ≡ gave.0 = cc (gave.1) in
+    let parts : take n l ++ drop n l ≡ l = take-append-drop n l in
+    let first : piece ≡ take n l = is ∙ reads.bytes in
+    (drop n l, reads.rest, gave.2 ∙ ap (λ r. bytes ++ r) (sym rest ∙ sym parts ∙ ap (λ f. f ++ drop n l) (sym first)) ∙ sym (append_assoc bytes piece (drop n l)))
+
+-- the pump as it is while it reads
+record WhileReading (input : Option (List ℕ)) (before : ℕ) (given : List Command) (pump : PumpState) : Type 0 where
+  bytes : List ℕ
+  requests : List Words
+  taken_is : pump.taken ≡ length bytes
+  faults_are : pump.faults ≡ before
+  gave : Gave input pump.left bytes
+  reads : Reads bytes requests pump.reader
+  closed : pump.reader.closed ≡ None
+  given_is : given ≡ map command_of requests
+
+while_reading : (input : Option (List ℕ)) (before : ℕ) (given : List Command) (pump : PumpState) → pump.stage ≡ Reading → IsPump input before given pump → WhileReading input before given pump
+while_reading input before given pump is p =
+    let at = subst (λ s. IsAt s input pump.left p.bytes p.requests given pump.reader) is p.at in
+    record {
+      bytes = p.bytes;
+      requests = p.requests;
+      taken_is = p.taken_is;
+      faults_are = subst (λ s. FaultsSo s before pump.faults) is p.faults_are;
+      gave = at.0;
+      reads = at.1;
+      closed = at.2;
+      given_is = at.3;
+    }
+
+-- a read fault
+pub at_fault : (input : Option (List ℕ)) (before : ℕ) (given : List Command) (pump : PumpState) (left : Option (List ℕ)) (faults : ℕ) → pump.stage ≡ Reading → Rose pump.faults faults
+    → IsPump input before given pump → IsPump input before given (record { left = left; faults = faults; reader = pump.reader; stage = Ended ReadFault; taken = pump.taken })
+at_fault input before given pump left faults is rose p =
+    let r = while_reading input before given pump is p in
+    record {
+      bytes = r.bytes;
+      requests = r.requests;
+      taken_is = r.taken_is;
+      faults_are = subst (λ n. Rose n faults) r.faults_are rose;
+      at = (begins input pump.left r.bytes r.gave, open_are_read r.bytes r.requests pump.reader r.closed r.reads, r.given_is);
+    }
+
+-- want of memory in the reader, which is as it was
+pub at_memory : (input : Option (List ℕ)) (before : ℕ) (given : List Command) (pump : PumpState) (left : Option (List ℕ)) (faults : ℕ) (reader : Progress) → pump.stage ≡ Reading → faults ≡ pump.faults
+    → reader ≡ pump.reader → IsPump input before given pump → IsPump input before given (record { left = left; faults = faults; reader = reader; stage = Ended Memory; taken = pump.taken })
+at_memory input before given pump left faults reader is quiet same p =
+    let r = while_reading input before given pump is p in
+    record {
+      bytes = r.bytes;
+      requests = r.requests;
+      taken_is = r.taken_is;
+      faults_are = quiet ∙ r.faults_are;
+      at = (
+        begins input pump.left r.bytes r.gave,
+        subst (λ (n : Progress). AreRead r.bytes (r.requests ++ n.requests)) (sym same) (open_are_read r.bytes r.requests pump.reader r.closed r.reads),
+        r.given_is,
+      );
+    }
+
+-- the end of the input
+ends_so : (end : End) (input : Option (List ℕ)) (bytes : List ℕ) (requests : List Words) (given : List Command) (reader : Progress) → (end ≡ Clean) ⊎ ((place : ℕ) × (end ≡ Truncated place))
+    → IsWhole input bytes → Parses bytes (requests ++ reader.requests) end → given ≡ map command_of requests → (before : ℕ) → (EndFaults end before before) × IsEnded end input bytes requests given reader
+ends_so end input bytes requests given reader (inl is) all parsed given_is before =
+    subst (λ e. EndFaults e before before × IsEnded e input bytes requests given reader) (sym is) (refl, (all, subst (Parses bytes (requests ++ reader.requests)) is parsed, given_is))
+ends_so end input bytes requests given reader (inr at) all parsed given_is before =
+    subst (λ e. EndFaults e before before × IsEnded e input bytes requests given reader) (sym at.1) (refl, (all, subst (Parses bytes (requests ++ reader.requests)) at.1 parsed, given_is))
+
+pub at_end : (input : Option (List ℕ)) (before : ℕ) (given : List Command) (pump : PumpState) (left : Option (List ℕ)) (faults : ℕ) (reader : Progress) (end : End) (room : List ℕ) → pump.stage ≡ Reading
+    → pump.reader.requests ≡ [] → reader.requests ≡ [] → faults ≡ pump.faults → Takes pump.left left 0 room → ((bytes : List ℕ) (given : List Words) → Reads bytes given pump.reader → Parses bytes (given ++ pump.reader.requests) end)
+    → (end ≡ Clean) ⊎ ((place : ℕ) × (end ≡ Truncated place)) → IsPump input before given pump
+    → IsPump input before given (record { left = left; faults = faults; reader = reader; stage = Ended end; taken = pump.taken })
+at_end input before given pump left faults reader end room is none fresh same reads parsed ends p =
+    let r = while_reading input before given pump is p in
+    let empty : pump.reader.requests ≡ reader.requests = none ∙ sym fresh in
+    let so = ends_so end input r.bytes r.requests given reader ends (whole input pump.left left r.bytes room r.gave reads)
+        (subst (λ (more : List Words). Parses r.bytes (r.requests ++ more) end) empty (parsed r.bytes r.requests r.reads)) r.given_is before in
+    record {
+      bytes = r.bytes;
+      requests = r.requests;
+      taken_is = r.taken_is;
+      faults_are = subst (λ n. EndFaults end before n) (sym (same ∙ r.faults_are)) so.0;
+      at = so.1;
+    }
+
+-- a piece that was taken
+pub at_piece : (input : Option (List ℕ)) (before : ℕ) (given : List Command) (pump : PumpState) (left : Option (List ℕ)) (faults n : ℕ) (reader : Progress) (room piece : List ℕ) → pump.stage ≡ Reading
+    → faults ≡ pump.faults → Takes pump.left left n room → piece ≡ take n room → length piece ≡ n → reader.closed ≡ None
+    → ((bytes : List ℕ) (given : List Words) → Reads bytes given pump.reader → Reads (bytes ++ piece) given reader) → IsPump input before given pump
+    → IsPump input before given (record { left = left; faults = faults; reader = reader; stage = Reading; taken = pump.taken + n })
+at_piece input before given pump left faults n reader room piece is same takes is_piece count still fed p =
+    let r = while_reading input before given pump is p in
+    record {
+      bytes = r.bytes ++ piece;
+      requests = r.requests;
+      taken_is = omega (arith, r.taken_is, length-append r.bytes piece, count);
+      faults_are = same ∙ r.faults_are;
+      at = (gave_more input pump.left left r.bytes piece room n r.gave takes is_piece, fed r.bytes r.requests r.reads, still, r.given_is);
+    }
+
+stops_so : (error : ReadError) (input left : Option (List ℕ)) (bytes : List ℕ) (requests : List Words) (given : List Command) (reader : Progress) (before : ℕ) → BeginsWith input bytes
+    → IsJudged error × Parses bytes (requests ++ reader.requests) (end_of error) → given ≡ map command_of requests
+    → FaultsSo (stage_after error) before before × IsAt (stage_after error) input left bytes requests given reader
+stops_so (BadCount place) input left bytes requests given reader before front parsed is = (refl, (front, parsed.1, is))
+stops_so (ExpectedBulk place) input left bytes requests given reader before front parsed is = (refl, (front, parsed.1, is))
+stops_so (BadLength place) input left bytes requests given reader before front parsed is = (refl, (front, parsed.1, is))
+stops_so (Inline place) input left bytes requests given reader before front parsed is = (refl, (front, parsed.1, is))
+stops_so (errors.TooLong taken) input left bytes requests given reader before front parsed is = (refl, (front, parsed.1, is))
+stops_so errors.Memory input left bytes requests given reader before front parsed is = absurd parsed.0
+
+-- a piece that the reader refused
+pub at_error : (input : Option (List ℕ)) (before : ℕ) (given : List Command) (pump : PumpState) (left : Option (List ℕ)) (faults n : ℕ) (reader : Progress) (error : ReadError) (room piece : List ℕ) → pump.stage ≡ Reading
+    → faults ≡ pump.faults → Takes pump.left left n room → piece ≡ take n room → length piece ≡ n → reader.closed ≡ Some error
+    → ((bytes : List ℕ) (given : List Words) → Reads bytes given pump.reader → Reads (bytes ++ piece) given reader) → IsPump input before given pump
+    → IsPump input before given (record { left = left; faults = faults; reader = reader; stage = stage_after error; taken = pump.taken + n })
+at_error input before given pump left faults n reader error room piece is same takes is_piece count closed fed p =
+    let r = while_reading input before given pump is p in
+    let front = begins input left (r.bytes ++ piece) (gave_more input pump.left left r.bytes piece room n r.gave takes is_piece) in
+    let so = stops_so error input left (r.bytes ++ piece) r.requests given reader before front (closed_by (r.bytes ++ piece) r.requests reader error closed (fed r.bytes r.requests r.reads)) r.given_is in
+    record {
+      bytes = r.bytes ++ piece;
+      requests = r.requests;
+      taken_is = omega (arith, r.taken_is, length-append r.bytes piece, count);
+      faults_are = subst (λ m. FaultsSo (stage_after error) before m) (sym (same ∙ r.faults_are)) so.0;
+      at = so.1;
+    }
+
+-- how many reads a pump can still make
+abbrev pub reads_left : PumpState → ℕ
+reads_left pump = left_at pump.stage pump.taken where
+  left_at : Stage → ℕ → ℕ
+  left_at Reading taken = judged_bytes + 1 - taken
+  left_at (Refused kind place) taken = 0
+  left_at (Ended end) taken = 0
