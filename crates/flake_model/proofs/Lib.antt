@@ -9,4 +9,5 @@ pub mod Vectors
 pub mod OneParse
 pub mod OneSession
 pub mod OneOrder
+pub mod ManyShards
 pub mod OneThread
