@@ -9,4 +9,6 @@ pub mod Vectors
 pub mod OneParse
 pub mod OneSession
 pub mod OneOrder
+pub mod SameStores
+pub mod ManyShards
 pub mod OneThread

@@ -1,14 +1,15 @@
 //! What the definitions imply, for every input.
-ghost use Rattle.std.specs.Prelude.{◌≡◌, ◌++◌, [], ◌∷◌, List, ℕ, take};
+ghost use Rattle.std.specs.Prelude.{◌≡◌, ◌<◌, ◌++◌, [], ◌∷◌, List, ℕ, length, slice_index, take};
 ghost use Rattle.std.specs.List.{AllByRecursion, flat_map};
 ghost use Rattle.std.specs.FinMap as finite;
+ghost use Rattle.flake_base.specs.declared.journal.Entry.{Entry};
 ghost use Rattle.flake_base.specs.declared.session.End.{End};
 ghost use Rattle.flake_model.specs.Resp.{Words, Element, IsElement, element_text, IsClean, Parses};
 ghost use Rattle.flake_model.specs.Vectors.{vectors};
 ghost use Rattle.flake_model.specs.Command.{Command};
 ghost use Rattle.flake_model.specs.Reply.{reply_text};
-ghost use Rattle.flake_model.specs.Journal.{wire_text, IsOrderly};
-ghost use Rattle.flake_model.specs.OneThread.{history_from, replies_on};
+ghost use Rattle.flake_model.specs.Journal.{commands_of, wire_text, HasInOrder, ran_steps};
+ghost use Rattle.flake_model.specs.OneThread.{replies_on, IsSharded};
 ghost use Rattle.flake_model.specs.Order.{HasOneOrder};
 
 /// No element begins another: what stands first, and what is behind it, are determined.
@@ -37,18 +38,20 @@ pub fn worked_inputs()
     ensures { AllByRecursion (λ vector. Parses vector.input vector.requests vector.end) vectors }
 {}
 
-/// Where one session has the only shard, its wire is sent the replies of a store of one thread.
+/// The parts that one session ran, each in the shard of its key: the session's wire is sent the replies of a store of one thread.
 pub fn one_wire()
-    ensures { (commands : List Command) (served : ℕ) → wire_text (commands ∷ []) (history_from 0 (take served commands) ∷ []) 0 served
-        ≡ flat_map reply_text (replies_on finite.empty (take served commands)) }
+    ensures { (commands : List Command) (served cut : ℕ) (journal : List (List Entry)) → 0 < length journal → IsSharded (ran_steps 0 commands served cut) journal
+        → wire_text (commands ∷ []) journal 0 served ≡ flat_map reply_text (replies_on finite.empty (take served commands)) }
 {}
 
-/// The entries of one session's first calls, in the only shard, are orderly.
+/// Each shard has those parts that belong there, in order, and no other session's.
 pub fn one_history()
-    ensures { (commands : List Command) (served : ℕ) → IsOrderly (commands ∷ []) (history_from 0 (take served commands) ∷ []) (served ∷ []) }
+    ensures { (commands : List Command) (served cut : ℕ) (journal : List (List Entry)) → 0 < length journal → IsSharded (ran_steps 0 commands served cut) journal
+        → HasInOrder (λ session. ran_steps session (commands_of (commands ∷ []) session) (slice_index (served ∷ []) session) (slice_index (cut ∷ []) session)) journal }
 {}
 
-/// They have one order.
+/// They have one order in all shards.
 pub fn one_order()
-    ensures { (commands : List Command) → HasOneOrder (history_from 0 commands ∷ []) }
+    ensures { (commands : List Command) (served cut : ℕ) (journal : List (List Entry)) → 0 < length journal → IsSharded (ran_steps 0 commands served cut) journal
+        → HasOneOrder journal }
 {}
