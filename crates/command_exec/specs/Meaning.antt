@@ -1,0 +1,62 @@
+-- What a command of the code stands for.
+use Rattle.std.specs.Prelude.{ℕ, ◌≤◌, List, [], Option, Some, None, length}
+use Rattle.flake_model.specs.Resp.{Words}
+use Rattle.flake_model.specs.Command as model
+use Rattle.flake_model.specs.Command.{arguments, first, second}
+use Rattle.resp_reader.specs.declared.request.Request.{Request}
+use Rattle.command_exec.specs.declared.op.Op.{Op}
+use Rattle.command_exec.specs.declared.op.Op.TheVariants.{Ping, PingWith, Get, Set, MGet, Del, Exists, Append, Fault}
+
+abbrev pub op_of : model.Command → Op
+op_of model.ping = Ping
+op_of (model.ping_with bytes) = PingWith
+op_of (model.get key) = Get
+op_of (model.set key bytes) = Set
+op_of (model.mget keys) = MGet
+op_of (model.del keys) = Del
+op_of (model.exists keys) = Exists
+op_of (model.append key bytes) = Append
+op_of (model.fault kind) = Fault kind
+
+-- PING's argument; nothing for any other command
+abbrev pub argument_of : model.Command → List ℕ
+argument_of model.ping = []
+argument_of (model.ping_with bytes) = bytes
+argument_of (model.get key) = []
+argument_of (model.set key bytes) = []
+argument_of (model.mget keys) = []
+argument_of (model.del keys) = []
+argument_of (model.exists keys) = []
+argument_of (model.append key bytes) = []
+argument_of (model.fault kind) = []
+
+-- the words of a request, if there is one
+abbrev pub words_of : Option Request → Words
+words_of None = []
+words_of (Some request) = request
+
+abbrev pub command_by : Op → Words → model.Command
+command_by Ping words = model.ping
+command_by PingWith words = model.ping_with (first words)
+command_by Get words = model.get (first words)
+command_by Set words = model.set (first words) (second words)
+command_by MGet words = model.mget (arguments words)
+command_by Del words = model.del (arguments words)
+command_by Exists words = model.exists (arguments words)
+command_by Append words = model.append (first words) (second words)
+command_by (Fault kind) words = model.fault kind
+
+-- so many words at least and at most; a fault may have any
+abbrev pub Between : ℕ → ℕ → Words → Type 0
+Between least most words = (least ≤ length words) × (length words ≤ most)
+
+abbrev pub FitsWords : Op → Words → Type 0
+FitsWords Ping words = Unit {0}
+FitsWords PingWith words = Between 2 2 words
+FitsWords Get words = Between 2 2 words
+FitsWords Set words = Between 3 3 words
+FitsWords MGet words = Between 2 65 words
+FitsWords Del words = Between 2 65 words
+FitsWords Exists words = Between 2 65 words
+FitsWords Append words = Between 3 3 words
+FitsWords (Fault kind) words = Unit {0}

@@ -1,0 +1,99 @@
+ghost use Rattle.std.specs.Prelude.{◌≡◌, ◌<◌, ◌≤◌, length, slice_get, Some};
+ghost use Rattle.flake_model.specs.Command.{command_of, parts, fault};
+ghost use Rattle.shard_store.specs.Parts.{operation_of};
+ghost use Rattle.command_exec.specs.Meaning.{op_of, argument_of};
+
+use crate::Op;
+use crate::verdict::op_asked;
+use flake_base::ErrorKind;
+use resp_reader::Request;
+use shard_store::{Part, PartOp};
+use std::marker::Model;
+
+/// A command, with the words of its request, if it came from one.
+#[derive(Drop)]
+pub struct Command {
+    op: Op,
+    request: Option<Request>,
+}
+
+impl Model for Command {
+    ghost use Rattle.flake_model.specs.Command as model;
+    ghost use Rattle.command_exec.specs.Meaning.{command_by, words_of, FitsWords};
+
+    ghost Value = { model.Command };
+
+    ghost view = { λ c. command_by c.op (words_of c.request) };
+
+    ghost invariant = { λ c. FitsWords c.op (words_of c.request) };
+}
+
+impl Command {
+    /// What a request asks for.
+    pub fn of(request: Request) -> Command
+        ensures { result ≡ command_of request }
+    {
+        Command {
+            op: op_asked(&request),
+            request: Some(request),
+        }
+    }
+
+    /// The command behind the last request of an input that breaks the protocol: it is answered by this error.
+    pub fn protocol(error: ErrorKind) -> Command
+        ensures { result ≡ fault error }
+    {
+        Command {
+            op: Op::Fault(error),
+            request: None,
+        }
+    }
+
+    pub fn op(&self) -> Op
+        ensures { result ≡ op_of self.now }
+    {
+        self.op
+    }
+
+    /// The number of parts.
+    pub fn count(&self) -> usize
+        ensures parts { result ≡ length (parts self.now) }
+        ensures few { result ≤ 64 }
+    {
+        match (self.op, &self.request) {
+            (Op::Get | Op::Set | Op::Append, _) => 1,
+            (Op::MGet | Op::Del | Op::Exists, Some(request)) => request.len() - 1,
+            _ => 0,
+        }
+    }
+
+    /// The part of this number, from 0.
+    pub fn part(&self, j: usize) -> Part<'_>
+        requires { j < length (parts self.now) }
+        ensures { slice_get (parts self.now) j ≡ Some (operation_of result) }
+    {
+        let Some(request) = &self.request else {
+            unreachable!()
+        };
+        let key = request.word(j + 1);
+        let (op, value): (PartOp, &[u8]) = match self.op {
+            Op::Get | Op::MGet => (PartOp::Get, &[]),
+            Op::Set => (PartOp::Set, request.word(2)),
+            Op::Append => (PartOp::Append, request.word(2)),
+            Op::Del => (PartOp::Del, &[]),
+            Op::Exists => (PartOp::Exists, &[]),
+            Op::Ping | Op::PingWith | Op::Fault(_) => unreachable!(),
+        };
+        Part { op, key, value }
+    }
+
+    /// PING's argument, which is its reply; nothing for any other command.
+    pub fn argument(&self) -> &[u8]
+        ensures { result.now ≡ argument_of self.now }
+    {
+        match (self.op, &self.request) {
+            (Op::PingWith, Some(request)) => request.word(1),
+            _ => &[],
+        }
+    }
+}

@@ -1,0 +1,10 @@
+//! Commands: what a request asks for, by tests in a fixed order, and its parts, one for each key.
+#![tactic(auto)]
+
+mod command;
+mod name;
+mod op;
+mod verdict;
+
+pub use command::Command;
+pub use op::Op;
