@@ -242,3 +242,169 @@ reads_left pump = left_at pump.stage pump.taken where
   left_at Reading taken = judged_bytes + 1 - taken
   left_at (Refused kind place) taken = 0
   left_at (Ended end) taken = 0
+
+-- two readers that show the same
+pub same_reader : (a b : Progress) → a.requests ≡ b.requests → a.front ≡ b.front → a.place ≡ b.place → a.closed ≡ b.closed → a ≡ b
+same_reader a b requests front place closed =
+    ap (λ r. record { requests = r; front = a.front; place = a.place; closed = a.closed }) requests
+    ∙ ap (λ f. record { requests = b.requests; front = f; place = a.place; closed = a.closed }) front
+    ∙ ap (λ p. record { requests = b.requests; front = b.front; place = p; closed = a.closed }) place
+    ∙ ap (λ c. record { requests = b.requests; front = b.front; place = b.place; closed = c }) closed
+
+-- a request that was given is no longer held
+one_more : (requests more rest : List Words) (request : Words) → more ≡ request ∷ rest → requests ++ more ≡ (requests ++ request ∷ []) ++ rest
+one_more requests more rest request is = ap (λ m. requests ++ m) is ∙ sym (append_assoc requests (request ∷ []) rest)
+
+given_more : (given : List Command) (requests : List Words) (request : Words) → given ≡ map command_of requests → given ++ command_of request ∷ [] ≡ map command_of (requests ++ request ∷ [])
+given_more given requests request is = ap (λ g. g ++ command_of request ∷ []) is ∙ sym (map-append command_of requests (request ∷ []))
+
+are_read_more : (bytes : List ℕ) (some more : List Words) → some ≡ more → AreRead bytes some → AreRead bytes more
+are_read_more bytes some more is = subst (AreRead bytes) is
+
+took_last : (end : End) (input : Option (List ℕ)) (bytes : List ℕ) (requests : List Words) (given : List Command) (reader new : Progress) (request : Words) → reader.requests ≡ request ∷ new.requests
+    → IsEnded end input bytes requests given reader → IsEnded end input bytes (requests ++ request ∷ []) (given ++ command_of request ∷ []) new
+took_last Clean input bytes requests given reader new request is at =
+    (at.0, subst (λ r. Parses bytes r Clean) (one_more requests reader.requests new.requests request is) at.1, given_more given requests request at.2)
+took_last (Protocol kind place) input bytes requests given reader new request is at = absurd (cc (is, at.2))
+took_last (Truncated place) input bytes requests given reader new request is at =
+    (at.0, subst (λ r. Parses bytes r (Truncated place)) (one_more requests reader.requests new.requests request is) at.1, given_more given requests request at.2)
+took_last TooLong input bytes requests given reader new request is at =
+    (at.0, subst (λ r. Parses bytes r TooLong) (one_more requests reader.requests new.requests request is) at.1, given_more given requests request at.2)
+took_last ReadFault input bytes requests given reader new request is at =
+    (at.0, subst (AreRead bytes) (one_more requests reader.requests new.requests request is) at.1, given_more given requests request at.2)
+took_last Memory input bytes requests given reader new request is at =
+    (at.0, subst (AreRead bytes) (one_more requests reader.requests new.requests request is) at.1, given_more given requests request at.2)
+took_last Left input bytes requests given reader new request is at = absurd at
+
+took : (stage : Stage) (input left : Option (List ℕ)) (bytes : List ℕ) (requests : List Words) (given : List Command) (reader new : Progress) (request : Words) → reader.requests ≡ request ∷ new.requests
+    → new.closed ≡ reader.closed → ((bytes : List ℕ) (given : List Words) → Reads bytes given reader → Reads bytes (given ++ request ∷ []) new)
+    → IsAt stage input left bytes requests given reader → IsAt stage input left bytes (requests ++ request ∷ []) (given ++ command_of request ∷ []) new
+took Reading input left bytes requests given reader new request is closed fed at = (at.0, fed bytes requests at.1, closed ∙ at.2, given_more given requests request at.3)
+took (Refused kind place) input left bytes requests given reader new request is closed fed at =
+    (at.0, subst (λ r. Parses bytes r (Protocol kind place)) (one_more requests reader.requests new.requests request is) at.1, given_more given requests request at.2)
+took (Ended end) input left bytes requests given reader new request is closed fed at = took_last end input bytes requests given reader new request is at
+
+-- a request that the reader had
+pub at_request : (input : Option (List ℕ)) (before : ℕ) (given : List Command) (pump : PumpState) (reader : Progress) (request : Words) (command : Command) → pump.reader.requests ≡ request ∷ reader.requests
+    → reader.closed ≡ pump.reader.closed → ((bytes : List ℕ) (given : List Words) → Reads bytes given pump.reader → Reads bytes (given ++ request ∷ []) reader) → command ≡ command_of request
+    → IsPump input before given pump → IsPump input before (given ++ command ∷ []) (record { left = pump.left; faults = pump.faults; reader = reader; stage = pump.stage; taken = pump.taken })
+at_request input before given pump reader request command is closed fed is_command p = record {
+  bytes = p.bytes;
+  requests = p.requests ++ request ∷ [];
+  taken_is = p.taken_is;
+  faults_are = p.faults_are;
+  at = subst (λ c. IsAt pump.stage input pump.left p.bytes (p.requests ++ request ∷ []) (given ++ c ∷ []) reader) (sym is_command)
+      (took pump.stage input pump.left p.bytes p.requests given pump.reader reader request is closed fed p.at);
+}
+
+-- the command of an error
+pub at_refusal : (input : Option (List ℕ)) (before : ℕ) (given : List Command) (pump : PumpState) (kind place : ℕ) (command : Command) (reader : Progress) → pump.stage ≡ Refused kind place → pump.reader.requests ≡ []
+    → reader.requests ≡ [] → command ≡ fault (protocol_error kind) → IsPump input before given pump
+    → IsPump input before (given ++ command ∷ []) (record { left = pump.left; faults = pump.faults; reader = reader; stage = Ended (Protocol kind place); taken = pump.taken })
+at_refusal input before given pump kind place command reader is none still is_command p =
+    let at = subst (λ s. IsAt s input pump.left p.bytes p.requests given pump.reader) is p.at in
+    record {
+      bytes = p.bytes;
+      requests = p.requests;
+      taken_is = p.taken_is;
+      faults_are = subst (λ s. FaultsSo s before pump.faults) is p.faults_are;
+      at = (
+        at.0,
+        subst (λ r. Parses p.bytes r (Protocol kind place)) (ap (λ m. p.requests ++ m) none ∙ append-nil p.requests) at.1,
+        still,
+        ap (λ g. g ++ command ∷ []) at.2 ∙ ap (λ c. map command_of p.requests ++ c ∷ []) is_command,
+      );
+    }
+
+-- the place of an error is among the bytes that are judged
+error_place : (bytes : List ℕ) (requests : List Words) (kind place : ℕ) → Parses bytes requests (Protocol kind place) → place < judged_bytes
+error_place bytes requests kind place faulty =
+    omega (
+      arith,
+      faulty.place_is,
+      ap length faulty.bytes_are,
+      length-append (stream faulty.elements ++ faulty.front) (faulty.byte ∷ faulty.more),
+      length-take judged_bytes bytes,
+    )
+
+front_of_all : (input all bytes : List ℕ) (taken : ℕ) (rest : List ℕ) → taken ≡ length bytes → all ≡ bytes ++ rest → take taken all ≡ bytes
+front_of_all input all bytes taken rest count is = ap (λ n. take n all) count ∙ ap (take (length bytes)) is ∙ take-append_seam bytes rest
+
+-- the session of an input that is told, by its end
+session_of : (end : End) (all bytes : List ℕ) (requests : List Words) (given : List Command) (reader : Progress) (taken : ℕ) (failed : Bool) → taken ≡ length bytes → reader.requests ≡ []
+    → IsEnded end (Some all) bytes requests given reader → IsSession all given (ended_at end (taken_by end taken) (length given) failed)
+session_of Clean all bytes requests given reader taken failed count none at = record {
+  requests = requests;
+  shown = Clean;
+  parsed = subst (λ b. Parses b requests Clean) (sym at.0) (subst (λ r. Parses bytes r Clean) (ap (λ m. requests ++ m) none ∙ append-nil requests) at.1);
+  shown_is = refl;
+  commands_are = at.2;
+  taken_is = count ∙ ap length (sym at.0);
+  served_is = refl;
+}
+session_of (Truncated place) all bytes requests given reader taken failed count none at = record {
+  requests = requests;
+  shown = Truncated place;
+  parsed = subst (λ b. Parses b requests (Truncated place)) (sym at.0) (subst (λ r. Parses bytes r (Truncated place)) (ap (λ m. requests ++ m) none ∙ append-nil requests) at.1);
+  shown_is = refl;
+  commands_are = at.2;
+  taken_is = count ∙ ap length (sym at.0);
+  served_is = refl;
+}
+session_of (Protocol kind place) all bytes requests given reader taken failed count none at = record {
+  requests = requests;
+  shown = Protocol kind place;
+  parsed = subst (λ b. Parses b requests (Protocol kind place)) (sym at.0.1) (error_stays bytes at.0.0 requests kind place at.1);
+  shown_is = refl;
+  commands_are = at.3;
+  taken_is = omega (arith, error_place bytes requests kind place at.1);
+  served_is = refl;
+}
+session_of TooLong all bytes requests given reader taken failed count none at = record {
+  requests = requests;
+  shown = TooLong;
+  parsed = subst (λ b. Parses b requests TooLong) (sym at.0.1) (long_stays bytes at.0.0 requests (subst (λ r. Parses bytes r TooLong) (ap (λ m. requests ++ m) none ∙ append-nil requests) at.1));
+  shown_is = refl;
+  commands_are = at.2;
+  taken_is = refl;
+  served_is = refl;
+}
+session_of ReadFault all bytes requests given reader taken failed count none at =
+    let read = subst (AreRead bytes) (ap (λ m. requests ++ m) none ∙ append-nil requests) at.1 in
+    record {
+      requests = requests;
+      shown = read.shown;
+      parsed = subst (λ b. Parses b requests read.shown) (sym (front_of_all all all bytes taken at.0.0 count at.0.1)) read.parsed;
+      shown_is = tt;
+      commands_are = at.2 ∙ sym (read.no_error requests);
+      taken_is = omega (arith, count, ap length at.0.1, length-append bytes at.0.0);
+      served_is = refl;
+    }
+session_of Memory all bytes requests given reader taken failed count none at =
+    let read = subst (AreRead bytes) (ap (λ m. requests ++ m) none ∙ append-nil requests) at.1 in
+    record {
+      requests = requests;
+      shown = read.shown;
+      parsed = subst (λ b. Parses b requests read.shown) (sym (front_of_all all all bytes taken at.0.0 count at.0.1)) read.parsed;
+      shown_is = tt;
+      commands_are = at.2 ∙ sym (read.no_error requests);
+      taken_is = omega (arith, count, ap length at.0.1, length-append bytes at.0.0);
+      served_is = omega arith;
+    }
+session_of Left all bytes requests given reader taken failed count none at = absurd at
+
+on_input : (input : Option (List ℕ)) (end : End) (bytes : List ℕ) (requests : List Words) (given : List Command) (reader : Progress) (taken : ℕ) → taken ≡ length bytes → reader.requests ≡ []
+    → IsEnded end input bytes requests given reader → IfSome input (λ all. (failed : Bool) → IsSession all given (ended_at end (taken_by end taken) (length given) failed))
+on_input None end bytes requests given reader taken count none at = tt
+on_input (Some all) end bytes requests given reader taken count none at = λ failed. session_of end all bytes requests given reader taken failed count none at
+
+-- all commands were given
+pub at_last : (input : Option (List ℕ)) (before : ℕ) (given : List Command) (pump : PumpState) (end : End) (taken : ℕ) (reader : Progress) → pump.stage ≡ Ended end → pump.reader.requests ≡ [] → taken ≡ taken_by end pump.taken
+    → IsPump input before given pump → HasEnded input before given end (record { left = pump.left; faults = pump.faults; reader = reader; stage = pump.stage; taken = taken })
+at_last input before given pump end taken reader is none by p =
+    let at = subst (λ s. IsAt s input pump.left p.bytes p.requests given pump.reader) is p.at in
+    record {
+      faults_are = subst (λ s. FaultsSo s before pump.faults) is p.faults_are;
+      on_input = subst (λ t. IfSome input (λ all. (failed : Bool) → IsSession all given (ended_at end t (length given) failed))) (sym by)
+          (on_input input end p.bytes p.requests given pump.reader pump.taken p.taken_is none at);
+    }

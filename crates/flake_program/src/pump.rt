@@ -1,5 +1,5 @@
 // Commands from a source.
-ghost use Rattle.std.specs.Prelude.{◌≡◌, ◌<◌, ◌⊎◌, ◌++◌, ◌∷◌, [], List, ℕ, Option, None, IfOk, IfErr, Err};
+ghost use Rattle.std.specs.Prelude.{◌≡◌, ◌≢◌, ◌<◌, ◌⊎◌, ◌++◌, ◌∷◌, [], List, ℕ, Option, None, true, false, IfOk, IfErr, Err};
 ghost use Rattle.flake_model.specs.Command.{Command as Meaning};
 ghost use Rattle.flake_model.specs.Resp.{Words, Parses};
 ghost use Rattle.flake_model.specs.Run.{protocol_error};
@@ -76,6 +76,13 @@ fn stopped(error: ReadError) -> Stage
         ReadError::TooLong { .. } => Stage::Ended(End::TooLong),
         ReadError::Memory => Stage::Ended(End::Memory),
     }
+}
+
+fn is_memory(error: ReadError) -> bool
+    ensures yes { result ≡ true → error ≡ ReadError.Memory }
+    ensures no { result ≡ false → error ≢ ReadError.Memory }
+{
+    matches!(error, ReadError::Memory)
 }
 
 // How many bytes a session took that ended so, of those that the source gave.
@@ -159,14 +166,13 @@ impl<S: Source> Pump<S> {
             self.stage = Stage::Ended(input_end(reader));
             return;
         }
-        match self.reader.feed(&room[..count]) {
-            Ok(()) => self.taken += count as u64,
-            Err(ReadError::Memory) => self.stage = Stage::Ended(End::Memory),
-            Err(error) => {
-                self.stage = stopped(error);
-                self.taken += count as u64;
+        if let Err(error) = self.reader.feed(&room[..count]) {
+            self.stage = stopped(error);
+            if is_memory(error) {
+                return;
             }
         }
+        self.taken += count as u64;
     }
 
     /// How many bytes of the input were taken; behind its end by what that is.
