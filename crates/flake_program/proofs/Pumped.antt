@@ -1,5 +1,5 @@
 -- What a pump comes to, step by step.
-use Rattle.std.proofs.Common.{◌≡◌, ℕ, ◌+◌, ◌-◌, ◌<◌, ◌≤◌, ◌⊎◌, inl, inr, zero, suc, Bool, List, [], ◌∷◌, ◌++◌, Option, Some, None, IfSome, MatchOption, length, map, take, drop, arith, refl, ap, sym, ◌∙◌, subst, append_assoc, append-nil}
+use Rattle.std.proofs.Common.{◌≡◌, ◌≢◌, ℕ, ◌+◌, ◌-◌, ◌<◌, ◌≤◌, ◌⊎◌, inl, inr, zero, suc, Bool, List, [], ◌∷◌, ◌++◌, Option, Some, None, IfSome, MatchOption, length, map, take, drop, arith, refl, ap, sym, ◌∙◌, subst, append_assoc, append-nil}
 use Rattle.std.proofs.lemmas.List.{map-append, length-append, length-map, length-take, take-append-drop, take-append-le}
 use Rattle.std.proofs.Math.Seq.{take-append-add, take-append_seam}
 use Rattle.flake_base.specs.Causes.{Rose}
@@ -9,6 +9,7 @@ use Rattle.flake_base.specs.declared.session.End.TheVariants.{Clean, Protocol, T
 use Rattle.flake_model.specs.Resp.{Words, judged_bytes, IsClean, IsTruncated, IsFaulty, Parses, requests_of, stream}
 use Rattle.flake_model.specs.Command.{Command, fault, command_of}
 use Rattle.flake_model.specs.Run.{protocol_error, commands_in, bytes_seen, IsSession, IsShown, IsTaken, IsServedCount}
+use Rattle.flake_model.proofs.Streams.{requests_fit}
 use Rattle.resp_reader.specs.declared.error.ReadError.{ReadError}
 use Rattle.resp_reader.specs.declared.error.ReadError.TheVariants.{BadCount, ExpectedBulk, BadLength, Inline}
 use Rattle.resp_reader.specs.declared.error.ReadError.TheVariants as errors
@@ -139,16 +140,16 @@ while_reading input before given pump is p =
     }
 
 -- a read fault
-pub at_fault : (input : Option (List ℕ)) (before : ℕ) (given : List Command) (pump : PumpState) (left : Option (List ℕ)) (faults : ℕ) → pump.stage ≡ Reading → Rose pump.faults faults
+pub at_fault : (input : Option (List ℕ)) (before : ℕ) (given : List Command) (pump : PumpState) (left : Option (List ℕ)) (faults : ℕ) → pump.stage ≡ Reading → pump.reader.requests ≡ [] → Rose pump.faults faults
     → IsPump input before given pump → IsPump input before given (record { left = left; faults = faults; reader = pump.reader; stage = Ended ReadFault; taken = pump.taken })
-at_fault input before given pump left faults is rose p =
+at_fault input before given pump left faults is none rose p =
     let r = while_reading input before given pump is p in
     record {
       bytes = r.bytes;
       requests = r.requests;
       taken_is = r.taken_is;
       faults_are = subst (λ n. Rose n faults) r.faults_are rose;
-      at = (begins input pump.left r.bytes r.gave, open_are_read r.bytes r.requests pump.reader r.closed r.reads, r.given_is);
+      at = (begins input pump.left r.bytes r.gave, open_are_read r.bytes r.requests pump.reader r.closed r.reads, none, r.given_is);
     }
 
 -- want of memory in the reader, which is as it was
@@ -270,8 +271,7 @@ took_last (Truncated place) input bytes requests given reader new request is at 
     (at.0, subst (λ r. Parses bytes r (Truncated place)) (one_more requests reader.requests new.requests request is) at.1, given_more given requests request at.2)
 took_last TooLong input bytes requests given reader new request is at =
     (at.0, subst (λ r. Parses bytes r TooLong) (one_more requests reader.requests new.requests request is) at.1, given_more given requests request at.2)
-took_last ReadFault input bytes requests given reader new request is at =
-    (at.0, subst (AreRead bytes) (one_more requests reader.requests new.requests request is) at.1, given_more given requests request at.2)
+took_last ReadFault input bytes requests given reader new request is at = absurd (cc (is, at.2))
 took_last Memory input bytes requests given reader new request is at =
     (at.0, subst (AreRead bytes) (one_more requests reader.requests new.requests request is) at.1, given_more given requests request at.2)
 took_last Left input bytes requests given reader new request is at = absurd at
@@ -283,6 +283,26 @@ took Reading input left bytes requests given reader new request is closed fed at
 took (Refused kind place) input left bytes requests given reader new request is closed fed at =
     (at.0, subst (λ r. Parses bytes r (Protocol kind place)) (one_more requests reader.requests new.requests request is) at.1, given_more given requests request at.2)
 took (Ended end) input left bytes requests given reader new request is closed fed at = took_last end input bytes requests given reader new request is at
+
+-- no read failed before the last command was given
+no_fault : (stage : Stage) (input left : Option (List ℕ)) (bytes : List ℕ) (requests : List Words) (given : List Command) (reader new : Progress) (request : Words) (before now : ℕ) → reader.requests ≡ request ∷ new.requests
+    → IsAt stage input left bytes requests given reader → FaultsSo stage before now → now ≡ before
+no_fault Reading input left bytes requests given reader new request before now is at faults = faults
+no_fault (Refused kind place) input left bytes requests given reader new request before now is at faults = faults
+no_fault (Ended Clean) input left bytes requests given reader new request before now is at faults = faults
+no_fault (Ended (Protocol kind place)) input left bytes requests given reader new request before now is at faults = faults
+no_fault (Ended (Truncated place)) input left bytes requests given reader new request before now is at faults = faults
+no_fault (Ended TooLong) input left bytes requests given reader new request before now is at faults = faults
+no_fault (Ended ReadFault) input left bytes requests given reader new request before now is at faults = absurd (cc (is, at.2))
+no_fault (Ended Memory) input left bytes requests given reader new request before now is at faults = faults
+no_fault (Ended Left) input left bytes requests given reader new request before now is at faults = faults
+
+pub quiet_request : (input : Option (List ℕ)) (before : ℕ) (given : List Command) (pump : PumpState) (reader : Progress) (request : Words) → pump.reader.requests ≡ request ∷ reader.requests → IsPump input before given pump
+    → pump.faults ≡ before
+quiet_request input before given pump reader request is p = no_fault pump.stage input pump.left p.bytes p.requests given pump.reader reader request before pump.faults is p.at p.faults_are
+
+pub quiet_refusal : (input : Option (List ℕ)) (before : ℕ) (given : List Command) (pump : PumpState) (kind place : ℕ) → pump.stage ≡ Refused kind place → IsPump input before given pump → pump.faults ≡ before
+quiet_refusal input before given pump kind place is p = subst (λ s. FaultsSo s before pump.faults) is p.faults_are
 
 -- a request that the reader had
 pub at_request : (input : Option (List ℕ)) (before : ℕ) (given : List Command) (pump : PumpState) (reader : Progress) (request : Words) (command : Command) → pump.reader.requests ≡ request ∷ reader.requests
@@ -327,8 +347,8 @@ error_place bytes requests kind place faulty =
       length-take judged_bytes bytes,
     )
 
-front_of_all : (input all bytes : List ℕ) (taken : ℕ) (rest : List ℕ) → taken ≡ length bytes → all ≡ bytes ++ rest → take taken all ≡ bytes
-front_of_all input all bytes taken rest count is = ap (λ n. take n all) count ∙ ap (take (length bytes)) is ∙ take-append_seam bytes rest
+front_of_all : (all bytes : List ℕ) (taken : ℕ) (rest : List ℕ) → taken ≡ length bytes → all ≡ bytes ++ rest → take taken all ≡ bytes
+front_of_all all bytes taken rest count is = ap (λ n. take n all) count ∙ ap (take (length bytes)) is ∙ take-append_seam bytes rest
 
 -- the session of an input that is told, by its end
 session_of : (end : End) (all bytes : List ℕ) (requests : List Words) (given : List Command) (reader : Progress) (taken : ℕ) (failed : Bool) → taken ≡ length bytes → reader.requests ≡ []
@@ -374,9 +394,9 @@ session_of ReadFault all bytes requests given reader taken failed count none at 
     record {
       requests = requests;
       shown = read.shown;
-      parsed = subst (λ b. Parses b requests read.shown) (sym (front_of_all all all bytes taken at.0.0 count at.0.1)) read.parsed;
+      parsed = subst (λ b. Parses b requests read.shown) (sym (front_of_all all bytes taken at.0.0 count at.0.1)) read.parsed;
       shown_is = tt;
-      commands_are = at.2 ∙ sym (read.no_error requests);
+      commands_are = at.3 ∙ sym (read.no_error requests);
       taken_is = omega (arith, count, ap length at.0.1, length-append bytes at.0.0);
       served_is = refl;
     }
@@ -385,7 +405,7 @@ session_of Memory all bytes requests given reader taken failed count none at =
     record {
       requests = requests;
       shown = read.shown;
-      parsed = subst (λ b. Parses b requests read.shown) (sym (front_of_all all all bytes taken at.0.0 count at.0.1)) read.parsed;
+      parsed = subst (λ b. Parses b requests read.shown) (sym (front_of_all all bytes taken at.0.0 count at.0.1)) read.parsed;
       shown_is = tt;
       commands_are = at.2 ∙ sym (read.no_error requests);
       taken_is = omega (arith, count, ap length at.0.1, length-append bytes at.0.0);
@@ -399,6 +419,9 @@ on_input None end bytes requests given reader taken count none at = tt
 on_input (Some all) end bytes requests given reader taken count none at = λ failed. session_of end all bytes requests given reader taken failed count none at
 
 -- all commands were given
+pub in_order : (input : Option (List ℕ)) (before : ℕ) (given : List Command) (pump : PumpState) (end : End) → pump.stage ≡ Ended end → IsPump input before given pump → end ≢ Left
+in_order input before given pump end is p left = subst (λ s. IsAt s input pump.left p.bytes p.requests given pump.reader) (is ∙ ap Ended left) p.at
+
 pub at_last : (input : Option (List ℕ)) (before : ℕ) (given : List Command) (pump : PumpState) (end : End) (taken : ℕ) (reader : Progress) → pump.stage ≡ Ended end → pump.reader.requests ≡ [] → taken ≡ taken_by end pump.taken
     → IsPump input before given pump → HasEnded input before given end (record { left = pump.left; faults = pump.faults; reader = reader; stage = pump.stage; taken = taken })
 at_last input before given pump end taken reader is none by p =
@@ -408,3 +431,150 @@ at_last input before given pump end taken reader is none by p =
       on_input = subst (λ t. IfSome input (λ all. (failed : Bool) → IsSession all given (ended_at end t (length given) failed))) (sym by)
           (on_input input end p.bytes p.requests given pump.reader pump.taken p.taken_is none at);
     }
+
+-- what the bytes that came mean, and that the commands which were given are the first of it
+pub record Meant (input : Option (List ℕ)) (given : List Command) (taken : ℕ) : Type 0 where
+  pub bytes : List ℕ
+  pub requests : List Words
+  pub shown : End
+  pub more : List Command
+  pub taken_is : taken ≡ length bytes
+  pub begun : BeginsWith input bytes
+  pub parsed : Parses bytes requests shown
+  pub commands_are : commands_in requests shown ≡ given ++ more
+
+-- what is whole begins so
+begins_whole : (input : Option (List ℕ)) (bytes : List ℕ) → IsWhole input bytes → BeginsWith input bytes
+begins_whole None bytes is = tt
+begins_whole (Some all) bytes is = ([], is ∙ sym (append-nil bytes))
+
+-- the commands that were given, and those of the requests that are held
+all_of : (given : List Command) (requests pending : List Words) → given ≡ map command_of requests → map command_of (requests ++ pending) ≡ given ++ map command_of pending
+all_of given requests pending is = map-append command_of requests pending ∙ ap (λ g. g ++ map command_of pending) (sym is)
+
+meant_read : (input : Option (List ℕ)) (given : List Command) (taken : ℕ) (bytes : List ℕ) (requests pending : List Words) → taken ≡ length bytes → BeginsWith input bytes → AreRead bytes (requests ++ pending)
+    → given ≡ map command_of requests → Meant input given taken
+meant_read input given taken bytes requests pending count begun read is = record {
+  bytes = bytes;
+  requests = requests ++ pending;
+  shown = read.shown;
+  more = map command_of pending;
+  taken_is = count;
+  begun = begun;
+  parsed = read.parsed;
+  commands_are = read.no_error (requests ++ pending) ∙ all_of given requests pending is;
+}
+
+meant_at : (stage : Stage) (input left : Option (List ℕ)) (bytes : List ℕ) (requests : List Words) (given : List Command) (reader : Progress) (taken : ℕ) → taken ≡ length bytes
+    → IsAt stage input left bytes requests given reader → Meant input given taken
+meant_at Reading input left bytes requests given reader taken count at =
+    meant_read input given taken bytes requests reader.requests count (begins input left bytes at.0) (open_are_read bytes requests reader at.2 at.1) at.3
+meant_at (Refused kind place) input left bytes requests given reader taken count at = record {
+  bytes = bytes;
+  requests = requests ++ reader.requests;
+  shown = Protocol kind place;
+  more = map command_of reader.requests ++ fault (protocol_error kind) ∷ [];
+  taken_is = count;
+  begun = at.0;
+  parsed = at.1;
+  commands_are = ap (λ c. c ++ fault (protocol_error kind) ∷ []) (all_of given requests reader.requests at.2) ∙ append_assoc given (map command_of reader.requests) (fault (protocol_error kind) ∷ []);
+}
+meant_at (Ended Clean) input left bytes requests given reader taken count at = record {
+  bytes = bytes;
+  requests = requests ++ reader.requests;
+  shown = Clean;
+  more = map command_of reader.requests;
+  taken_is = count;
+  begun = begins_whole input bytes at.0;
+  parsed = at.1;
+  commands_are = all_of given requests reader.requests at.2;
+}
+meant_at (Ended (Protocol kind place)) input left bytes requests given reader taken count at = record {
+  bytes = bytes;
+  requests = requests;
+  shown = Protocol kind place;
+  more = [];
+  taken_is = count;
+  begun = at.0;
+  parsed = at.1;
+  commands_are = sym at.3 ∙ sym (append-nil given);
+}
+meant_at (Ended (Truncated place)) input left bytes requests given reader taken count at = record {
+  bytes = bytes;
+  requests = requests ++ reader.requests;
+  shown = Truncated place;
+  more = map command_of reader.requests;
+  taken_is = count;
+  begun = begins_whole input bytes at.0;
+  parsed = at.1;
+  commands_are = all_of given requests reader.requests at.2;
+}
+meant_at (Ended TooLong) input left bytes requests given reader taken count at = record {
+  bytes = bytes;
+  requests = requests ++ reader.requests;
+  shown = TooLong;
+  more = map command_of reader.requests;
+  taken_is = count;
+  begun = at.0;
+  parsed = at.1;
+  commands_are = all_of given requests reader.requests at.2;
+}
+meant_at (Ended ReadFault) input left bytes requests given reader taken count at = meant_read input given taken bytes requests reader.requests count at.0 at.1 at.3
+meant_at (Ended Memory) input left bytes requests given reader taken count at = meant_read input given taken bytes requests reader.requests count at.0 at.1 at.2
+meant_at (Ended Left) input left bytes requests given reader taken count at = absurd at
+
+pub meant : (input : Option (List ℕ)) (before : ℕ) (given : List Command) (pump : PumpState) → IsPump input before given pump → Meant input given pump.taken
+meant input before given pump p = meant_at pump.stage input pump.left p.bytes p.requests given pump.reader pump.taken p.taken_is p.at
+
+-- an input has at most as many requests as bytes that are judged
+clean_fits : (bytes : List ℕ) (requests : List Words) → IsClean bytes requests → length requests ≤ length bytes
+clean_fits bytes requests clean = omega (arith, ap length clean.requests_are, requests_fit clean.elements, ap length clean.bytes_are)
+
+truncated_fits : (bytes : List ℕ) (requests : List Words) (place : ℕ) → IsTruncated bytes requests place → length requests ≤ length bytes
+truncated_fits bytes requests place cut =
+    omega (arith, ap length cut.requests_are, requests_fit cut.elements, ap length cut.bytes_are, length-append (stream cut.elements) cut.front)
+
+so_many : (bytes : List ℕ) (requests : List Words) (shown : End) → Parses bytes requests shown → length requests ≤ judged_bytes
+so_many bytes requests Clean parsed = omega (arith, parsed.0, clean_fits bytes requests parsed.1)
+so_many bytes requests (Truncated place) parsed = omega (arith, parsed.0, truncated_fits bytes requests place parsed.1)
+so_many bytes requests (Protocol kind place) faulty =
+    omega (
+      arith,
+      ap length faulty.requests_are,
+      requests_fit faulty.elements,
+      ap length faulty.bytes_are,
+      length-append (stream faulty.elements ++ faulty.front) (faulty.byte ∷ faulty.more),
+      length-append (stream faulty.elements) faulty.front,
+      length-take judged_bytes bytes,
+    )
+so_many bytes requests TooLong (long, inl clean) = omega (arith, clean_fits (take judged_bytes bytes) requests clean, length-take judged_bytes bytes)
+so_many bytes requests TooLong (long, inr cut) = omega (arith, truncated_fits (take judged_bytes bytes) requests cut.0 cut.1, length-take judged_bytes bytes)
+so_many bytes requests ReadFault parsed = absurd parsed
+so_many bytes requests Memory parsed = absurd parsed
+so_many bytes requests Left parsed = absurd parsed
+
+one_error_more : (requests : List Words) (shown : End) → length (commands_in requests shown) ≤ length requests + 1
+one_error_more requests Clean = omega (arith, length-map requests command_of)
+one_error_more requests (Protocol kind place) = omega (arith, length-map requests command_of, length-append (map command_of requests) (fault (protocol_error kind) ∷ []))
+one_error_more requests (Truncated place) = omega (arith, length-map requests command_of)
+one_error_more requests TooLong = omega (arith, length-map requests command_of)
+one_error_more requests ReadFault = omega (arith, length-map requests command_of)
+one_error_more requests Memory = omega (arith, length-map requests command_of)
+one_error_more requests Left = omega (arith, length-map requests command_of)
+
+pub bounded : (input : Option (List ℕ)) (before : ℕ) (given : List Command) (pump : PumpState) → IsPump input before given pump → length given ≤ judged_bytes + 1
+bounded input before given pump p =
+    let m = meant input before given pump p in
+    omega (arith, ap length m.commands_are, length-append given m.more, one_error_more m.requests m.shown, so_many m.bytes m.requests m.shown m.parsed)
+
+-- a session that memory stopped behind so many replies
+pub stopped_at : (all : List ℕ) (given : List Command) (taken replies : ℕ) (failed : Bool) → (m : Meant (Some all) given taken) → replies ≤ length given → IsSession all (given ++ m.more) (ended_at Memory taken replies failed)
+stopped_at all given taken replies failed m some = record {
+  requests = m.requests;
+  shown = m.shown;
+  parsed = subst (λ b. Parses b m.requests m.shown) (sym (front_of_all all m.bytes taken m.begun.0 m.taken_is m.begun.1)) m.parsed;
+  shown_is = tt;
+  commands_are = sym m.commands_are;
+  taken_is = omega (arith, m.taken_is, ap length m.begun.1, length-append m.bytes m.begun.0);
+  served_is = omega (arith, some, length-append given m.more);
+}

@@ -4,29 +4,16 @@ use Rattle.std.proofs.lemmas.List.Elements.{recursion_from_All}
 use Rattle.flake_base.specs.Causes.{Rose}
 use Rattle.flake_base.specs.declared.session.SessionEnd.{SessionEnd}
 use Rattle.flake_program.specs.declared.outcome.Refusal.{Refusal}
-use Rattle.flake_program.specs.declared.outcome.Refusal.TheVariants.{BadWords, OpenFault, ReadFault, NotBuilt, Memory}
+use Rattle.flake_program.specs.declared.outcome.Refusal.TheVariants.{BadWords, OpenFault, Memory}
 use Rattle.flake_program.specs.Refusals.{status_of, refusal_text}
 use Rattle.flake_program.specs.Told.{Says, text_of}
-use Rattle.flake_program.specs.Built.{IsServable, IsNotServable}
-use Rattle.flake_program.proofs.Served.{not_both}
 
 -- what is said of a refusal is the status's text
 pub says_status : (refusal : Refusal) (status : ℕ) (ends : List SessionEnd) (old new : Option (List ℕ)) (before now : ℕ) → status ≡ status_of refusal → status ≢ 6
     → Says (refusal_text refusal) old new before now → Says (text_of status ends) old new before now
 says_status BadWords status ends old new before now is other says = subst (λ s. Says (text_of s ends) old new before now) (sym is) says
 says_status OpenFault status ends old new before now is other says = subst (λ s. Says (text_of s ends) old new before now) (sym is) says
-says_status ReadFault status ends old new before now is other says = subst (λ s. Says (text_of s ends) old new before now) (sym is) says
-says_status NotBuilt status ends old new before now is other says = subst (λ s. Says (text_of s ends) old new before now) (sym is) says
 says_status Memory status ends old new before now is other says = absurd (other is)
-
--- an input that can be served isn't refused without a cause
-pub refused_with_cause : (refusal : Refusal) (status : ℕ) (left : Option (List ℕ)) (faults : ℕ) → status ≡ status_of refusal → status ≢ 6
-    → (refusal ≡ ReadFault) ⊎ (refusal ≡ NotBuilt) ⊎ (refusal ≡ Memory) → (refusal ≡ NotBuilt → IfSome left IsNotServable) → (refusal ≡ ReadFault → Rose 0 faults) → faults ≡ 0
-    → IfSome left (λ bytes. IsServable bytes → status ≡ 0)
-refused_with_cause refusal status left faults is other (inl read) not_built cause none = absurd (omega (arith, cause read))
-refused_with_cause refusal status None faults is other (inr (inl built)) not_built cause none = tt
-refused_with_cause refusal status (Some bytes) faults is other (inr (inl built)) not_built cause none = λ servable. absurd (not_both bytes servable (not_built built))
-refused_with_cause refusal status left faults is other (inr (inr memory)) not_built cause none = absurd (other (is ∙ ap status_of memory))
 
 pub only_one : {A : Type 0} (P : A → Type 0) (items : List A) (item : A) → items ≡ item ∷ [] → All P items → P item
 only_one P items item is all = (recursion_from_All P (item ∷ []) (subst (All P) is all)).0

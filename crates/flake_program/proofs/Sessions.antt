@@ -1,79 +1,38 @@
 -- One command more of a session.
-use Rattle.std.proofs.Common.{◌≡◌, ℕ, ◌+◌, ◌<◌, Bool, true, false, List, [], ◌∷◌, ◌++◌, Option, Some, None, length, map, take, get_or, arith, refl, ap, sym, ◌∙◌, subst, append_assoc, append-nil}
+use Rattle.std.proofs.Common.{◌≡◌, ◌≢◌, ℕ, ◌+◌, ◌<◌, ◌≤◌, ◌⊎◌, inl, inr, Bool, true, false, List, [], ◌∷◌, ◌++◌, Option, Some, None, IfSome, length, map, take, slice_get, arith, refl, ap, sym, ◌∙◌, subst, append_assoc, append-nil}
 use Rattle.std.specs.List.{flat_map}
 use Rattle.std.specs.FinMap as finite
-use Rattle.std.proofs.lemmas.List.{take_more, length-map, length-take-le, get_or-map}
+use Rattle.std.proofs.lemmas.List.{take_all, length-append}
 use Rattle.std.proofs.lemmas.List.Concat.{flat_map-append}
+use Rattle.std.proofs.Math.Seq.{take-append_seam}
 use Rattle.flake_base.specs.Causes.{Rose}
 use Rattle.flake_base.specs.Growth.{Grew}
 use Rattle.flake_base.specs.declared.journal.Entry.{Entry}
-use Rattle.flake_model.specs.Store.{Store}
-use Rattle.flake_model.specs.Command.{Command as Meaning, parts}
-use Rattle.flake_model.specs.Reply.{Reply, reply_text}
-use Rattle.flake_model.specs.OneThread.{after_all, reply_on, replies_on, store_on, entries_of, history_from}
-use Rattle.flake_model.specs.Journal.{call_steps}
+use Rattle.flake_base.specs.declared.session.End.{End}
+use Rattle.flake_base.specs.declared.session.End.TheVariants.{Clean, Protocol, Truncated, TooLong, ReadFault, Memory, Left}
+use Rattle.flake_model.specs.Store.{Operation}
+use Rattle.flake_model.specs.Command.{Command, parts}
+use Rattle.flake_model.specs.Reply.{reply_text}
+use Rattle.flake_model.specs.OneThread.{after_all, reply_on, replies_on, store_on, IsSharded}
+use Rattle.flake_model.specs.Journal.{Step, call_steps, session_steps, next_parts, ran_steps}
+use Rattle.flake_model.specs.Run.{IsSession, IsCut}
 use Rattle.flake_model.specs.Wire.{FaultIs}
-use Rattle.flake_model.proofs.OneThread.{replies_on-append, store_on-append, history-append}
-use Rattle.flake_model.proofs.OneSession.{entry_at}
-use Rattle.flake_program.specs.declared.command.Command.{Command}
-use Rattle.flake_program.specs.declared.command.Command.TheVariants.{Get, Set}
-use Rattle.flake_program.specs.Asked.{meaning_of}
-use Rattle.flake_program.specs.Session.{meanings, first_texts}
-
--- the store before a command
-abbrev pub store_at : ℕ → List Command → Store
-store_at i commands = store_on finite.empty (take i (meanings commands))
-
--- the first commands with the next
-first_more : (commands : List Command) (i : ℕ) (d : Command) → i < length commands → take (i + 1) (meanings commands) ≡ take i (meanings commands) ++ meaning_of (get_or commands i d) ∷ []
-first_more commands i d below =
-    let within : i < length (meanings commands) = omega (arith, length-map commands meaning_of) in
-    take_more (meanings commands) i (meaning_of d) within ∙ ap (λ m. take i (meanings commands) ++ m ∷ []) (get_or-map meaning_of commands i d (meaning_of d) below)
-
-so_many : (commands : List Command) (i : ℕ) → i < length commands → length (take i (meanings commands)) ≡ i
-so_many commands i below = length-take-le i (meanings commands) (omega (arith, length-map commands meaning_of))
+use Rattle.flake_model.proofs.OneThread.{replies_on-append, store_on-append, session_steps-more}
+use Rattle.flake_program.specs.Pump.{IsPump, PumpState, HasEnded, ended_at}
+use Rattle.flake_program.specs.Session.{texts_to, AreServing, HasReplied, HasEntered, HasStopped, HasServed, HasRun}
+use Rattle.flake_program.specs.Store.{Tables, Holds}
+use Rattle.flake_program.proofs.Pumped.{Meant, meant, stopped_at}
 
 -- the texts so far, and that of the next reply
-texts_more : (commands : List Command) (i : ℕ) (d : Command) → i < length commands
-    → first_texts (i + 1) (meanings commands) ≡ first_texts i (meanings commands) ++ reply_text (reply_on (store_at i commands) (meaning_of (get_or commands i d)))
-texts_more commands i d below =
-    let done = take i (meanings commands) in
-    let next = meaning_of (get_or commands i d) in
-    let one : flat_map reply_text (replies_on (store_at i commands) (next ∷ [])) ≡ reply_text (reply_on (store_at i commands) next) = append-nil (reply_text (reply_on (store_at i commands) next)) in
-    ap (λ commands. flat_map reply_text (replies_on finite.empty commands)) (first_more commands i d below)
-    ∙ ap (flat_map reply_text) (replies_on-append finite.empty done (next ∷ []))
-    ∙ flat_map-append reply_text (replies_on finite.empty done) (replies_on (store_at i commands) (next ∷ []))
-    ∙ ap (λ text. first_texts i (meanings commands) ++ text) one
+texts_more : (given : List Command) (command : Command) → texts_to (given ++ command ∷ []) ≡ texts_to given ++ reply_text (reply_on (store_on finite.empty given) command)
+texts_more given command =
+    ap (flat_map reply_text) (replies_on-append finite.empty given (command ∷ []))
+    ∙ flat_map-append reply_text (replies_on finite.empty given) (replies_on (store_on finite.empty given) (command ∷ []))
+    ∙ ap (λ text. texts_to given ++ text) (append-nil (reply_text (reply_on (store_on finite.empty given) command)))
 
 -- the store behind the next command
-pub store_more : (commands : List Command) (i : ℕ) (d : Command) → i < length commands
-    → store_at (i + 1) commands ≡ after_all (store_at i commands) (parts (meaning_of (get_or commands i d)))
-store_more commands i d below = ap (store_on finite.empty) (first_more commands i d below) ∙ store_on-append finite.empty (take i (meanings commands)) (meaning_of (get_or commands i d) ∷ [])
-
--- the entries of a GET or a SET
-one_entry : (call : ℕ) (command : Command) → entries_of (call_steps 0 call 0 (parts (meaning_of command))) ≡ entry_at call 0 ∷ []
-one_entry call (Get key) = refl
-one_entry call (Set key value) = refl
-
-history_with : (commands : List Command) (i : ℕ) (d : Command) (old new : List Entry) → i < length commands → old ≡ history_from 0 (take i (meanings commands)) → new ≡ old ++ entry_at i 0 ∷ []
-    → new ≡ history_from 0 (take (i + 1) (meanings commands))
-history_with commands i d old new below was is =
-    let done = take i (meanings commands) in
-    let command = get_or commands i d in
-    let count : 0 + length done ≡ i = omega (arith, so_many commands i below) in
-    is ∙ ap (λ h. h ++ entry_at i 0 ∷ []) was ∙ ap (λ e. history_from 0 done ++ e) (sym (one_entry i command))
-    ∙ ap (λ n. history_from 0 done ++ entries_of (call_steps 0 n 0 (parts (meaning_of command)))) (sym count)
-    ∙ sym (history-append 0 done (meaning_of command)) ∙ ap (history_from 0) (sym (first_more commands i d below))
-
--- the history with one entry more
-pub history_more : (commands : List Command) (i : ℕ) (old new : List Entry) → i < length commands → old ≡ history_from 0 (take i (meanings commands)) → new ≡ old ++ entry_at i 0 ∷ []
-    → new ≡ history_from 0 (take (i + 1) (meanings commands))
-history_more [] i old new below was is = absurd (omega arith)
-history_more (first ∷ commands) i old new below was is = history_with (first ∷ commands) i first old new below was is
-
--- all commands are the first ones
-pub all_of : (commands : List Command) → length commands ≡ length (meanings commands)
-all_of commands = sym (length-map commands meaning_of)
+pub store_more : (given : List Command) (command : Command) → store_on finite.empty (given ++ command ∷ []) ≡ after_all (store_on finite.empty given) (parts command)
+store_more given command = store_on-append finite.empty given (command ∷ [])
 
 -- what was sent, and more behind it
 grew_by : (old mid front bytes : List ℕ) → bytes ≡ front → Some mid ≡ Some (old ++ bytes) → (more : List ℕ) → mid ++ more ≡ old ++ (front ++ more)
@@ -113,16 +72,141 @@ grew_more false false front text old mid new grew before whole part = grew_whole
 grew_more false true front text old mid new grew before whole part = grew_front old mid new front text grew (part refl refl)
 
 -- the texts with that of the next reply were sent
-pub sent_more : (commands : List Command) (i : ℕ) (d : Command) (failed now : Bool) (text : List ℕ) (old mid new : Option (List ℕ)) → i < length commands
-    → text ≡ reply_text (reply_on (store_at i commands) (meaning_of (get_or commands i d))) → Grew failed (first_texts i (meanings commands)) old mid
-    → (failed ≡ true → (now ≡ true) × (new ≡ mid)) → (failed ≡ false → now ≡ false → Grew false text mid new) → (failed ≡ false → now ≡ true → Grew true text mid new)
-    → Grew now (first_texts (i + 1) (meanings commands)) old new
-sent_more commands i d failed now text old mid new below is grew before whole part =
-    let more : first_texts (i + 1) (meanings commands) ≡ first_texts i (meanings commands) ++ text = texts_more commands i d below ∙ ap (λ t. first_texts i (meanings commands) ++ t) (sym is) in
-    subst (λ t. Grew now t old new) (sym more) (grew_more failed now (first_texts i (meanings commands)) text old mid new grew before whole part)
+pub sent_more : (given : List Command) (command : Command) (failed now : Bool) (text : List ℕ) (old mid new : Option (List ℕ)) → text ≡ reply_text (reply_on (store_on finite.empty given) command)
+    → Grew failed (texts_to given) old mid → (failed ≡ true → (now ≡ true) × (new ≡ mid)) → (failed ≡ false → now ≡ false → Grew false text mid new) → (failed ≡ false → now ≡ true → Grew true text mid new)
+    → Grew now (texts_to (given ++ command ∷ [])) old new
+sent_more given command failed now text old mid new is grew before whole part =
+    let more : texts_to (given ++ command ∷ []) ≡ texts_to given ++ text = texts_more given command ∙ ap (λ t. texts_to given ++ t) (sym is) in
+    subst (λ t. Grew now t old new) (sym more) (grew_more failed now (texts_to given) text old mid new grew before whole part)
 
 -- the count rose where a put failed, in this call or before
 pub cause_more : (failed now : Bool) (old mid new : ℕ) → FaultIs failed old mid → (failed ≡ true → (now ≡ true) × (new ≡ mid)) → (failed ≡ false → FaultIs now mid new) → FaultIs now old new
 cause_more true true old mid new was before put = subst (λ n. Rose old n) (sym (before refl).1) was
 cause_more true false old mid new was before put = let now_true = (before refl).0 in cc
 cause_more false now old mid new was before put = subst (λ n. FaultIs now n new) was (put refl)
+
+-- the command behind the first ones
+next_is : (given : List Command) (command : Command) (more : List Command) → next_parts (length given) (given ++ command ∷ more) ≡ parts command
+next_is [] command more = append-nil (parts command)
+next_is (first ∷ given) command more = next_is given command more
+
+none_behind : (given : List Command) → next_parts (length given) given ≡ []
+none_behind [] = refl
+none_behind (first ∷ given) = none_behind given
+
+not_cut : (end : End) → IsCut end 0 0
+not_cut Clean = refl
+not_cut (Protocol kind place) = refl
+not_cut (Truncated place) = refl
+not_cut TooLong = refl
+not_cut ReadFault = refl
+not_cut Memory = inl refl
+not_cut Left = refl
+
+-- a session that ran all that its pump gave
+entered_all : (all : List ℕ) (given : List Command) (end : End) (taken : ℕ) (journal : List (List Entry)) → ((failed : Bool) → IsSession all given (ended_at end taken (length given) failed))
+    → IsSharded (session_steps 0 0 given) journal → HasEntered all given end taken journal
+entered_all all given end taken journal session sharded =
+    let whole : take (length given) given ≡ given = take_all (length given) given (omega arith) in
+    let none : next_parts (length given) given ≡ [] = none_behind given in
+    let steps : ran_steps 0 given (length given) 0 ≡ session_steps 0 0 given = append-nil (session_steps 0 0 (take (length given) given)) ∙ ap (session_steps 0 0) whole in
+    record {
+      commands = given;
+      cut = 0;
+      first = whole;
+      session = session;
+      cut_is = subst (λ (ps : List Operation). IsCut end 0 (length ps)) (sym none) (not_cut end);
+      sharded = subst (λ s. IsSharded s journal) (sym steps) sharded;
+    }
+
+on_all : (input : Option (List ℕ)) (given : List Command) (end : End) (taken : ℕ) (journal : List (List Entry)) → IfSome input (λ all. (failed : Bool) → IsSession all given (ended_at end taken (length given) failed))
+    → IsSharded (session_steps 0 0 given) journal → IfSome input (λ all. HasEntered all given end taken journal)
+on_all None given end taken journal ended sharded = tt
+on_all (Some all) given end taken journal ended sharded = entered_all all given end taken journal ended sharded
+
+pub ended_so : (input : Option (List ℕ)) (before : ℕ) (given : List Command) (pump : PumpState) (end : End) (journal : List (List Entry)) → HasEnded input before given end pump × (end ≢ Left)
+    → IsSharded (session_steps 0 0 given) journal → HasStopped input before given end pump journal
+ended_so input before given pump end journal ended sharded = record {
+  faults_are = ended.0.faults_are;
+  in_order = ended.1;
+  on_input = on_all input given end pump.taken journal ended.0.on_input sharded;
+}
+
+-- a session that memory stopped in a call, of whose parts these were entered
+entered_some : (all : List ℕ) (given : List Command) (command : Command) (taken cut : ℕ) (journal : List (List Entry)) → (cut ≡ 0) ⊎ (cut < length (parts command)) → Meant (Some all) (given ++ command ∷ []) taken
+    → IsSharded (session_steps 0 0 given ++ call_steps 0 (length given) 0 (take cut (parts command))) journal → HasEntered all given Memory taken journal
+entered_some all given command taken cut journal is_cut m sharded =
+    let commands = (given ++ command ∷ []) ++ m.more in
+    let split : commands ≡ given ++ command ∷ m.more = append_assoc given (command ∷ []) m.more in
+    let front : take (length given) commands ≡ given = ap (take (length given)) split ∙ take-append_seam given (command ∷ m.more) in
+    let next : next_parts (length given) commands ≡ parts command = ap (next_parts (length given)) split ∙ next_is given command m.more in
+    let steps : ran_steps 0 commands (length given) cut ≡ session_steps 0 0 given ++ call_steps 0 (length given) 0 (take cut (parts command)) =
+    ap (λ c. session_steps 0 0 c ++ call_steps 0 (length given) 0 (take cut (next_parts (length given) commands))) front
+    ∙ ap (λ ps. session_steps 0 0 given ++ call_steps 0 (length given) 0 (take cut ps)) next in
+    record {
+      commands = commands;
+      cut = cut;
+      first = front;
+      session = λ failed. stopped_at all (given ++ command ∷ []) taken (length given) failed m (omega (arith, length-append given (command ∷ [])));
+      cut_is = subst (λ ps. (cut ≡ 0) ⊎ (cut < length ps)) (sym next) is_cut;
+      sharded = subst (λ s. IsSharded s journal) (sym steps) sharded;
+    }
+
+on_some : (input : Option (List ℕ)) (given : List Command) (command : Command) (taken cut : ℕ) (journal : List (List Entry)) → (cut ≡ 0) ⊎ (cut < length (parts command)) → Meant input (given ++ command ∷ []) taken
+    → IsSharded (session_steps 0 0 given ++ call_steps 0 (length given) 0 (take cut (parts command))) journal → IfSome input (λ all. HasEntered all given Memory taken journal)
+on_some None given command taken cut journal is_cut m sharded = tt
+on_some (Some all) given command taken cut journal is_cut m sharded = entered_some all given command taken cut journal is_cut m sharded
+
+pub stopped_so : (input : Option (List ℕ)) (before : ℕ) (given : List Command) (command : Command) (pump : PumpState) (cut : ℕ) (journal : List (List Entry)) → (cut ≡ 0) ⊎ (cut < length (parts command))
+    → IsPump input before (given ++ command ∷ []) pump × (pump.faults ≡ before) → IsSharded (session_steps 0 0 given ++ call_steps 0 (length given) 0 (take cut (parts command))) journal
+    → HasStopped input before given Memory pump journal
+stopped_so input before given command pump cut journal is_cut p sharded = record {
+  faults_are = p.1;
+  in_order = λ is. cc is;
+  on_input = on_some input given command pump.taken cut journal is_cut (meant input before (given ++ command ∷ []) pump p.0) sharded;
+}
+
+-- nothing of the call was entered
+pub none_entered : (given : List Command) (journal : List (List Entry)) (operations : List Operation) → IsSharded (session_steps 0 0 given) journal
+    → IsSharded (session_steps 0 0 given ++ call_steps 0 (length given) 0 (take 0 operations)) journal
+none_entered given journal operations sharded = subst (λ s. IsSharded s journal) (sym (append-nil (session_steps 0 0 given))) sharded
+
+-- a call more
+pub replied_so : (input : Option (List ℕ)) (before : ℕ) (given : List Command) (command : Command) (text : List ℕ) (pump : PumpState) (tables : Tables) (journal : List (List Entry))
+    → text ≡ reply_text (reply_on (store_on finite.empty given) command) → IsPump input before (given ++ command ∷ []) pump → Holds tables (after_all (store_on finite.empty given) (parts command))
+    → IsSharded (session_steps 0 0 given ++ call_steps 0 (length given) 0 (parts command)) journal → HasReplied input before given text pump tables journal
+replied_so input before given command text pump tables journal is p holds sharded = record {
+  command = command;
+  text_is = is;
+  serving = record {
+    pump_is = p;
+    count = sym (length-append given (command ∷ []));
+    store_is = subst (Holds tables) (sym (store_more given command)) holds;
+    sharded = subst (λ s. IsSharded s journal) (sym (session_steps-more given command)) sharded;
+  };
+}
+
+-- what was sent of a session that ended so
+sent_on : (input : Option (List ℕ)) (before : ℕ) (given : List Command) (end : End) (pump : PumpState) (journal : List (List Entry)) (replies : ℕ) (failed : Bool) (old now : Option (List ℕ)) → replies ≡ length given
+    → HasStopped input before given end pump journal → Grew failed (texts_to given) old now → HasRun input (ended_at end pump.taken replies failed) journal old now
+sent_on None before given end pump journal replies failed old now count stopped sent = tt
+sent_on (Some all) before given end pump journal replies failed old now count stopped sent =
+    let e = stopped.on_input in
+    subst (λ n. HasServed all (ended_at end pump.taken n failed) journal old now) (sym count)
+    (record {
+      commands = e.commands;
+      cut = e.cut;
+      session = e.session failed;
+      cut_is = e.cut_is;
+      sharded = e.sharded;
+      sent = subst (λ c. Grew failed (texts_to c) old now) (sym e.first) sent;
+    })
+
+pub sent_so : (input : Option (List ℕ)) (before : ℕ) (given : List Command) (end : End) (pump : PumpState) (journal : List (List Entry)) (replies taken : ℕ) (failed : Bool) (old now : Option (List ℕ)) → replies ≡ length given
+    → taken ≡ pump.taken → HasStopped input before given end pump journal → Grew failed (texts_to given) old now → HasRun input (ended_at end taken replies failed) journal old now
+sent_so input before given end pump journal replies taken failed old now count is stopped sent =
+    subst (λ n. HasRun input (ended_at end n replies failed) journal old now) (sym is) (sent_on input before given end pump journal replies failed old now count stopped sent)
+
+pub serving_more : (input : Option (List ℕ)) (before : ℕ) (given : List Command) (call : ℕ) (text : List ℕ) (pump : PumpState) (tables : Tables) (journal : List (List Entry)) → call ≡ length given
+    → (r : HasReplied input before given text pump tables journal) → AreServing input before (given ++ r.command ∷ []) (call + 1) pump tables journal
+serving_more input before given call text pump tables journal count r = subst (λ n. AreServing input before (given ++ r.command ∷ []) (n + 1) pump tables journal) (sym count) r.serving

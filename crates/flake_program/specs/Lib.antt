@@ -1,9 +1,11 @@
 pub mod Given
 pub mod Pump
 pub mod Table
-pub mod Asked
+pub mod Store
 pub mod Session
+pub mod Room
 pub mod Words
-pub mod Built
+pub mod Histories
+pub mod Statuses
 pub mod Told
 pub mod Refusals

@@ -82,7 +82,8 @@ IsEnded (Protocol kind place) input bytes requests given reader =
 IsEnded (Truncated place) input bytes requests given reader =
     IsWhole input bytes × Parses bytes (requests ++ reader.requests) (Truncated place) × (given ≡ map command_of requests)
 IsEnded TooLong input bytes requests given reader = BeginsWith input bytes × Parses bytes (requests ++ reader.requests) TooLong × (given ≡ map command_of requests)
-IsEnded ReadFault input bytes requests given reader = BeginsWith input bytes × AreRead bytes (requests ++ reader.requests) × (given ≡ map command_of requests)
+IsEnded ReadFault input bytes requests given reader =
+    BeginsWith input bytes × AreRead bytes (requests ++ reader.requests) × (reader.requests ≡ []) × (given ≡ map command_of requests)
 IsEnded Memory input bytes requests given reader = BeginsWith input bytes × AreRead bytes (requests ++ reader.requests) × (given ≡ map command_of requests)
 IsEnded Left input bytes requests given reader = ⊥
 

@@ -14,6 +14,4 @@ pub record Says (text : List ℕ) (old new : Option (List ℕ)) (before now : �
 abbrev pub text_of : ℕ → List SessionEnd → List ℕ
 text_of status ends =
     if status == 1 then said_line (codes "bad words") else
-    if status == 2 then said_line (codes "cannot open 0") else
-    if status == 4 then said_line (codes "read fault 0") else
-    if status == 10 then said_line (codes "not built") else summary_from 0 ends
+    if status == 2 then said_line (codes "cannot open 0") else summary_from 0 ends

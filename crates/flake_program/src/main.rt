@@ -1,19 +1,18 @@
 //! A key-value server over files: requests from a file, replies to a wire.
 #![tactic(auto)]
 
-mod command;
+mod execute;
 mod files;
+mod journal;
 mod outcome;
 mod pump;
 mod run;
 mod session;
 mod source;
+mod store;
 mod summary;
 mod table;
 mod tell;
-#[cfg(test)]
-mod tests;
-mod whole;
 mod words;
 
 use crate::files::{FileHost, FileWire};

@@ -18,6 +18,12 @@ pub enum Detail {
 /// All was served.
 pub const SERVED: u8 = 0;
 
+/// The input isn't whole requests, or is too long.
+pub const BAD_SESSION: u8 = 3;
+
+/// A read of the input failed.
+pub const READ_FAULT: u8 = 4;
+
 /// A put on a wire, or what was to be said, failed.
 pub const WRITE_FAULT: u8 = 5;
 
@@ -28,8 +34,6 @@ pub const OUT_OF_MEMORY: u8 = 6;
 pub enum Refusal {
     BadWords,
     OpenFault,
-    ReadFault,
-    NotBuilt,
     Memory,
 }
 
@@ -43,9 +47,7 @@ impl Refusal {
         match self {
             Refusal::BadWords => 1,
             Refusal::OpenFault => 2,
-            Refusal::ReadFault => 4,
             Refusal::Memory => OUT_OF_MEMORY,
-            Refusal::NotBuilt => 10,
         }
     }
 
@@ -53,8 +55,8 @@ impl Refusal {
         ensures { result ≡ detail_of self }
     {
         match self {
-            Refusal::OpenFault | Refusal::ReadFault => Detail::File(0),
-            Refusal::BadWords | Refusal::Memory | Refusal::NotBuilt => Detail::Nothing,
+            Refusal::OpenFault => Detail::File(0),
+            Refusal::BadWords | Refusal::Memory => Detail::Nothing,
         }
     }
 
@@ -65,9 +67,7 @@ impl Refusal {
         match self {
             Refusal::BadWords => "bad words\n",
             Refusal::OpenFault => "cannot open 0\n",
-            Refusal::ReadFault => "read fault 0\n",
             Refusal::Memory => "out of memory\n",
-            Refusal::NotBuilt => "not built\n",
         }
     }
 }

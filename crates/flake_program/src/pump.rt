@@ -125,9 +125,9 @@ impl<S: Source> Pump<S> {
     /// makes one command of its own.
     pub fn next(&mut self) -> Result<Command, End>
         ensures command { IfOk result (λ command. (input : Option (List ℕ)) (before : ℕ) (given : List Meaning) → IsPump input before given self.old
-            → IsPump input before (given ++ command ∷ []) self.new) }
+            → IsPump input before (given ++ command ∷ []) self.new × (self.new.faults ≡ before)) }
         ensures end { IfErr result (λ end. (input : Option (List ℕ)) (before : ℕ) (given : List Meaning) → IsPump input before given self.old
-            → HasEnded input before given end self.new) }
+            → HasEnded input before given end self.new × (end ≢ End.Left)) }
         ensures ended { IfErr result (λ end. (self.new.stage ≡ Stage.Ended end) × (self.new.reader.requests ≡ [])) }
         ensures again { (end : End) → self.old.stage ≡ Stage.Ended end → self.old.reader.requests ≡ [] → (result ≡ Err end) × (self.new.left ≡ self.old.left) × (self.new.faults ≡ self.old.faults) }
     {

@@ -1,58 +1,27 @@
-// One session, from its commands to its wire.
-ghost use Rattle.std.specs.Prelude.{◌≡◌, ◌<◌, ◌≤◌, ◌^◌, ◌⊎◌, ◌++◌, ◌∷◌, List, [], ℕ, Some, length, take, true, false, OnOk, OnErr, IfOk};
+// One session, from its source to its wire.
+ghost use Rattle.std.specs.Prelude.{◌≡◌, ◌≢◌, ◌<◌, List, [], ℕ, Option, true, false, length, IfOk, IfErr};
 ghost use Rattle.std.specs.FinMap as finite;
-ghost use Rattle.flake_base.specs.Causes.{Rose};
 ghost use Rattle.flake_base.specs.Growth.{Grew};
-ghost use Rattle.flake_model.specs.Store.{Store};
-ghost use Rattle.flake_model.specs.Command.{parts};
-ghost use Rattle.flake_model.specs.Reply.{reply_text};
-ghost use Rattle.flake_model.specs.OneThread.{reply_on, after_all, history_from};
+ghost use Rattle.flake_model.specs.Command.{Command};
+ghost use Rattle.flake_model.specs.OneThread.{IsSharded};
 ghost use Rattle.flake_model.specs.Wire.{FaultIs};
-ghost use Rattle.resp_text.specs.Meaning.{meaning};
-ghost use Rattle.flake_program.specs.Asked.{meaning_of};
-ghost use Rattle.flake_program.specs.Table.{Agrees};
-ghost use Rattle.flake_program.specs.Session.{meanings, first_texts};
+ghost use Rattle.flake_program.specs.Store.{Holds};
+ghost use Rattle.flake_program.specs.Session.{AreServing, HasReplied, HasStopped, HasRun};
+ghost use Rattle.flake_program.specs.Pump.{EndFaults};
 
-use crate::command::Command;
-use crate::table::{self, Table};
-use flake_base::{Bytes, End, Entry, Memory, Sequence, Wire};
-use resp_text::{Reply, text};
+use crate::execute::execute;
+use crate::journal::Histories;
+use crate::pump::Pump;
+use crate::store::Store;
+use flake_base::{Bytes, End, Memory, SessionEnd, Source, Wire};
 use std::alloc::Global;
 
-/// What a session has done.
+/// What a session left.
 #[derive(Drop)]
-pub struct Progress {
-    pub history: Sequence<Entry>,
-    pub replies: u32,
-    pub failed: bool,
-    pub end: End,
-}
-
-// Runs a command on the table.
-fn run(alloc: Global, table: &mut Table, command: &Command<'_>) -> Result<Reply, Memory>
-    ensures reply { (store : Store) → Agrees table.old.entries store → IfOk result (λ reply. meaning reply ≡ reply_on store (meaning_of command.now)) }
-    ensures table { (store : Store) → Agrees table.old.entries store → OnOk result (Agrees table.new.entries (after_all store (parts (meaning_of command.now)))) }
-{
-    match *command {
-        Command::Get { key } => match table::get(table, key) {
-            Some(value) => Ok(Reply::Bulk(Bytes::from_slice(alloc, value.as_slice())?)),
-            None => Ok(Reply::Null),
-        },
-        Command::Set { key, value } => {
-            table::set(alloc, table, key, value)?;
-            Ok(Reply::Ok)
-        }
-    }
-}
-
-// Runs a command, and gives its reply's text.
-fn answer(alloc: Global, table: &mut Table, command: &Command<'_>) -> Result<Bytes, Memory>
-    ensures text { (store : Store) → Agrees table.old.entries store → IfOk result (λ text. text.items ≡ reply_text (reply_on store (meaning_of command.now))) }
-    ensures table { (store : Store) → Agrees table.old.entries store → OnOk result (Agrees table.new.entries (after_all store (parts (meaning_of command.now)))) }
-    ensures some { IfOk result (λ text. 0 < length text.items) }
-{
-    let reply = run(alloc, table, command)?;
-    text(alloc, &reply)
+pub struct Served<S> {
+    pub end: SessionEnd,
+    pub histories: Histories,
+    pub source: S,
 }
 
 // Puts a text, unless a put failed before; answers whether one has failed.
@@ -66,43 +35,74 @@ fn send(wire: &mut dyn Wire, failed: bool, text: &[u8]) -> bool
     failed || wire.put(text).is_err()
 }
 
-/// Runs the commands in order and puts their replies, to the end or until memory is wanting.
-pub fn serve(
+// Runs the next command, which has this number, and gives its reply's text; or says how the session ends.
+fn step<S: Source>(
     alloc: Global,
-    commands: &[Command<'_>],
-    wire: &mut dyn Wire,
-    history: Sequence<Entry>,
-) -> Progress
-    requires few { length commands.now < 2 ^ 32 }
-    requires history { history.items ≡ [] }
-    requires room { length commands.now ≤ history.spare }
-    ensures end { (result.end ≡ End.Clean) ⊎ (result.end ≡ End.Memory) }
-    ensures replies { result.replies ≤ length commands.now }
-    ensures all { result.end ≡ End.Clean → result.replies ≡ length commands.now }
-    ensures history { result.history.items ≡ history_from 0 (take result.replies (meanings commands.now)) }
-    ensures sent { Grew result.failed (first_texts result.replies (meanings commands.now)) (sent wire.old) (sent wire.new) }
-    ensures cause { FaultIs result.failed (put_faults wire.old) (put_faults wire.new) }
+    pump: &mut Pump<S>,
+    store: &mut Store,
+    histories: &mut Histories,
+    call: u32,
+) -> Result<Bytes, End>
+    ensures reply { IfOk result (λ text. (input : Option (List ℕ)) (before : ℕ) (given : List Command) → AreServing input before given call pump.old store.old histories.old
+        → HasReplied input before given text.items pump.new store.new histories.new) }
+    ensures end { IfErr result (λ end. (input : Option (List ℕ)) (before : ℕ) (given : List Command) → AreServing input before given call pump.old store.old histories.old
+        → HasStopped input before given end pump.new histories.new) }
+    ensures some { IfOk result (λ text. 0 < length text.items) }
+    ensures shards { length histories.new ≡ length histories.old }
 {
-    let mut table = Table::new(alloc);
-    let mut progress = Progress {
-        history,
-        replies: 0,
-        failed: false,
-        end: End::Clean,
+    let command = match pump.next() {
+        Ok(command) => command,
+        Err(end) => return Err(end),
     };
-    for (i, command) in commands.iter().enumerate() {
-        let Ok(text) = answer(alloc, &mut table, command) else {
-            progress.end = End::Memory;
-            return progress;
-        };
-        let entry = Entry {
-            session: 0,
-            call: i as u32,
-            part: 0,
-        };
-        let _ = progress.history.push(entry);
-        progress.failed = send(wire, progress.failed, text.as_slice());
-        progress.replies += 1;
+    let Ok(text) = execute(alloc, store, &command) else {
+        return Err(End::Memory);
+    };
+    if let Err(Memory) = histories.enter(call, &command) {
+        return Err(End::Memory);
     }
-    progress
+    Ok(text)
+}
+
+/// Runs the commands of a source in order and puts their replies, to its end or until memory is wanting. After a
+/// failed put nothing more is put, and all commands are still run.
+pub fn serve<S: Source>(
+    alloc: Global,
+    source: S,
+    store: Store,
+    histories: Histories,
+    wire: &mut dyn Wire,
+) -> Served<S>
+    requires store { Holds store finite.empty }
+    requires histories { IsSharded [] histories }
+    ensures ran { HasRun (S.left source) result.end result.histories (sent wire.old) (sent wire.new) }
+    ensures reads { EndFaults result.end.end (S.read_faults source) (S.read_faults result.source) }
+    ensures puts { FaultIs result.end.failed (put_faults wire.old) (put_faults wire.new) }
+    ensures in_order { result.end.end ≢ End.Left }
+    ensures shards { length result.histories ≡ length histories }
+{
+    let mut pump = Pump::new(alloc, source);
+    let mut store = store;
+    let mut histories = histories;
+    let mut replies = 0;
+    let mut failed = false;
+    let end = loop {
+        match step(alloc, &mut pump, &mut store, &mut histories, replies) {
+            Ok(text) => {
+                failed = send(wire, failed, text.as_slice());
+                replies += 1;
+            }
+            Err(end) => break end,
+        }
+    };
+    let end = SessionEnd {
+        end,
+        taken: pump.taken(),
+        replies,
+        failed,
+    };
+    Served {
+        end,
+        histories,
+        source: pump.into_source(),
+    }
 }

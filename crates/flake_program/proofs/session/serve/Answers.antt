@@ -1,31 +1,52 @@
-use Rattle.std.proofs.Common.{◌<◌, ◌∙◌, refl, length, arith, sym, subst}
-use Rattle.flake_program.specs.Table.{Agrees}
-use Rattle.flake_program.proofs.Bytes.{agrees-empty}
-use Rattle.flake_program.proofs.Sessions.{store_at, store_more, history_more, sent_more, cause_more, grew_nothing}
+use Rattle.std.proofs.Common.{rules, ◌≡◌, ◌+◌, ◌++◌, ◌∷◌, [], arith, refl, sym, ap, ◌∙◌, subst, length}
+use Rattle.flake_program.specs.Pump.{EndFaults}
+use Rattle.flake_program.proofs.Pumped.{bounded}
+use Rattle.flake_program.proofs.Sessions.{serving_more, sent_more, cause_more, sent_so, grew_nothing}
 use Rattle.flake_program.proofs.session.serve.Goals as goal
 
-pub loop-i-init : goal.loop-i-init
-loop-i-init g c = record {
-  replies = refl;
-  end = refl;
-  room = omega (arith, c.requires.room);
-  history = c.requires.history;
-  table = agrees-empty c.new-table.result.entries c.new-table.ensures.empty;
-  sent = grew_nothing _;
-  cause = refl;
+pub loop-text-init : goal.loop-text-init
+loop-text-init g c = record {
+  serving = ([], record { pump_is = c.new-pump.ensures; count = refl; store_is = c.requires.store; sharded = c.requires.histories }, grew_nothing _);
+  puts = refl;
+  shards = refl;
 }
 
-pub loop-i-preserved : goal.loop-i-preserved
-loop-i-preserved g c =
-    let below : c.loop-i.i < length c.args.commands.now = grind arith in
+pub overflow_add-replies : goal.overflow_add-replies
+overflow_add-replies g c =
+    let s = c.loop-text.invariant.serving in
+    let r = c.in-Ok.ensures.reply _ _ s.0 s.1 in
+    omega (arith, s.1.count, r.serving.count, bounded _ _ (s.0 ++ r.command ∷ []) c.step.new.pump r.serving.pump_is)
+
+pub loop-text-smaller : goal.loop-text-smaller
+loop-text-smaller g c =
+    let s = c.loop-text.invariant.serving in
+    let r = c.in-Ok.ensures.reply _ _ s.0 s.1 in
+    omega (arith, s.1.count, r.serving.count, bounded _ _ (s.0 ++ r.command ∷ []) c.step.new.pump r.serving.pump_is)
+
+pub loop-text-preserved : goal.loop-text-preserved
+loop-text-preserved g c =
+    let s = c.loop-text.invariant.serving in
+    let r = c.in-Ok.ensures.reply _ _ s.0 s.1 in
     record {
-      replies = grind arith;
-      end = c.loop-i.invariant.end;
-      room = omega (arith, c.loop-i.invariant.room, c.push.ensures.spare);
-      history = history_more c.args.commands.now c.loop-i.i c.loop-i.progress.history.items c.push.new.self.items below c.loop-i.invariant.history (grind (arith, c.push.ensures.ok, c.push.ensures.sure));
-      table = subst (Agrees c.answer.new.table.entries) (sym (store_more c.args.commands.now c.loop-i.i _ below)) (c.in-Ok.ensures.table (store_at c.loop-i.i c.args.commands.now) c.loop-i.invariant.table);
-      sent = sent_more c.args.commands.now c.loop-i.i _ c.loop-i.progress.failed c.send.result c.as_slice.result.now _ _ _ below
-          (c.as_slice.ensures ∙ c.in-Ok.ensures.text (store_at c.loop-i.i c.args.commands.now) c.loop-i.invariant.table) c.loop-i.invariant.sent
-          (λ e. let before = c.send.ensures.before e in (before.0, before.1)) c.send.ensures.whole c.send.ensures.front;
-      cause = cause_more c.loop-i.progress.failed c.send.result _ _ _ c.loop-i.invariant.cause (λ e. let before = c.send.ensures.before e in (before.0, before.2)) c.send.ensures.cause;
+      serving = (
+        s.0 ++ r.command ∷ [],
+        serving_more _ _ s.0 c.loop-text.replies c.in-Ok.text.items c.step.new.pump c.step.new.store c.step.new.histories s.1.count r,
+        sent_more s.0 r.command c.loop-text.failed c.send-failed.result c.as_slice.result.now _ _ _ (c.as_slice.ensures ∙ r.text_is) s.2
+            (λ e. let before = c.send-failed.ensures.before e in (before.0, before.1)) c.send-failed.ensures.whole c.send-failed.ensures.front,
+      );
+      puts = cause_more c.loop-text.failed c.send-failed.result _ _ _ c.loop-text.invariant.puts (λ e. let before = c.send-failed.ensures.before e in (before.0, before.2)) c.send-failed.ensures.cause;
+      shards = c.step.ensures.shards ∙ c.loop-text.invariant.shards;
     }
+
+pub returns-clause-ran : goal.returns-clause-ran
+returns-clause-ran g c =
+    let s = c.loop-text.invariant.serving in
+    sent_so _ _ s.0 c.in-Err.end c.step.new.pump c.step.new.histories c.loop-text.replies c.taken.result c.loop-text.failed _ _ s.1.count c.taken.ensures (c.in-Err.ensures.end _ _ s.0 s.1) s.2
+
+pub returns-clause-reads : goal.returns-clause-reads
+returns-clause-reads g c =
+    let s = c.loop-text.invariant.serving in
+    subst (λ n. EndFaults c.in-Err.end (g.S.Source.read_faults c.args.source) n) (sym c.into_source.ensures.faults) (c.in-Err.ensures.end _ _ s.0 s.1).faults_are
+
+pub returns-clause-in_order : goal.returns-clause-in_order
+returns-clause-in_order g c = let s = c.loop-text.invariant.serving in (c.in-Err.ensures.end _ _ s.0 s.1).in_order

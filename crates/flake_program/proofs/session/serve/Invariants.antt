@@ -1,20 +1,18 @@
-use Rattle.std.proofs.Common.{◌≡◌, ◌+◌, ◌≤◌, length, take}
+use Rattle.std.proofs.Common.{◌≡◌, ◌+◌, ◌-◌, List, length}
 use Rattle.flake_base.specs.Growth.{Grew}
-use Rattle.flake_base.specs.declared.session.End.TheVariants.{Clean}
-use Rattle.flake_model.specs.OneThread.{history_from}
+use Rattle.flake_model.specs.Command.{Command}
+use Rattle.flake_model.specs.Resp.{judged_bytes}
 use Rattle.flake_model.specs.Wire.{FaultIs}
-use Rattle.flake_program.specs.Table.{Agrees}
-use Rattle.flake_program.specs.Session.{meanings, first_texts}
-use Rattle.flake_program.proofs.Sessions.{store_at}
+use Rattle.flake_program.specs.Session.{texts_to, AreServing}
 use Rattle.flake_program.proofs.session.serve.Given as goal
 
-abbrev pub invariant-loop-i : goal.invariant-loop-i
-invariant-loop-i g l = record {
-  replies : l.progress.replies ≡ l.i;
-  end : l.progress.end ≡ Clean;
-  room : length l.commands ≤ l.progress.history.spare + l.i;
-  history : l.progress.history.items ≡ history_from 0 (take l.i (meanings l.commands));
-  table : Agrees l.table.entries (store_at l.i l.commands);
-  sent : Grew l.progress.failed (first_texts l.i (meanings l.commands)) ((goal.Wire-dyn g l.fn.wire.now).sent l.fn.wire.now.1) ((goal.Wire-dyn g l.wire.now).sent l.wire.now.1);
-  cause : FaultIs l.progress.failed ((goal.Wire-dyn g l.fn.wire.now).put_faults l.fn.wire.now.1) ((goal.Wire-dyn g l.wire.now).put_faults l.wire.now.1);
+abbrev pub invariant-loop-text : goal.invariant-loop-text
+invariant-loop-text g l = record {
+  serving : (given : List Command) × AreServing (g.S.Source.left l.fn.source) (g.S.Source.read_faults l.fn.source) given l.replies l.pump l.store l.histories
+      × Grew l.failed (texts_to given) ((goal.Wire-dyn g l.fn.wire.now).sent l.fn.wire.now.1) ((goal.Wire-dyn g l.wire.now).sent l.wire.now.1);
+  puts : FaultIs l.failed ((goal.Wire-dyn g l.fn.wire.now).put_faults l.fn.wire.now.1) ((goal.Wire-dyn g l.wire.now).put_faults l.wire.now.1);
+  shards : length l.histories ≡ length l.fn.histories;
 }
+
+abbrev pub decreases-loop-text : goal.decreases-loop-text
+decreases-loop-text g l = judged_bytes + 2 - l.replies
