@@ -42,7 +42,7 @@ first_failed (old ∷ olds) (new ∷ news) faults = faults.0
 none_failed : (olds news : List ℕ) → FaultsAre (false ∷ []) olds news → news ≡ olds
 none_failed [] news faults = absurd faults
 none_failed (old ∷ olds) [] faults = absurd faults
-none_failed (old ∷ olds) (new ∷ news) faults = cc faults
+none_failed (old ∷ olds) (new ∷ news) faults = cc (faults.0, faults.1)
 
 pub write_fault_of : (ends : List SessionEnd) (end : SessionEnd) (olds news : List ℕ) (before mid now : ℕ) → ends ≡ end ∷ [] → mid ≡ before → FaultsAre (end.failed ∷ []) olds news
     → (status_by end.end ≢ 6) × ((end.failed ≡ true) ⊎ Rose mid now) → All (λ (end : SessionEnd). status_by end.end ≢ 6) ends × (Rose before now ⊎ Rose (slice_index olds 0) (slice_index news 0))

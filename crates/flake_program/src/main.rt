@@ -13,6 +13,8 @@ mod store;
 mod summary;
 mod table;
 mod tell;
+#[cfg(test)]
+mod tests;
 mod words;
 
 use crate::files::{FileHost, FileWire};

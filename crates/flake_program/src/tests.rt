@@ -1,0 +1,459 @@
+use crate::outcome::Detail;
+use crate::run::run;
+use flake_base::{Bytes, Fails, Files, Journal, MemoryHost, MemoryWire, Wire};
+use std::alloc::Global;
+use std::process::Abort;
+use std::test::Fail;
+
+/// A SET and a GET of one key.
+const PAIR: &[u8] = b"*3\r\n$3\r\nSET\r\n$1\r\na\r\n$1\r\n1\r\n*2\r\n$3\r\nGET\r\n$1\r\na\r\n";
+
+/// A part that was run: its shard, its call and its number.
+type Part = (u16, u32, u16);
+
+/// A run over memory, and what it must do.
+#[derive(Clone, Copy)]
+struct Row {
+    words: &'static [&'static str],
+    input: &'static [u8],
+    step: usize,
+    read_fails: Option<u64>,
+    put_fails: Option<u64>,
+    host_fails: Option<u64>,
+    status: u8,
+    detail: Detail,
+    said: &'static str,
+    sent: &'static [u8],
+    /// The parts of the journal, by shard and in the order of its history; none where nothing was served.
+    parts: Option<&'static [Part]>,
+}
+
+/// The file `in.resp` is served, and nothing fails.
+const SERVED: Row = Row {
+    words: &["serve", "in.resp"],
+    input: PAIR,
+    step: 4096,
+    read_fails: None,
+    put_fails: None,
+    host_fails: None,
+    status: 0,
+    detail: Detail::Nothing,
+    said: "session 0 clean taken 47 replies 2 wire whole\n",
+    sent: b"+OK\r\n$1\r\n1\r\n",
+    parts: Some(&[(4, 0, 0), (4, 1, 0)]),
+};
+
+const BAD_WORDS: Row = Row {
+    status: 1,
+    said: "bad words\n",
+    sent: b"",
+    parts: None,
+    ..SERVED
+};
+
+const CANNOT_OPEN: Row = Row {
+    status: 2,
+    detail: Detail::File(0),
+    said: "cannot open 0\n",
+    sent: b"",
+    parts: None,
+    ..SERVED
+};
+
+fn fails(alloc: Global, number: Option<u64>) -> Result<Fails, Fail> {
+    let mut fails = Fails::with_room(alloc, 1)?;
+    if let Some(number) = number {
+        fails.push(number)?;
+    }
+    Ok(fails)
+}
+
+fn memory_host(alloc: Global, row: &Row, input: Bytes) -> Result<MemoryHost, Fail> {
+    let mut files = Files::with_room(alloc, 1)?;
+    files.push((String::from_str(alloc, "in.resp")?, input))?;
+    let mut host = MemoryHost::new(alloc, files, 4096, fails(alloc, row.host_fails)?)?;
+    host.set_reads(0, row.step.max(1), fails(alloc, row.read_fails)?);
+    Ok(host)
+}
+
+// The journal has these parts, and no others.
+fn expect_journal(rt: &impl Abort, journal: &Journal, parts: Option<&[Part]>) {
+    let Some(parts) = parts else {
+        assert_eq!(rt; journal.len(), 0);
+        return;
+    };
+    assert_eq!(rt; journal.len(), 8);
+    let mut place = 0;
+    for (shard, history) in journal.as_slice().iter().enumerate() {
+        for entry in history.as_slice() {
+            assert!(rt; place < parts.len());
+            assert_eq!(rt; entry.session, 0);
+            assert_eq!(rt; (shard as u16, entry.call, entry.part), parts[place]);
+            place += 1;
+        }
+    }
+    assert_eq!(rt; place, parts.len());
+}
+
+// Serves an input in place of the row's own.
+fn check_input(rt: &impl Abort, alloc: Global, row: &Row, input: Bytes) -> Result<(), Fail> {
+    let mut host = memory_host(alloc, row, input)?;
+    let mut words = Vec::new(alloc);
+    for word in row.words {
+        words.push(String::from_str(alloc, word)?)?;
+    }
+    let mut wires: Vec<Box<dyn Wire>> = Vec::with_capacity(alloc, 1)?;
+    let wire = MemoryWire::new(alloc, 65_536, fails(alloc, row.put_fails)?)?;
+    wires.push(Box::new(alloc, wire)?)?;
+    let outcome = run(rt, alloc, words.as_slice(), &mut host, wires);
+    assert_eq!(rt; outcome.status, row.status);
+    assert_eq!(rt; outcome.detail, row.detail);
+    assert_eq!(rt; host.said(), row.said.as_bytes());
+    assert_eq!(rt; outcome.wires.len(), 1);
+    for wire in &outcome.wires {
+        assert_eq!(rt; wire.shown(), Some(row.sent));
+    }
+    assert_eq!(rt; outcome.ends.is_empty(), row.parts.is_none());
+    expect_journal(rt, &outcome.journal, row.parts);
+    Ok(())
+}
+
+fn check(rt: &impl Abort, alloc: Global, row: &Row) -> Result<(), Fail> {
+    check_input(rt, alloc, row, Bytes::from_slice(alloc, row.input)?)
+}
+
+fn check_all(rt: &impl Abort, alloc: Global, rows: &[Row]) -> Result<(), Fail> {
+    for row in rows {
+        check(rt, alloc, row)?;
+    }
+    Ok(())
+}
+
+#[test]
+fn a_set_and_a_get(rt: HostRuntime) -> Result<(), Fail> {
+    for step in [1, 2, 26, 27, 28, 46, 47, 48] {
+        check(&rt, rt.alloc(), &Row { step, ..SERVED })?;
+    }
+    Ok(())
+}
+
+// What each command answers, and where its parts stand.
+#[test]
+fn commands(rt: HostRuntime) -> Result<(), Fail> {
+    let rows = [
+        Row {
+            input: b"",
+            said: "session 0 clean taken 0 replies 0 wire whole\n",
+            sent: b"",
+            parts: Some(&[]),
+            ..SERVED
+        },
+        // SET e "", GET e, GET x
+        Row {
+            input: b"*3\r\n$3\r\nSET\r\n$1\r\ne\r\n$0\r\n\r\n*2\r\n$3\r\nGET\r\n$1\r\ne\r\n*2\r\n$3\r\nGET\r\n$1\r\nx\r\n",
+            said: "session 0 clean taken 66 replies 3 wire whole\n",
+            sent: b"+OK\r\n$0\r\n\r\n$-1\r\n",
+            parts: Some(&[(0, 0, 0), (0, 1, 0), (7, 2, 0)]),
+            ..SERVED
+        },
+        // SET a 1, DEL a a, SET b 1, EXISTS b b
+        Row {
+            input: b"*3\r\n$3\r\nSET\r\n$1\r\na\r\n$1\r\n1\r\n*3\r\n$3\r\nDEL\r\n$1\r\na\r\n$1\r\na\r\n*3\r\n$3\r\nSET\r\n$1\r\nb\r\n$1\r\n1\r\n*3\r\n$6\r\nEXISTS\r\n$1\r\nb\r\n$1\r\nb\r\n",
+            said: "session 0 clean taken 111 replies 4 wire whole\n",
+            sent: b"+OK\r\n:1\r\n+OK\r\n:2\r\n",
+            parts: Some(&[(4, 0, 0), (4, 1, 0), (4, 1, 1), (5, 2, 0), (5, 3, 0), (5, 3, 1)]),
+            ..SERVED
+        },
+        // APPEND k ab, append k cd, GET k
+        Row {
+            input: b"*3\r\n$6\r\nAPPEND\r\n$1\r\nk\r\n$2\r\nab\r\n*3\r\n$6\r\nappend\r\n$1\r\nk\r\n$2\r\ncd\r\n*2\r\n$3\r\nGET\r\n$1\r\nk\r\n",
+            said: "session 0 clean taken 82 replies 3 wire whole\n",
+            sent: b":2\r\n:4\r\n$4\r\nabcd\r\n",
+            parts: Some(&[(2, 0, 0), (2, 1, 0), (2, 2, 0)]),
+            ..SERVED
+        },
+        // SET a 1, mGet a x a, EXISTS a x a, DEL x a, GET a
+        Row {
+            input: b"*3\r\n$3\r\nSET\r\n$1\r\na\r\n$1\r\n1\r\n*4\r\n$4\r\nmGet\r\n$1\r\na\r\n$1\r\nx\r\n$1\r\na\r\n*4\r\n$6\r\nEXISTS\r\n$1\r\na\r\n$1\r\nx\r\n$1\r\na\r\n*3\r\n$3\r\nDEL\r\n$1\r\nx\r\n$1\r\na\r\n*2\r\n$3\r\nGET\r\n$1\r\na\r\n",
+            said: "session 0 clean taken 146 replies 5 wire whole\n",
+            sent: b"+OK\r\n*3\r\n$1\r\n1\r\n$-1\r\n$1\r\n1\r\n:2\r\n:1\r\n$-1\r\n",
+            parts: Some(&[(4, 0, 0), (4, 1, 0), (4, 1, 2), (4, 2, 0), (4, 2, 2), (4, 3, 1), (4, 4, 0), (7, 1, 1), (7, 2, 1), (7, 3, 0)]),
+            ..SERVED
+        },
+        // get a, FLY, SET a, SET a b EX 9, PING, PING hi
+        Row {
+            input: b"*2\r\n$3\r\nget\r\n$1\r\na\r\n*1\r\n$3\r\nFLY\r\n*2\r\n$3\r\nSET\r\n$1\r\na\r\n*5\r\n$3\r\nSET\r\n$1\r\na\r\n$1\r\nb\r\n$2\r\nEX\r\n$1\r\n9\r\n*1\r\n$4\r\nPING\r\n*2\r\n$4\r\nPING\r\n$2\r\nhi\r\n",
+            said: "session 0 clean taken 131 replies 6 wire whole\n",
+            sent: b"$-1\r\n-ERR unknown command\r\n-ERR wrong number of arguments\r\n-ERR syntax error\r\n+PONG\r\n$2\r\nhi\r\n",
+            parts: Some(&[(4, 0, 0)]),
+            ..SERVED
+        },
+        // the empty and the null array are skipped
+        Row {
+            input: b"*0\r\n*-1\r\n*1\r\n$4\r\nPING\r\n",
+            said: "session 0 clean taken 23 replies 1 wire whole\n",
+            sent: b"+PONG\r\n",
+            parts: Some(&[]),
+            ..SERVED
+        },
+    ];
+    check_all(&rt, rt.alloc(), &rows)
+}
+
+// Inputs that aren't whole requests: what came before is served.
+#[test]
+fn bad_inputs(rt: HostRuntime) -> Result<(), Fail> {
+    let bad = Row {
+        status: 3,
+        parts: Some(&[]),
+        ..SERVED
+    };
+    let rows = [
+        Row {
+            input: b"*1\r\n$4\r\nPING\r\n*2\r\n$3\r\nGE",
+            said: "session 0 truncated at 14 taken 24 replies 1 wire whole\n",
+            sent: b"+PONG\r\n",
+            ..bad
+        },
+        Row {
+            input: b"*1\r\n$01\r\n",
+            said: "session 0 protocol 3 at 6 taken 7 replies 1 wire whole\n",
+            sent: b"-ERR Protocol error: invalid bulk length\r\n",
+            ..bad
+        },
+        Row {
+            input: b"*1025\r\n",
+            said: "session 0 protocol 1 at 4 taken 5 replies 1 wire whole\n",
+            sent: b"-ERR Protocol error: invalid multibulk length\r\n",
+            ..bad
+        },
+        Row {
+            input: b"*1\r\n+OK\r\n",
+            said: "session 0 protocol 2 at 4 taken 5 replies 1 wire whole\n",
+            sent: b"-ERR Protocol error: expected '$'\r\n",
+            ..bad
+        },
+        Row {
+            input: b"PING\r\n",
+            said: "session 0 protocol 4 at 0 taken 1 replies 1 wire whole\n",
+            sent: b"-ERR Protocol error: inline commands are not supported\r\n",
+            ..bad
+        },
+        Row {
+            input: b"*1\r\n$4\r\nPING\r\n*1\r\n$4\r\nPINGX",
+            said: "session 0 protocol 3 at 26 taken 27 replies 2 wire whole\n",
+            sent: b"+PONG\r\n-ERR Protocol error: invalid bulk length\r\n",
+            ..bad
+        },
+    ];
+    for step in [1, 5, 4096] {
+        for row in &rows {
+            check(&rt, rt.alloc(), &Row { step, ..*row })?;
+        }
+    }
+    Ok(())
+}
+
+// Put 1 keeps the first half of its seven bytes. The open has number 0 and the say number 1. Of the statuses 3, 4
+// and 5 the highest is answered.
+#[test]
+fn faults(rt: HostRuntime) -> Result<(), Fail> {
+    let rows = [
+        Row {
+            put_fails: Some(1),
+            status: 5,
+            said: "session 0 clean taken 47 replies 2 wire failed\n",
+            sent: b"+OK\r\n$1\r",
+            ..SERVED
+        },
+        Row {
+            host_fails: Some(1),
+            status: 5,
+            said: "session 0 clean taken 4",
+            ..SERVED
+        },
+        Row {
+            step: 27,
+            read_fails: Some(1),
+            status: 4,
+            said: "session 0 readfault taken 27 replies 1 wire whole\n",
+            sent: b"+OK\r\n",
+            parts: Some(&[(4, 0, 0)]),
+            ..SERVED
+        },
+        Row {
+            read_fails: Some(0),
+            status: 4,
+            said: "session 0 readfault taken 0 replies 0 wire whole\n",
+            sent: b"",
+            parts: Some(&[]),
+            ..SERVED
+        },
+        Row {
+            step: 27,
+            read_fails: Some(1),
+            put_fails: Some(0),
+            status: 5,
+            said: "session 0 readfault taken 27 replies 1 wire failed\n",
+            sent: b"+O",
+            parts: Some(&[(4, 0, 0)]),
+            ..SERVED
+        },
+        Row {
+            input: b"PING\r\n",
+            put_fails: Some(0),
+            status: 5,
+            said: "session 0 protocol 4 at 0 taken 1 replies 1 wire failed\n",
+            sent: b"-ERR Protocol error: inline ",
+            parts: Some(&[]),
+            ..SERVED
+        },
+    ];
+    check_all(&rt, rt.alloc(), &rows)
+}
+
+#[test]
+fn files_that_do_not_open(rt: HostRuntime) -> Result<(), Fail> {
+    let rows = [
+        Row {
+            words: &["serve", "missing"],
+            ..CANNOT_OPEN
+        },
+        Row {
+            host_fails: Some(0),
+            ..CANNOT_OPEN
+        },
+    ];
+    check_all(&rt, rt.alloc(), &rows)
+}
+
+#[test]
+fn bad_words(rt: HostRuntime) -> Result<(), Fail> {
+    let table: [&[&str]; 6] = [
+        &[],
+        &["serve"],
+        &["FLY"],
+        &["FLY", "in.resp"],
+        &["Serve", "in.resp"],
+        &["serve", "in.resp", "in.resp"],
+    ];
+    for words in table {
+        check(&rt, rt.alloc(), &Row { words, ..BAD_WORDS })?;
+    }
+    Ok(())
+}
+
+#[test]
+fn no_wire(rt: HostRuntime) -> Result<(), Fail> {
+    let alloc = rt.alloc();
+    let mut host = memory_host(alloc, &SERVED, Bytes::from_slice(alloc, PAIR)?)?;
+    let words = vec![in alloc;
+        String::from_str(alloc, "serve")?,
+        String::from_str(alloc, "in.resp")?,
+    ]?;
+    let outcome = run(&rt, alloc, words.as_slice(), &mut host, Vec::new(alloc));
+    assert_eq!(rt; outcome.status, 1);
+    assert_eq!(rt; host.said(), b"bad words\n".as_slice());
+    Ok(())
+}
+
+// Adds a word of so many bytes.
+fn add_word(input: &mut Bytes, head: &[u8], byte: u8, count: usize) -> Result<(), Fail> {
+    input.append(head)?;
+    for _ in 0..count {
+        input.push(byte)?;
+    }
+    input.append(b"\r\n")?;
+    Ok(())
+}
+
+const PING: &[u8] = b"*1\r\n$4\r\nPING\r\n";
+
+// What is too large is refused by its text, and the next request is served.
+#[test]
+fn limits(rt: HostRuntime) -> Result<(), Fail> {
+    let alloc = rt.alloc();
+    let mut many = Bytes::from_slice(alloc, b"*66\r\n$4\r\nMGET\r\n")?;
+    for _ in 0..65 {
+        many.append(b"$1\r\nk\r\n")?;
+    }
+    many.append(PING)?;
+    let too_many = Row {
+        said: "session 0 clean taken 484 replies 2 wire whole\n",
+        sent: b"-ERR too many keys\r\n+PONG\r\n",
+        parts: Some(&[]),
+        ..SERVED
+    };
+    check_input(&rt, alloc, &too_many, many)?;
+    let mut key = Bytes::from_slice(alloc, b"*2\r\n$3\r\nGET\r\n")?;
+    add_word(&mut key, b"$513\r\n", b'k', 513)?;
+    key.append(PING)?;
+    let long_key = Row {
+        said: "session 0 clean taken 548 replies 2 wire whole\n",
+        sent: b"-ERR key too long\r\n+PONG\r\n",
+        parts: Some(&[]),
+        ..SERVED
+    };
+    check_input(&rt, alloc, &long_key, key)?;
+    let mut value = Bytes::from_slice(alloc, b"*3\r\n$3\r\nSET\r\n$1\r\nk\r\n")?;
+    add_word(&mut value, b"$16385\r\n", b'v', 16_385)?;
+    value.append(PING)?;
+    let long_value = Row {
+        said: "session 0 clean taken 16429 replies 2 wire whole\n",
+        sent: b"-ERR value too long\r\n+PONG\r\n",
+        parts: Some(&[]),
+        ..SERVED
+    };
+    check_input(&rt, alloc, &long_value, value)
+}
+
+// A value as long as may be, and a byte more: both calls have their entry.
+#[test]
+fn the_longest_value(rt: HostRuntime) -> Result<(), Fail> {
+    let alloc = rt.alloc();
+    let mut input = Bytes::from_slice(alloc, b"*3\r\n$3\r\nSET\r\n$1\r\nk\r\n")?;
+    add_word(&mut input, b"$16384\r\n", b'A', 16_384)?;
+    input.append(b"*3\r\n$6\r\nAPPEND\r\n$1\r\nk\r\n$1\r\nB\r\n")?;
+    let row = Row {
+        said: "session 0 clean taken 16444 replies 2 wire whole\n",
+        sent: b"+OK\r\n-ERR value too long\r\n",
+        parts: Some(&[(2, 0, 0), (2, 1, 0)]),
+        ..SERVED
+    };
+    check_input(&rt, alloc, &row, input)
+}
+
+// 64 PINGs with an argument of 1,048,576 bytes have 67,110,528 bytes, of which 67,108,864 are judged.
+#[test]
+fn an_input_that_is_too_long(rt: HostRuntime) -> Result<(), Fail> {
+    let alloc = rt.alloc();
+    let mut ping = Bytes::from_slice(alloc, b"*2\r\n$4\r\nPING\r\n")?;
+    add_word(&mut ping, b"$1048576\r\n", b'x', 1_048_576)?;
+    let mut input = Bytes::with_room(alloc, 67_110_528)?;
+    for _ in 0..64 {
+        input.append(ping.as_slice())?;
+    }
+    assert_eq!(rt; input.len(), 67_110_528);
+    let mut sent = Bytes::new(alloc);
+    for _ in 0..63 {
+        sent.append(b"-ERR value too long\r\n")?;
+    }
+    let mut host = memory_host(alloc, &SERVED, input)?;
+    let words = vec![in alloc;
+        String::from_str(alloc, "serve")?,
+        String::from_str(alloc, "in.resp")?,
+    ]?;
+    let mut wires: Vec<Box<dyn Wire>> = Vec::with_capacity(alloc, 1)?;
+    let wire = MemoryWire::new(alloc, 4096, Fails::new(alloc))?;
+    wires.push(Box::new(alloc, wire)?)?;
+    let outcome = run(&rt, alloc, words.as_slice(), &mut host, wires);
+    assert_eq!(rt; outcome.status, 3);
+    assert_eq!(rt;
+        host.said(),
+        b"session 0 toolong taken 67108864 replies 63 wire whole\n".as_slice()
+    );
+    for wire in &outcome.wires {
+        assert_eq!(rt; wire.shown(), Some(sent.as_slice()));
+    }
+    Ok(())
+}
