@@ -4,6 +4,8 @@
 mod command;
 mod name;
 mod op;
+#[cfg(test)]
+mod tests;
 mod verdict;
 
 pub use command::Command;
