@@ -2,7 +2,7 @@ use crate::{Command, Op};
 use flake_base::ErrorKind;
 use resp_reader::{Reader, Request};
 use shard_store::PartOp;
-use std::alloc::Global;
+use std::alloc::{AllocError, Global};
 use std::process::Abort;
 use std::test::Fail;
 
@@ -222,6 +222,22 @@ fn limits(rt: HostRuntime) -> Result<(), Fail> {
     Ok(())
 }
 
+// A name with so many keys, of which the first may be long.
+fn words<'a>(
+    alloc: Global,
+    name: &'a [u8],
+    first: &'a [u8],
+    keys: usize,
+) -> Result<Vec<&'a [u8]>, AllocError> {
+    let mut words = Vec::new(alloc);
+    words.push(name)?;
+    words.push(first)?;
+    for _ in 1..keys {
+        words.push(b"k")?;
+    }
+    Ok(words)
+}
+
 #[test]
 fn many_keys(rt: HostRuntime) -> Result<(), Fail> {
     let table: [(&[u8], Op, PartOp); 3] = [
@@ -229,19 +245,17 @@ fn many_keys(rt: HostRuntime) -> Result<(), Fail> {
         (b"DEL", Op::Del, PartOp::Del),
         (b"EXISTS", Op::Exists, PartOp::Exists),
     ];
-    let long_key = [b'k'; 513];
+    let (alloc, long) = (rt.alloc(), &[b'k'; 513]);
+    let too_many = fault(ErrorKind::TooManyKeys);
     for (name, op, part) in table {
-        let mut words: [&[u8]; 66] = [b"k"; 66];
-        words[0] = name;
-        words[64] = b"last";
-        let answers = on_keys(op, part, &words[1..65], b"");
-        check(&rt, rt.alloc(), &words[..65], answers)?;
-        let too_many = fault(ErrorKind::TooManyKeys);
-        check(&rt, rt.alloc(), &words, too_many)?;
-        words[1] = &long_key;
-        check(&rt, rt.alloc(), &words, too_many)?;
+        let keys = words(alloc, name, b"", 64)?;
+        assert_eq!(rt; keys.len(), 65);
+        let answers = on_keys(op, part, &keys[1..], b"");
+        check(&rt, alloc, &keys, answers)?;
+        check(&rt, alloc, &words(alloc, name, b"", 65)?, too_many)?;
+        check(&rt, alloc, &words(alloc, name, long, 65)?, too_many)?;
         let too_long = fault(ErrorKind::KeyTooLong);
-        check(&rt, rt.alloc(), &words[..65], too_long)?;
+        check(&rt, alloc, &words(alloc, name, long, 64)?, too_long)?;
     }
     Ok(())
 }

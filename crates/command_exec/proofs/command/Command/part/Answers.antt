@@ -3,8 +3,8 @@ use Rattle.command_exec.proofs.Parts.{part_op, part_value, part_is}
 use Rattle.command_exec.proofs.command.Command.part.Goals as goal
 use Rattle.command_exec.proofs.command.Command.part.Goals.{in-Get, in-Set, in-Append, in-Del, in-Exists}
 
-pub returns : goal.returns
-returns c =
+pub returns-clause-operation : goal.returns-clause-operation
+returns-clause-operation c =
     let known = part_is c.args.self.now c.self.inside.op c.self.inside.request c.in-Some.request c.args.j (record { op = c.match-self-2.op.0; key = c.word-key.result; value = c.match-self-2.op.1 }) c.self.view_is c.in-Some.is c.requires in
     elim c.match-self-2.branch [
       | in-Get w ↦ elim w.in-Get.is [
