@@ -4,7 +4,7 @@ ghost use Rattle.shard_store.specs.Parts.{operation_of};
 ghost use Rattle.command_exec.specs.Meaning.{op_of, argument_of};
 
 use crate::Op;
-use crate::verdict::op_asked;
+use crate::asked::op_asked;
 use flake_base::ErrorKind;
 use resp_reader::Request;
 use shard_store::{Part, PartOp};
