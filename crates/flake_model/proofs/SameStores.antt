@@ -53,7 +53,7 @@ module _ (shards shard : ℕ) where
   same_after a b (del key) same here = same_remove a b key same
   same_after a b (exists key) same here = same
 
-  -- an operation of another shard changes nothing there
+  -- keys of two shards are two
   apart : (key other : List ℕ) → (shard_of shards key ≡ shard → ⊥) → shard_of shards other ≡ shard → eq_by_cmp (slice_cmp nat_cmp) other key ≡ false
   apart key other elsewhere here = false_from_ne_true _ (λ is. elsewhere (ap (shard_of shards) (sym ((bytes_decides other key).0 (texts_ties other key ∙ is))) ∙ here))
 
@@ -65,6 +65,7 @@ module _ (shards shard : ℕ) where
   other_remove a b key same elsewhere other here =
       finite.get-remove nat_list_cmp_total a key other ∙ cond-false _ None (finite.get a other) (apart key other elsewhere here) ∙ same other here
 
+  -- an operation of another shard changes nothing there
   other_after : (a b : Store) (operation : Operation) → IsSameIn shards shard a b → (shard_of shards (key_of operation) ≡ shard → ⊥) → IsSameIn shards shard (after a operation) b
   other_after a b (get key) same elsewhere = same
   other_after a b (set key bytes) same elsewhere = other_insert a b key bytes same elsewhere
