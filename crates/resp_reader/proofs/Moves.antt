@@ -1,5 +1,5 @@
 -- How an element goes on, state by state.
-use Rattle.std.proofs.Common.{◌≡◌, ◌≢◌, ℕ, ◌+◌, ◌<◌, ◌≤◌, List, [], ◌∷◌, ◌++◌, length, replicate, arith, refl, ap, sym, ◌∙◌, subst, append_assoc, append-nil, length-append, lit<, lit≤}
+use Rattle.std.proofs.Common.{◌≡◌, ◌≢◌, ℕ, ◌+◌, ◌<◌, ◌≤◌, List, [], ◌∷◌, ◌++◌, length, replicate, arith, refl, ap, sym, ◌∙◌, subst, append_assoc, length-append, lit<, lit≤}
 use Rattle.std.specs.Prelude.{Result, Ok, Err, IfErr}
 use Rattle.std.specs.Fmt.{decimal}
 use Rattle.std.specs.Char.{digit_value}
@@ -16,14 +16,14 @@ use Rattle.flake_model.proofs.Faults.{faulty}
 use Rattle.resp_reader.specs.declared.head.Head.TheVariants.{Count, Length}
 use Rattle.resp_reader.specs.declared.head.Digits.{Digits}
 use Rattle.resp_reader.specs.declared.head.Digits.TheVariants.{Nothing, Number, Minus, MinusOne}
-use Rattle.resp_reader.specs.declared.begun.State.TheVariants.{Start, InCount, CountEnd, AtWord, InLength, LengthEnd, InWord, WordEnd, Null, Whole}
+use Rattle.resp_reader.specs.declared.begun.State.TheVariants.{Start, InCount, CountEnd, AtWord, InLength, LengthEnd, InWord, WordEnd}
 use Rattle.resp_reader.specs.declared.begun.Stop.{Stop}
 use Rattle.resp_reader.specs.declared.begun.Stop.TheVariants.{Fault, Memory as OutOfMemory}
 use Rattle.resp_reader.specs.declared.begun.State.{State}
 use Rattle.resp_reader.specs.declared.begun.Begun.{Begun}
 use Rattle.resp_reader.specs.Front.{texts}
 use Rattle.resp_reader.specs.Head.{digits_text, IsDigits, IsWhole, LineFault}
-use Rattle.resp_reader.specs.Begun.{state_front, IsState, Moves, Stops, IsArray, IsSound, Breaks}
+use Rattle.resp_reader.specs.Begun.{state_front, IsState, Stops, IsArray, IsSound, Breaks}
 use Rattle.resp_reader.proofs.Heads.{some_digits}
 
 -- a byte that isn't the one that is wanted

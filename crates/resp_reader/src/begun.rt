@@ -1,5 +1,5 @@
 // Elements in pieces of any length.
-ghost use Rattle.std.specs.Prelude.{◌≡◌, ◌≢◌, ◌<◌, ◌≤◌, ◌+◌, ◌++◌, ◌∷◌, [], List, ℕ, length, IfOk, IfErr, OnOk, Err};
+ghost use Rattle.std.specs.Prelude.{◌≡◌, ◌≢◌, ◌<◌, ◌≤◌, ◌+◌, ◌++◌, ◌∷◌, [], List, ℕ, length, IfOk, IfErr, IfSome, IfNone, OnOk, Err};
 ghost use Rattle.resp_reader.specs.Head.{IsDigits, IsWhole};
 ghost use Rattle.resp_reader.specs.Begun.{IsState, IsOpen, Moves, Stops, IsSound, front_of, Breaks, GrowsFrom, Grows};
 ghost use Rattle.flake_model.specs.Resp.{Words};
@@ -7,7 +7,6 @@ ghost use Rattle.resp_reader.specs.Front.{texts};
 ghost use Rattle.resp_reader.specs.declared.begun.Stop.TheVariants.{Memory as OutOfMemory};
 
 use crate::head::{Digits, Head, line};
-use crate::line::strip;
 use flake_base::{Bytes, Memory};
 use std::alloc::{AllocError, Global};
 use std::mem::replace;
@@ -78,6 +77,17 @@ pub struct Mark {
     pub words: usize,
     /// How many bytes of the next word.
     pub len: usize,
+}
+
+// The bytes behind the first one, if it is this one.
+fn strip(bytes: &[u8], first: u8) -> Option<&[u8]>
+    ensures some { IfSome result (λ rest. bytes.now ≡ first ∷ rest.now) }
+    ensures none { IfNone result ((rest : List ℕ) → bytes.now ≢ first ∷ rest) }
+{
+    match bytes.split_first() {
+        Some((byte, rest)) if *byte == first => Some(rest),
+        _ => None,
+    }
 }
 
 fn start(bytes: &[u8]) -> Result<(State, &[u8]), Stop>
