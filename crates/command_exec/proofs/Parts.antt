@@ -50,11 +50,11 @@ part_at Exists words j within = of_keys (λ key. operation_by part.Exists key []
 part_at Append words j within = of_key (λ key. operation_by part.Append key (second words)) words j within
 part_at (Fault kind) words j within = absurd (omega arith)
 
--- the part as the code has it
-pub part_is : (command : model.Command) (op : Op) (request : Option Request) (words : Words) (j : ℕ) (found : Part) → command_by op (words_of request) ≡ command → request ≡ Some words
-    → j < length (parts command) → found.op ≡ part_op op → found.key.now ≡ get_or words (j + 1) [] → found.value.now ≡ part_value op words
+-- the part as the code has it: its operation and value go by the command's kind
+pub part_is : (command : model.Command) (op code : Op) (request : Option Request) (words : Words) (j : ℕ) (found : Part) → command_by op (words_of request) ≡ command → request ≡ Some words
+    → j < length (parts command) → found.key.now ≡ get_or words (j + 1) [] → op ≡ code → found.op ≡ part_op code → found.value.now ≡ part_value code words
     → slice_get (parts command) j ≡ Some (operation_of found)
-part_is command op request words j found view asked within op_is key_is value_is =
-    let view : command_by op words ≡ command = ap (λ r. command_by op (words_of r)) (sym asked) ∙ view in
-    let within : j < length (parts (command_by op words)) = subst (λ c. j < length (parts c)) (sym view) within in
-    ap (λ c. slice_get (parts c) j) (sym view) ∙ part_at op words j within ∙ (rw (op_is, key_is, value_is) refl)
+part_is command op code request words j found view asked within key_is kind op_is value_is =
+    let made : command_by code words ≡ command = ap (λ r. command_by code (words_of r)) (sym asked) ∙ ap (λ o. command_by o (words_of request)) (sym kind) ∙ view in
+    let there : j < length (parts (command_by code words)) = subst (λ c. j < length (parts c)) (sym made) within in
+    ap (λ c. slice_get (parts c) j) (sym made) ∙ part_at code words j there ∙ (rw (op_is, key_is, value_is) refl)

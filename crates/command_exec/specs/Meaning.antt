@@ -1,5 +1,7 @@
 -- What a command of the code stands for.
-use Rattle.std.specs.Prelude.{ℕ, ◌≤◌, List, [], Option, Some, None, length}
+use Rattle.std.specs.Prelude.{◌≡◌, ℕ, ◌≤◌, nat_le, Bool, true, List, [], ◌∷◌, Option, Some, None, length}
+use Rattle.std.specs.List.{list_all}
+use Rattle.flake_model.specs.Store.{value_limit}
 use Rattle.flake_model.specs.Resp.{Words}
 use Rattle.flake_model.specs.Command as model
 use Rattle.flake_model.specs.Command.{arguments, first, second}
@@ -46,17 +48,22 @@ command_by Exists words = model.exists (arguments words)
 command_by Append words = model.append (first words) (second words)
 command_by (Fault kind) words = model.fault kind
 
--- so many words at least and at most; a fault may have any
+-- so many words at least and at most
 abbrev pub Between : ℕ → ℕ → Words → Type 0
 Between least most words = (least ≤ length words) × (length words ≤ most)
 
+-- each key has at most 512 bytes
+abbrev pub are_keys : List (List ℕ) → Bool
+are_keys keys = list_all (λ key. nat_le (length key) 512) keys
+
+-- what the tests leave: the number of words, and the lengths of keys, values and PING's argument; a fault may have any words
 abbrev pub FitsWords : Op → Words → Type 0
 FitsWords Ping words = Unit {0}
-FitsWords PingWith words = Between 2 2 words
-FitsWords Get words = Between 2 2 words
-FitsWords Set words = Between 3 3 words
-FitsWords MGet words = Between 2 65 words
-FitsWords Del words = Between 2 65 words
-FitsWords Exists words = Between 2 65 words
-FitsWords Append words = Between 3 3 words
+FitsWords PingWith words = Between 2 2 words × (length (first words) ≤ value_limit)
+FitsWords Get words = Between 2 2 words × (are_keys (first words ∷ []) ≡ true)
+FitsWords Set words = Between 3 3 words × (are_keys (first words ∷ []) ≡ true) × (length (second words) ≤ value_limit)
+FitsWords MGet words = Between 2 65 words × (are_keys (arguments words) ≡ true)
+FitsWords Del words = Between 2 65 words × (are_keys (arguments words) ≡ true)
+FitsWords Exists words = Between 2 65 words × (are_keys (arguments words) ≡ true)
+FitsWords Append words = Between 3 3 words × (are_keys (first words ∷ []) ≡ true) × (length (second words) ≤ value_limit)
 FitsWords (Fault kind) words = Unit {0}

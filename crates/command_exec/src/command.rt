@@ -4,7 +4,7 @@ ghost use Rattle.shard_store.specs.Parts.{operation_of};
 ghost use Rattle.command_exec.specs.Meaning.{op_of, argument_of};
 
 use crate::Op;
-use crate::verdict::op_asked;
+use crate::asked::op_asked;
 use flake_base::ErrorKind;
 use resp_reader::Request;
 use shard_store::{Part, PartOp};
@@ -70,7 +70,9 @@ impl Command {
     /// The part of this number, from 0.
     pub fn part(&self, j: usize) -> Part<'_>
         requires { j < length (parts self.now) }
-        ensures { slice_get (parts self.now) j ≡ Some (operation_of result) }
+        ensures operation { slice_get (parts self.now) j ≡ Some (operation_of result) }
+        ensures key { length result.key.now ≤ 512 }
+        ensures value { length result.value.now ≤ 16384 }
     {
         let Some(request) = &self.request else {
             unreachable!()
@@ -89,7 +91,8 @@ impl Command {
 
     /// PING's argument, which is its reply; nothing for any other command.
     pub fn argument(&self) -> &[u8]
-        ensures { result.now ≡ argument_of self.now }
+        ensures argument { result.now ≡ argument_of self.now }
+        ensures short { length result.now ≤ 16384 }
     {
         match (self.op, &self.request) {
             (Op::PingWith, Some(request)) => request.word(1),

@@ -1,10 +1,12 @@
 //! Commands: what a request asks for, by tests in a fixed order, and its parts, one for each key.
 #![tactic(auto)]
 
+mod asked;
 mod command;
 mod name;
 mod op;
-mod verdict;
+#[cfg(test)]
+mod tests;
 
 pub use command::Command;
 pub use op::Op;

@@ -3,6 +3,8 @@
 
 mod hash;
 mod part;
+#[cfg(test)]
+mod tests;
 
 pub use hash::shard_of;
 pub use part::{Part, PartOp};
