@@ -1,4 +1,6 @@
 pub mod Bytes
+pub mod Entered
+pub mod Parts
 pub mod Pumped
 pub mod Sessions
 pub mod Served

@@ -7,6 +7,9 @@ use flake_base::Memory;
 use std::alloc::Global;
 use std::marker::Model;
 
+/// How many shards there are.
+pub const SHARDS: u16 = 8;
+
 #[derive(Drop)]
 pub struct Store {
     tables: Vec<Table>,
