@@ -1,13 +1,10 @@
-use Rattle.std.proofs.Common.{◌≡◌, Result, Ok, Err, OnErr, ap, subst, sym, ◌∙◌}
+use Rattle.std.proofs.Common.{ap, subst, sym, ◌∙◌}
 use Rattle.std.proofs.lemmas.Option.{slice_get_read}
 use Rattle.flake_model.specs.Journal.{shard_of}
 use Rattle.flake_model.specs.OneThread.{IsSharded}
 use Rattle.flake_program.proofs.Entered.{entered_at, written_back}
+use Rattle.flake_program.proofs.Results.{on_err}
 use Rattle.flake_program.proofs.journal.Histories.enter_part.Goals as goal
-
-on_err : {T E P : Type 0} (result : Result T E) → P → OnErr result P
-on_err (Ok value) holds = tt
-on_err (Err error) holds = holds
 
 pub returns-in_err-push-clause-err : goal.returns-in_err-push-clause-err
 returns-in_err-push-clause-err c =
