@@ -1,18 +1,12 @@
 -- A map with keys of bytes, after a change at one key.
-use Rattle.std.proofs.Common.{◌≡◌, ℕ, Bool, true, false, cond, List, [], Option, None, Some, nat_eq, sym, ap, ◌∙◌, subst, ⊎_elim}
+use Rattle.std.proofs.Common.{◌≡◌, ℕ, Bool, true, false, cond, List, Option, IsSome, nat_eq, is_some, None, Some, refl, sym, ap, ◌∙◌, subst, ⊎_elim}
 use Rattle.std.specs.Global.{Vec}
-use Rattle.std.specs.HashMap.{HashMap, UpdatesBy}
+use Rattle.std.specs.HashMap.{HashMap, UpdatesBy, WritesThrough, get_by}
 use Rattle.std.specs.Map.{lookup, IsKeyTest, AreApart, KeepsOthers}
 use Rattle.std.specs.Option.{option_map}
-use Rattle.std.specs.Ordering.{nat_cmp, eq_by_cmp}
-use Rattle.std.specs.Cmp.Lexicographic.{pointwise, bytes_decides, slice_cmp, nat_list_cmp_total, nat_list_eq_equiv, texts_ties}
+use Rattle.std.specs.Cmp.Lexicographic.{bytes_decides, nat_list_eq_equiv}
 use Rattle.std.proofs.lemmas.Bool.{cases_Bool, cond-true, cond-false}
-use Rattle.std.specs.FinMap as finite
-use Rattle.flake_model.specs.Store.{Store}
-use Rattle.flake_program.specs.Table.{bytes_at, Agrees}
-
-abbrev pub same_bytes : List ℕ → List ℕ → Bool
-same_bytes = pointwise nat_eq
+use Rattle.flake_program.specs.Table.{Entries, bytes_at, same_bytes, HasChanged, HasKept, after_append}
 
 -- what differs from one text differs from each text that is the same
 apart : (bytes other name : List ℕ) → same_bytes bytes other ≡ false → same_bytes bytes name ≡ true → same_bytes other name ≡ false
@@ -25,9 +19,9 @@ keeps eq test old new kept = kept
 abbrev pub key_eq : Vec ℕ → Vec ℕ → Bool
 key_eq a b = same_bytes a.items b.items
 
--- after a change at a key the map has there the new value, and elsewhere what it had
+-- after a change at one key the map has there the new value, and elsewhere what it had
 pub updated : {S : Type 0} (bytes : List ℕ) (old new : HashMap (Vec ℕ) (Vec ℕ) S) (value : Option (Vec ℕ)) → UpdatesBy key_eq (λ (name : Vec ℕ). same_bytes bytes name.items) old new value
-    → (key : List ℕ) → bytes_at key new.entries ≡ cond (same_bytes bytes key) (option_map (λ (v : Vec ℕ). v.items) value) (bytes_at key old.entries)
+    → HasChanged bytes (option_map (λ (v : Vec ℕ). v.items) value) old.entries new.entries
 updated bytes old new value updates key =
     let items : Option (Vec ℕ) → Option (List ℕ) = λ found. option_map (λ (v : Vec ℕ). v.items) found in
     ⊎_elim
@@ -37,17 +31,36 @@ updated bytes old new value updates key =
     ∙ sym (cond-false (same_bytes bytes key) (items value) (bytes_at key old.entries) differs))
     (cases_Bool (same_bytes bytes key))
 
-tied : (bytes key : List ℕ) → eq_by_cmp (slice_cmp nat_cmp) key bytes ≡ same_bytes bytes key
-tied bytes key = sym (texts_ties key bytes) ∙ nat_list_eq_equiv.symm key bytes
+-- nothing changed
+pub unchanged : (key : List ℕ) (old new : Entries) → new ≡ old → HasChanged key (bytes_at key old) old new
+unchanged key old new same other =
+    ap (bytes_at other) same
+    ∙ ⊎_elim
+    (λ is. ap (λ k. bytes_at k old) (sym ((bytes_decides key other).0 is)) ∙ sym (cond-true (same_bytes key other) (bytes_at key old) (bytes_at other old) is))
+    (λ differs. sym (cond-false (same_bytes key other) (bytes_at key old) (bytes_at other old) differs))
+    (cases_Bool (same_bytes key other))
 
--- an insert into the map is an insert into the store that it stands for
-pub agrees-insert : {S : Type 0} (store : Store) (bytes : List ℕ) (old new : HashMap (Vec ℕ) (Vec ℕ) S) (value : List ℕ) (stored : Vec ℕ) → Agrees old.entries store → stored.items ≡ value
-    → UpdatesBy key_eq (λ (name : Vec ℕ). same_bytes bytes name.items) old new (Some stored) → Agrees new.entries (finite.insert store bytes value)
-agrees-insert store bytes old new value stored agrees is updates key =
-    updated bytes old new (Some stored) updates key ∙ ap (λ v. cond (same_bytes bytes key) (Some v) (bytes_at key old.entries)) is
-    ∙ ap (λ left. cond (same_bytes bytes key) (Some value) left) (agrees key)
-    ∙ sym (finite.get-insert nat_list_cmp_total store bytes value key ∙ ap (λ test. cond test (Some value) (finite.get store key)) (tied bytes key))
+-- whether a value was found, and whether bytes were
+pub was_there : (value : Option (Vec ℕ)) (bytes : Option (List ℕ)) → option_map (λ (v : Vec ℕ). v.items) value ≡ bytes → is_some value ≡ is_some bytes
+was_there None bytes is = ap is_some is
+was_there (Some value) bytes is = ap is_some is
 
--- no entries are the empty store
-pub agrees-empty : (entries : List (Vec ℕ × Vec ℕ)) → entries ≡ [] → Agrees entries finite.empty
-agrees-empty entries empty key = ap (bytes_at key) empty ∙ sym (finite.get-empty (slice_cmp nat_cmp) key)
+-- a value that was written through what was lent of it
+through : {S : Type 0} (key : List ℕ) (old new : HashMap (Vec ℕ) (Vec ℕ) S) (was now : Vec ℕ) → get_by (λ (name : Vec ℕ). same_bytes key name.items) old ≡ Some was → WritesThrough key_eq (λ (name : Vec ℕ). same_bytes key name.items) old now new
+    → HasChanged key (Some now.items) old.entries new.entries
+through key old new was now had written = updated key old new (Some now) (written.3 (subst IsSome (sym had) refl))
+
+-- bytes were put behind it, unless it would be too long
+pub appended_through : {S : Type 0} (key bytes : List ℕ) (old new : HashMap (Vec ℕ) (Vec ℕ) S) (was now : Vec ℕ) → get_by (λ (name : Vec ℕ). same_bytes key name.items) old ≡ Some was
+    → WritesThrough key_eq (λ (name : Vec ℕ). same_bytes key name.items) old now new → Some now.items ≡ after_append (Some was.items) bytes → HasChanged key (after_append (bytes_at key old.entries) bytes) old.entries new.entries
+appended_through key bytes old new was now had written is =
+    let there : bytes_at key old.entries ≡ Some was.items = ap (option_map (λ (v : Vec ℕ). v.items)) had in
+    subst (λ value. HasChanged key value old.entries new.entries) (is ∙ ap (λ found. after_append found bytes) (sym there)) (through key old new was now had written)
+
+-- it has the same bytes
+pub kept_through : {S : Type 0} (key : List ℕ) (old new : HashMap (Vec ℕ) (Vec ℕ) S) (was now : Vec ℕ) → get_by (λ (name : Vec ℕ). same_bytes key name.items) old ≡ Some was
+    → WritesThrough key_eq (λ (name : Vec ℕ). same_bytes key name.items) old now new → now.items ≡ was.items → HasKept old.entries new.entries
+kept_through key old new was now had written is other =
+    let there : bytes_at key old.entries ≡ Some was.items = ap (option_map (λ (v : Vec ℕ). v.items)) had in
+    through key old new was now had written other ∙ ap (λ value. cond (same_bytes key other) value (bytes_at other old.entries)) (ap Some is ∙ sym there)
+    ∙ sym (unchanged key old.entries old.entries refl other)

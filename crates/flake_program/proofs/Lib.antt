@@ -1,4 +1,8 @@
 pub mod Bytes
+pub mod Entered
+pub mod Held
+pub mod Parts
+pub mod Results
 pub mod Pumped
 pub mod Sessions
 pub mod Served

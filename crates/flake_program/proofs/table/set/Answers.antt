@@ -1,10 +1,14 @@
-use Rattle.std.proofs.Common.{ℕ, List, Some, subst}
+use Rattle.std.proofs.Common.{ℕ, List, Some, ap, subst}
 use Rattle.std.specs.Global.{Vec}
 use Rattle.std.specs.HashMap.{UpdatesBy}
-use Rattle.flake_program.proofs.Bytes.{agrees-insert, same_bytes, key_eq}
+use Rattle.flake_program.specs.Table.{HasChanged, same_bytes}
+use Rattle.flake_program.proofs.Bytes.{updated, key_eq}
 use Rattle.flake_program.proofs.table.set.Goals as goal
 
 pub returns-in-Ok-clause-ok : goal.returns-in-Ok-clause-ok
-returns-in-Ok-clause-ok c = λ store agrees.
-    agrees-insert store c.args.key.now c.args.table.now c.insert.new.self c.args.value.now c.in_ok-value.value agrees c.in_ok-value.ensures.items
-    (subst (λ (bytes : List ℕ). UpdatesBy key_eq (λ (name : Vec ℕ). same_bytes bytes name.items) c.args.table.now c.insert.new.self (Some c.in_ok-value.value)) c.in_ok-key.ensures.items c.in-Ok.ensures.updates)
+returns-in-Ok-clause-ok c =
+    let old = c.args.table.now in
+    let new = c.insert.new.self in
+    let value = c.in_ok-value.value in
+    subst (λ (bytes : List ℕ). HasChanged c.args.key.now (Some bytes) old.entries new.entries) c.in_ok-value.ensures.items
+    (updated c.args.key.now old new (Some value) (subst (λ (bytes : List ℕ). UpdatesBy key_eq (λ (name : Vec ℕ). same_bytes bytes name.items) old new (Some value)) c.in_ok-key.ensures.items c.in-Ok.ensures.updates))
