@@ -3,6 +3,7 @@ pub mod Entered
 pub mod Held
 pub mod Parts
 pub mod Results
+pub mod Replies
 pub mod Pumped
 pub mod Sessions
 pub mod Served

@@ -1,0 +1,14 @@
+use Rattle.std.proofs.Common.{◌≡◌, ◌≤◌, Some, map, take, count_by}
+use Rattle.flake_model.specs.Store.{Store}
+use Rattle.flake_model.specs.Command.{parts}
+use Rattle.flake_model.specs.Reply.{item_of, is_yes}
+use Rattle.flake_model.specs.OneThread.{answers_to, after_all}
+use Rattle.resp_text.specs.Meaning.{item_meaning}
+use Rattle.flake_program.specs.Store.{Holds}
+use Rattle.flake_program.proofs.execute.values.Given as goal
+
+abbrev pub invariant-loop-j : goal.invariant-loop-j
+invariant-loop-j l = record {
+  items : (model : Store) → Holds l.fn.store model → map item_meaning l.items.items ≡ map item_of (map Some (answers_to model (take l.j (parts l.command))));
+  holds : (model : Store) → Holds l.fn.store model → Holds l.store (after_all model (take l.j (parts l.command)));
+}
