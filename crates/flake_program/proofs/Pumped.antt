@@ -1,14 +1,14 @@
 -- What a pump comes to, step by step.
 use Rattle.std.proofs.Common.{◌≡◌, ◌≢◌, ℕ, ◌+◌, ◌-◌, ◌<◌, ◌≤◌, ◌⊎◌, inl, inr, zero, suc, Bool, List, [], ◌∷◌, ◌++◌, Option, Some, None, IfSome, MatchOption, length, map, take, drop, arith, refl, ap, sym, ◌∙◌, subst, append_assoc, append-nil}
 use Rattle.std.proofs.lemmas.List.{map-append, length-append, length-map, length-take, take-append-drop, take-append-le}
-use Rattle.std.proofs.Math.Seq.{take-append-add, take-append_seam}
+use Rattle.std.proofs.Math.Seq.{take-append_seam}
 use Rattle.flake_base.specs.Causes.{Rose}
 use Rattle.flake_base.specs.Reads.{Reads as Takes}
 use Rattle.flake_base.specs.declared.session.End.{End}
 use Rattle.flake_base.specs.declared.session.End.TheVariants.{Clean, Protocol, Truncated, TooLong, ReadFault, Memory, Left}
-use Rattle.flake_model.specs.Resp.{Words, judged_bytes, IsClean, IsTruncated, IsFaulty, Parses, requests_of, stream}
+use Rattle.flake_model.specs.Resp.{Words, judged_bytes, IsClean, IsTruncated, IsFaulty, Parses, stream}
 use Rattle.flake_model.specs.Command.{Command, fault, command_of}
-use Rattle.flake_model.specs.Run.{protocol_error, commands_in, bytes_seen, IsSession, IsShown, IsTaken, IsServedCount}
+use Rattle.flake_model.specs.Run.{protocol_error, commands_in, IsSession}
 use Rattle.flake_model.proofs.Streams.{requests_fit}
 use Rattle.resp_reader.specs.declared.error.ReadError.{ReadError}
 use Rattle.resp_reader.specs.declared.error.ReadError.TheVariants.{BadCount, ExpectedBulk, BadLength, Inline}
@@ -48,8 +48,7 @@ error_stays bytes rest requests kind place faulty =
 
 pub long_stays : (bytes rest : List ℕ) (requests : List Words) → Parses bytes requests TooLong → Parses (bytes ++ rest) requests TooLong
 long_stays bytes rest requests long =
-    let same = take-append-le judged_bytes bytes rest (omega (arith, long.0)) in
-    (
+    let same = take-append-le judged_bytes bytes rest (omega (arith, long.0)) in (
       omega (arith, long.0, length-append bytes rest),
       subst (λ b. IsClean b requests ⊎ ((place : ℕ) × IsTruncated b requests place)) (sym same) long.1,
     )
@@ -185,7 +184,7 @@ at_end input before given pump left faults reader end room is none fresh same re
     let r = while_reading input before given pump is p in
     let empty : pump.reader.requests ≡ reader.requests = none ∙ sym fresh in
     let so = ends_so end input r.bytes r.requests given reader ends (whole input pump.left left r.bytes room r.gave reads)
-        (subst (λ (more : List Words). Parses r.bytes (r.requests ++ more) end) empty (parsed r.bytes r.requests r.reads)) r.given_is before in
+    (subst (λ (more : List Words). Parses r.bytes (r.requests ++ more) end) empty (parsed r.bytes r.requests r.reads)) r.given_is before in
     record {
       bytes = r.bytes;
       requests = r.requests;

@@ -1,7 +1,6 @@
 -- What a refusal tells.
-use Rattle.std.proofs.Common.{◌≡◌, ◌≢◌, ℕ, ◌⊎◌, inl, inr, List, [], ◌∷◌, Option, Some, None, IfSome, All, arith, refl, ap, sym, ◌∙◌, subst}
+use Rattle.std.proofs.Common.{◌≡◌, ◌≢◌, ℕ, List, [], ◌∷◌, Option, All, sym, subst}
 use Rattle.std.proofs.lemmas.List.Elements.{recursion_from_All}
-use Rattle.flake_base.specs.Causes.{Rose}
 use Rattle.flake_base.specs.declared.session.SessionEnd.{SessionEnd}
 use Rattle.flake_program.specs.declared.outcome.Refusal.{Refusal}
 use Rattle.flake_program.specs.declared.outcome.Refusal.TheVariants.{BadWords, OpenFault, Memory}

@@ -1,5 +1,5 @@
 -- A served source is a served run of one session.
-use Rattle.std.proofs.Common.{◌≡◌, ℕ, ◌<◌, Bool, List, [], ◌∷◌, Option, Some, None, IfSome, length, get_or, set, map, take, arith, refl, ap, sym, ◌∙◌, subst}
+use Rattle.std.proofs.Common.{◌≡◌, ℕ, ◌<◌, Bool, List, [], ◌∷◌, Option, Some, None, IfSome, length, get_or, set, map, take, arith, refl, sym, subst}
 use Rattle.flake_base.specs.Growth.{Grew}
 use Rattle.flake_base.specs.declared.journal.Entry.{Entry}
 use Rattle.flake_base.specs.declared.session.SessionEnd.{SessionEnd}

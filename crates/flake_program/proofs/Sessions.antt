@@ -1,5 +1,5 @@
 -- One command more of a session.
-use Rattle.std.proofs.Common.{◌≡◌, ◌≢◌, ℕ, ◌+◌, ◌<◌, ◌≤◌, ◌⊎◌, inl, inr, Bool, true, false, List, [], ◌∷◌, ◌++◌, Option, Some, None, IfSome, length, map, take, slice_get, arith, refl, ap, sym, ◌∙◌, subst, append_assoc, append-nil}
+use Rattle.std.proofs.Common.{◌≡◌, ◌≢◌, ℕ, ◌+◌, ◌<◌, ◌⊎◌, inl, Bool, true, false, List, [], ◌∷◌, ◌++◌, Option, Some, None, IfSome, length, take, arith, refl, ap, sym, ◌∙◌, subst, append_assoc, append-nil}
 use Rattle.std.specs.List.{flat_map}
 use Rattle.std.specs.FinMap as finite
 use Rattle.std.proofs.lemmas.List.{take_all, length-append}
@@ -14,7 +14,7 @@ use Rattle.flake_model.specs.Store.{Operation}
 use Rattle.flake_model.specs.Command.{Command, parts}
 use Rattle.flake_model.specs.Reply.{reply_text}
 use Rattle.flake_model.specs.OneThread.{after_all, reply_on, replies_on, store_on, IsSharded}
-use Rattle.flake_model.specs.Journal.{Step, call_steps, session_steps, next_parts, ran_steps}
+use Rattle.flake_model.specs.Journal.{call_steps, session_steps, next_parts, ran_steps}
 use Rattle.flake_model.specs.Run.{IsSession, IsCut}
 use Rattle.flake_model.specs.Wire.{FaultIs}
 use Rattle.flake_model.proofs.OneThread.{replies_on-append, store_on-append, session_steps-more}

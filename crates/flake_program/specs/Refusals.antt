@@ -1,5 +1,5 @@
 -- Why nothing was served, as a status.
-use Rattle.std.specs.Prelude.{ℕ, List, [], ◌++◌, codes}
+use Rattle.std.specs.Prelude.{ℕ, List, codes}
 use Rattle.flake_model.specs.Said.{said_line}
 use Rattle.flake_program.specs.declared.outcome.Detail.{Detail}
 use Rattle.flake_program.specs.declared.outcome.Detail.TheVariants.{Nothing, File}

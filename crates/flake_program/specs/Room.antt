@@ -1,5 +1,5 @@
 -- What a run starts with.
-use Rattle.std.specs.Prelude.{◌≡◌, ℕ, ◌<◌, [], length}
+use Rattle.std.specs.Prelude.{◌≡◌, ◌<◌, [], length}
 use Rattle.std.specs.FinMap as finite
 use Rattle.flake_model.specs.OneThread.{IsSharded}
 use Rattle.flake_program.specs.declared.source.Room.{Room}

@@ -161,7 +161,14 @@ fn commands(rt: HostRuntime) -> Result<(), Fail> {
             input: b"*3\r\n$3\r\nSET\r\n$1\r\na\r\n$1\r\n1\r\n*3\r\n$3\r\nDEL\r\n$1\r\na\r\n$1\r\na\r\n*3\r\n$3\r\nSET\r\n$1\r\nb\r\n$1\r\n1\r\n*3\r\n$6\r\nEXISTS\r\n$1\r\nb\r\n$1\r\nb\r\n",
             said: "session 0 clean taken 111 replies 4 wire whole\n",
             sent: b"+OK\r\n:1\r\n+OK\r\n:2\r\n",
-            parts: Some(&[(4, 0, 0), (4, 1, 0), (4, 1, 1), (5, 2, 0), (5, 3, 0), (5, 3, 1)]),
+            parts: Some(&[
+                (4, 0, 0),
+                (4, 1, 0),
+                (4, 1, 1),
+                (5, 2, 0),
+                (5, 3, 0),
+                (5, 3, 1),
+            ]),
             ..SERVED
         },
         // APPEND k ab, append k cd, GET k
@@ -177,7 +184,18 @@ fn commands(rt: HostRuntime) -> Result<(), Fail> {
             input: b"*3\r\n$3\r\nSET\r\n$1\r\na\r\n$1\r\n1\r\n*4\r\n$4\r\nmGet\r\n$1\r\na\r\n$1\r\nx\r\n$1\r\na\r\n*4\r\n$6\r\nEXISTS\r\n$1\r\na\r\n$1\r\nx\r\n$1\r\na\r\n*3\r\n$3\r\nDEL\r\n$1\r\nx\r\n$1\r\na\r\n*2\r\n$3\r\nGET\r\n$1\r\na\r\n",
             said: "session 0 clean taken 146 replies 5 wire whole\n",
             sent: b"+OK\r\n*3\r\n$1\r\n1\r\n$-1\r\n$1\r\n1\r\n:2\r\n:1\r\n$-1\r\n",
-            parts: Some(&[(4, 0, 0), (4, 1, 0), (4, 1, 2), (4, 2, 0), (4, 2, 2), (4, 3, 1), (4, 4, 0), (7, 1, 1), (7, 2, 1), (7, 3, 0)]),
+            parts: Some(&[
+                (4, 0, 0),
+                (4, 1, 0),
+                (4, 1, 2),
+                (4, 2, 0),
+                (4, 2, 2),
+                (4, 3, 1),
+                (4, 4, 0),
+                (7, 1, 1),
+                (7, 2, 1),
+                (7, 3, 0),
+            ]),
             ..SERVED
         },
         // get a, FLY, SET a, SET a b EX 9, PING, PING hi

@@ -1,4 +1,4 @@
-use Rattle.std.proofs.Common.{rules, ◌≡◌, ◌+◌, ◌++◌, ◌∷◌, [], arith, refl, sym, ap, ◌∙◌, subst, length}
+use Rattle.std.proofs.Common.{◌++◌, ◌∷◌, [], arith, refl, sym, ◌∙◌, subst}
 use Rattle.flake_program.specs.Pump.{EndFaults}
 use Rattle.flake_program.proofs.Pumped.{bounded}
 use Rattle.flake_program.proofs.Sessions.{serving_more, sent_more, cause_more, sent_so, grew_nothing}

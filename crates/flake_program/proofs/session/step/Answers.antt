@@ -1,4 +1,4 @@
-use Rattle.std.proofs.Common.{rules, ◌≡◌, ◌++◌, inl, inr, refl, sym, subst, length, take}
+use Rattle.std.proofs.Common.{◌++◌, inl, inr, refl, subst, take}
 use Rattle.flake_model.specs.Command.{parts}
 use Rattle.flake_model.specs.Journal.{call_steps, session_steps}
 use Rattle.flake_model.specs.OneThread.{IsSharded}
