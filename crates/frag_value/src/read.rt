@@ -9,7 +9,7 @@ use crate::frag::{Frag, Value};
 use pinned_pool::{Pool, PoolName, PoolSeat};
 
 // Reads a fragment's bytes, a word at a time.
-fn read_frag<N: PoolName>(
+pub(crate) fn read_frag<N: PoolName>(
     pool: &Pool<N>,
     seat: &mut PoolSeat<N>,
     frag: &Frag<N>,
