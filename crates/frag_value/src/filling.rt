@@ -30,12 +30,7 @@ fn word_of(bytes: &[u8]) -> u64
 }
 
 // Writes bytes from a buffer's first word on.
-fn fill_buffer<N: PoolName>(
-    pool: &Pool<N>,
-    seat: &mut PoolSeat<N>,
-    hold: &Hold<N>,
-    bytes: &[u8],
-)
+fn fill_buffer<N: PoolName>(pool: &Pool<N>, seat: &mut PoolSeat<N>, hold: &Hold<N>, bytes: &[u8])
     requires exclusive { 0 < total (sole_at hold.now.buffer) seat.old.holds }
     requires fits { (0 < length bytes.now) × (length bytes.now ≤ 8 * room N.sizes hold.now.buffer) }
     ensures { Fills hold.now.buffer bytes.now seat.old seat.new }

@@ -5,9 +5,7 @@ ghost use Rattle.frag_value.specs.Values.{HasValue, size_of};
 mod copier;
 
 use crate::read::read_frag;
-use crate::{
-    AppendError, Frag, PlaceError, Value, append, fill, hand, read_into, release, write,
-};
+use crate::{AppendError, Frag, PlaceError, Value, append, fill, hand, read_into, release, write};
 use copier::Copier;
 use flake_base::Memory;
 use pinned_pool::{Class, Held, Hold, NoBuffer, Pool, PoolBlank, PoolName, PoolSeat, Unpinned};
@@ -15,9 +13,7 @@ use std::alloc::Global;
 use std::marker::Brand;
 use std::test::Fail;
 
-const LENGTHS: [usize; 13] = [
-    0, 1, 7, 8, 9, 511, 512, 513, 4095, 4096, 4097, 8192, 16384,
-];
+const LENGTHS: [usize; 13] = [0, 1, 7, 8, 9, 511, 512, 513, 4095, 4096, 4097, 8192, 16384];
 
 // So many bytes from this one on, which repeat after 251.
 fn sample(alloc: Global, len: usize, first: usize) -> Result<Vec<u8>, Memory>
@@ -96,9 +92,18 @@ fn lengths_are_written_and_appended(rt: HostRuntime) -> Result<(), Fail> {
             if !long {
                 want.extend_from_slice(&new)?;
             }
-            assert!(rt; kept.bytes.as_slice() == want.as_slice(), "{first} and {more}");
-            assert!(rt; kept.lasts == want.len().div_ceil(4096) as u64, "{first} and {more}");
-            assert!(rt; kept.held == Held { small: 0, large: 0 }, "{first} and {more}");
+            assert!(rt;
+                kept.bytes.as_slice() == want.as_slice(),
+                "{first} and {more}"
+            );
+            assert!(rt;
+                kept.lasts == want.len().div_ceil(4096) as u64,
+                "{first} and {more}"
+            );
+            assert!(rt;
+                kept.held == Held { small: 0, large: 0 },
+                "{first} and {more}"
+            );
         }
     }
     Ok(())
@@ -163,7 +168,14 @@ fn fills_one_buffer(rt: HostRuntime) -> Result<(), Fail> {
     let bytes = sample(rt.alloc(), 513, 5)?;
     let blank = PoolBlank::open(rt.alloc(), 1, 2, 4)?;
     let (shape, room) = filled(rt.alloc(), blank, &bytes)?;
-    assert!(rt; shape == Shape { count: 1, first: (1, 513), second: (0, 0) });
+    assert!(rt;
+        shape
+            == Shape {
+                count: 1,
+                first: (1, 513),
+                second: (0, 0)
+            }
+    );
     assert!(rt; room.as_slice() == bytes.as_slice());
     Ok(())
 }
@@ -253,7 +265,14 @@ fn a_pinned_fragment_is_not_written_again(rt: HostRuntime) -> Result<(), Fail> {
         looked: 2,
     };
     assert_eq!(rt; shared.written, one(4, 4090));
-    assert_eq!(rt; shared.appended, Shape { count: 2, first: (5, 4096), second: (0, 4) });
+    assert_eq!(rt;
+        shared.appended,
+        Shape {
+            count: 2,
+            first: (5, 4096),
+            second: (0, 4)
+        }
+    );
     assert!(rt; shared.refused == Some(PlaceError::NoBuffer(none)));
     assert!(rt; shared.seen.as_slice() == old.as_slice());
     assert!(rt; shared.unpinned == Unpinned::Last);

@@ -1,11 +1,10 @@
-use Rattle.std.proofs.Common.{◌≡◌, ℕ, ◌+◌, ◌-◌, ◌*◌, ◌<◌, ◌≤◌, List, [], ◌∷◌, ◌++◌, length, take, drop, Some, ap, sym, ◌∙◌, subst, append-nil, arith}
-use Rattle.std.specs.List.{slice_get}
+use Rattle.std.proofs.Common.{◌≡◌, ℕ, ◌-◌, ◌++◌, length, take, drop, ap, sym, ◌∙◌, append-nil, arith}
 use Rattle.std.proofs.lemmas.List.{take_at}
 use Rattle.pinned_pool.specs.Moves.{times}
-use Rattle.frag_value.specs.Values.{size_of, loose_key, IsFilled, frag_bytes, value_bytes}
+use Rattle.frag_value.specs.Values.{size_of, IsFilled, frag_bytes, value_bytes}
 use Rattle.frag_value.proofs.Lists.{each-at}
 use Rattle.frag_value.proofs.Hands.{uses-at}
-use Rattle.frag_value.proofs.Ends.{HasPartial, partial, at_end}
+use Rattle.frag_value.proofs.Ends.{partial, at_end}
 use Rattle.frag_value.proofs.appending.text_behind.Goals as goal
 
 pub read_before-requires-clause-held : goal.read_before-requires-clause-held

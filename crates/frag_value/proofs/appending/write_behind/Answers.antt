@@ -1,4 +1,4 @@
-use Rattle.std.proofs.Common.{◌≡◌, ℕ, ◌+◌, ◌≤◌, ◌++◌, List, [], length, ap, sym, ◌∙◌, subst, length-append, arith}
+use Rattle.std.proofs.Common.{◌≡◌, ◌+◌, ◌++◌, length, ap, sym, ◌∙◌, subst, length-append, arith}
 use Rattle.std.specs.Result.{IfOk, IfErr}
 use Rattle.frag_value.specs.Fragments.{fragments_of}
 use Rattle.frag_value.specs.Values.{size_of, full_of, partial_of, value_bytes}

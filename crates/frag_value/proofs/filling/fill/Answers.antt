@@ -1,4 +1,4 @@
-use Rattle.std.proofs.Common.{◌≡◌, ℕ, ◌<◌, length, sym, ap, ◌∙◌, subst, arith}
+use Rattle.std.proofs.Common.{◌≡◌, ℕ, ◌<◌, length, sym, ap, ◌∙◌, subst}
 use Rattle.view_sums.specs.Total.{total, Each}
 use Rattle.pin_core.specs.Holding.{Key, sole_at}
 use Rattle.pinned_pool.specs.Moves.{HasHolds}

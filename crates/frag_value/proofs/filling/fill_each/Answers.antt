@@ -1,11 +1,8 @@
-use Rattle.std.proofs.Common.{◌≡◌, ℕ, ◌+◌, ◌-◌, ◌*◌, ◌<◌, ◌≤◌, List, min, length, take, drop, ap, sym, ◌∙◌, subst, arith}
-use Rattle.std.specs.Int.{w64}
+use Rattle.std.proofs.Common.{◌≡◌, ℕ, ◌+◌, ◌-◌, ◌*◌, ◌<◌, ◌≤◌, length, take, drop, ap, subst, arith}
 use Rattle.std.proofs.lemmas.List.{length-take, length-drop}
 use Rattle.view_sums.specs.Total.{total}
 use Rattle.pin_core.specs.Holding.{sole_at}
-use Rattle.pinned_pool.specs.declared.view.View.{View}
-use Rattle.frag_value.specs.Values.{loose_key, size_of, uses, IsCut, IsPlaced}
-use Rattle.frag_value.specs.Filled.{Fills}
+use Rattle.frag_value.specs.Values.{size_of, IsCut, IsPlaced}
 use Rattle.frag_value.proofs.Lists.{each-at}
 use Rattle.frag_value.proofs.Cuts.{cut-at}
 use Rattle.frag_value.proofs.Ready.{room-class}

@@ -1,4 +1,4 @@
-use Rattle.std.proofs.Common.{◌≡◌, length, refl}
+use Rattle.std.proofs.Common.{length, refl}
 use Rattle.frag_value.proofs.Placed.{all_ready, same_stays, gives_stays, filled_stays, stays_more, claims_for, none_left_of, is_written}
 use Rattle.frag_value.proofs.placing.write.Goals as goal
 

@@ -1,6 +1,4 @@
-use Rattle.std.proofs.Common.{◌≡◌, ℕ, List, [], ◌∷◌, ◌++◌, length, Some, inr, ap, sym, refl, ◌∙◌, subst, arith}
-use Rattle.std.specs.List.{slice_get}
-use Rattle.pin_core.specs.Holding.{Holding}
+use Rattle.std.proofs.Common.{◌≡◌, ℕ, [], ◌∷◌, ◌++◌, length, inr, ap, refl, ◌∙◌, arith}
 use Rattle.pinned_pool.specs.Moves.{times, front_of, pinned_hold}
 use Rattle.pinned_pool.specs.declared.view.View.{View}
 use Rattle.pinned_pool.proofs.AfterSteps.{front-on}
