@@ -1,0 +1,64 @@
+ghost use Rattle.std.specs.Prelude.{◌≡◌, ◌<◌, length, slice_get};
+ghost use Rattle.frag_value.specs.Values.{size_of, loose_key, IsValue};
+
+use pinned_pool::{Hold, PoolName};
+use std::marker::Model;
+
+/// Bytes at the beginning of a buffer.
+#[derive(Drop)]
+pub struct Frag<N: PoolName> {
+    pub hold: Hold<N>,
+    pub len: u32,
+}
+
+/// A value's fragments in order. Contracts see the buffer and the length of each.
+#[derive(Drop)]
+pub struct Value<N: PoolName> {
+    pub(crate) frags: Vec<Frag<N>>,
+    pub(crate) len: u64,
+}
+
+impl<N: PoolName> Model for Value<N> {
+    ghost use Rattle.std.specs.Prelude.{◌≡◌, ℕ, List, map, vec_capacity};
+    ghost use Rattle.view_sums.specs.Total.{Each};
+    ghost use Rattle.frag_value.specs.Values.{loose_key, IsValueOf};
+
+    ghost Value = { List (ℕ × ℕ) };
+
+    ghost view = { λ v. map (λ f. (f.hold.buffer, f.len)) v.frags.items };
+
+    ghost invariant = { λ v. Each (λ f. f.hold ≡ loose_key f.hold.buffer) v.frags.items × IsValueOf N.sizes v.len (vec_capacity v.frags) (map (λ f. (f.hold.buffer, f.len)) v.frags.items) };
+}
+
+impl<N: PoolName> Value<N> {
+    /// How many bytes it has.
+    pub fn len(&self) -> u64
+        ensures size { result ≡ size_of self.now }
+        ensures value { IsValue N.sizes self.now }
+    {
+        self.len
+    }
+
+    /// How many fragments it has.
+    pub fn count(&self) -> usize
+        ensures { result ≡ length self.now }
+    {
+        self.frags.len()
+    }
+
+    /// The fragment at the place, from 0.
+    pub fn frag(&self, i: usize) -> &Frag<N>
+        requires { i < length self.now }
+        ensures part { slice_get self.now i ≡ Some ((result.now.hold.buffer, result.now.len)) }
+        ensures hold { result.now.hold ≡ loose_key result.now.hold.buffer }
+    {
+        &self.frags[i]
+    }
+
+    /// Does nothing, and tells a proof what is true of every value.
+    pub fn is_value(&self)
+        ensures { IsValue N.sizes self.now }
+    {
+        let _ = &self.len;
+    }
+}

@@ -1,0 +1,25 @@
+//! Values in fragments over the buffers of a pool, and what takes them from whoever owns them.
+#![tactic(auto)]
+
+mod appending;
+mod claims;
+mod error;
+mod filling;
+mod frag;
+mod handing;
+mod placing;
+mod read;
+mod releasing;
+mod taker;
+#[cfg(test)]
+mod tests;
+
+pub use appending::append;
+pub use error::{AppendError, PlaceError};
+pub use filling::fill;
+pub use frag::{Frag, Value};
+pub use handing::hand;
+pub use placing::write;
+pub use read::read_into;
+pub use releasing::release;
+pub use taker::Taker;

@@ -1,0 +1,319 @@
+ghost use Rattle.std.specs.Prelude.{◌≡◌, ℕ, false, true, ◌+◌, ◌*◌, ◌<◌, ◌≤◌, [], ◌∷◌, length, vec_len, vec_capacity, IfSome, IfOk, IfErr, OnOk};
+ghost use Rattle.pinned_pool.specs.Moves.{times, front_of};
+ghost use Rattle.frag_value.specs.Values.{HasValue, size_of};
+
+mod copier;
+
+use crate::read::read_frag;
+use crate::{AppendError, Frag, PlaceError, Value, append, fill, hand, read_into, release, write};
+use copier::Copier;
+use flake_base::Memory;
+use pinned_pool::{Class, Held, Hold, NoBuffer, Pool, PoolBlank, PoolName, PoolSeat, Unpinned};
+use std::alloc::Global;
+use std::marker::Brand;
+use std::test::Fail;
+
+const LENGTHS: [usize; 13] = [0, 1, 7, 8, 9, 511, 512, 513, 4095, 4096, 4097, 8192, 16384];
+
+// So many bytes from this one on, which repeat after 251.
+fn sample(alloc: Global, len: usize, first: usize) -> Result<Vec<u8>, Memory>
+    requires { (len ≤ 16384) × (first < 256) }
+    ensures { IfOk result (λ v. vec_len v ≡ len) }
+{
+    let mut bytes = Vec::with_capacity(alloc, len)?;
+    for k in 0..len {
+        bytes.push(((first + 7 * k) % 251) as u8)?;
+    }
+    Ok(bytes)
+}
+
+// What came of an append: why it was refused, the value's bytes, how many buffers were given back, and what was held at the end.
+#[derive(Drop)]
+struct Kept {
+    refused: Option<AppendError>,
+    bytes: Vec<u8>,
+    lasts: u64,
+    held: Held,
+}
+
+// Writes bytes, appends others, reads all, and releases the value.
+fn keep<N: PoolName>(
+    alloc: Global,
+    blank: PoolBlank,
+    first: &[u8],
+    more: &[u8],
+) -> Result<Kept, Memory>
+    requires name { (blank.table ≡ N.table) × (blank.sizes ≡ N.sizes) }
+    requires few { length first.now ≤ 16384 }
+{
+    let (pool, mut seat) = blank.name::<N>();
+    let Ok(value) = write(alloc, &pool, &mut seat, first) else {
+        return Err(Memory);
+    };
+    let (refused, value) = match append(alloc, &pool, &mut seat, value, more) {
+        Ok(value) => (None, value),
+        Err((error, value)) => (Some(error), value),
+    };
+    let mut bytes = vec![in alloc; 0u8; value.len() as usize]?;
+    read_into(&pool, &mut seat, &value, &mut bytes);
+    let lasts = release(&pool, &mut seat, value);
+    let held = pool.close(seat).held();
+    Ok(Kept {
+        refused,
+        bytes,
+        lasts,
+        held,
+    })
+}
+
+fn keep_both(alloc: Global, blank: PoolBlank, first: &[u8], more: &[u8]) -> Result<Kept, Memory>
+    requires { length first.now ≤ 16384 }
+{
+    keep::<Brand>(alloc, blank, first, more)
+}
+
+#[test]
+fn lengths_are_written_and_appended(rt: HostRuntime) -> Result<(), Fail> {
+    for first in LENGTHS {
+        for more in LENGTHS {
+            let old = sample(rt.alloc(), first.min(16384), 1)?;
+            let new = sample(rt.alloc(), more.min(16384), 100)?;
+            let blank = PoolBlank::open(rt.alloc(), 3, 8, 2)?;
+            let kept = keep_both(rt.alloc(), blank, &old, &new)?;
+            let sum = first.min(16384) + more.min(16384);
+            let long = sum > 16384;
+            let refused = if long {
+                Some(AppendError::TooLong { length: sum as u64 })
+            } else {
+                None
+            };
+            assert!(rt; kept.refused == refused, "{first} and {more}");
+            let mut want = old;
+            if !long {
+                want.extend_from_slice(&new)?;
+            }
+            assert!(rt;
+                kept.bytes.as_slice() == want.as_slice(),
+                "{first} and {more}"
+            );
+            assert!(rt;
+                kept.lasts == want.len().div_ceil(4096) as u64,
+                "{first} and {more}"
+            );
+            assert!(rt;
+                kept.held == Held { small: 0, large: 0 },
+                "{first} and {more}"
+            );
+        }
+    }
+    Ok(())
+}
+
+// What a value is made of: how many fragments it has, and the buffer and length of the first two.
+#[derive(Clone, Copy, PartialEq, Eq, Debug)]
+struct Shape {
+    count: usize,
+    first: (u32, u32),
+    second: (u32, u32),
+}
+
+fn part<N: PoolName>(value: &Value<N>, i: usize) -> (u32, u32) {
+    if i < value.count() {
+        let frag = value.frag(i);
+        (frag.hold.buffer(), frag.len)
+    } else {
+        (0, 0)
+    }
+}
+
+fn shape_of<N: PoolName>(value: &Value<N>) -> Shape {
+    Shape {
+        count: value.count(),
+        first: part(value, 0),
+        second: part(value, 1),
+    }
+}
+
+// Fills the first large buffer, and reads it.
+fn fill_large<N: PoolName>(
+    alloc: Global,
+    blank: PoolBlank,
+    bytes: &[u8],
+) -> Result<(Shape, Vec<u8>), Memory>
+    requires name { (blank.table ≡ N.table) × (blank.sizes ≡ N.sizes) }
+    requires few { (512 < length bytes.now) × (length bytes.now ≤ 4096) }
+{
+    let (pool, mut seat) = blank.name::<N>();
+    let mut holds = Vec::with_capacity(alloc, 1)?;
+    let Ok(hold) = pool.claim(&mut seat, Class::Large) else {
+        return Err(Memory);
+    };
+    holds.push_reserved(hold);
+    let Ok(value) = fill(alloc, &pool, &mut seat, holds, bytes) else {
+        return Err(Memory);
+    };
+    let mut room = vec![in alloc; 0u8; bytes.len()]?;
+    read_into(&pool, &mut seat, &value, &mut room);
+    Ok((shape_of(&value), room))
+}
+
+fn filled(alloc: Global, blank: PoolBlank, bytes: &[u8]) -> Result<(Shape, Vec<u8>), Memory>
+    requires { (512 < length bytes.now) × (length bytes.now ≤ 4096) }
+{
+    fill_large::<Brand>(alloc, blank, bytes)
+}
+
+#[test]
+fn fills_one_buffer(rt: HostRuntime) -> Result<(), Fail> {
+    let bytes = sample(rt.alloc(), 513, 5)?;
+    let blank = PoolBlank::open(rt.alloc(), 1, 2, 4)?;
+    let (shape, room) = filled(rt.alloc(), blank, &bytes)?;
+    assert!(rt;
+        shape
+            == Shape {
+                count: 1,
+                first: (1, 513),
+                second: (0, 0)
+            }
+    );
+    assert!(rt; room.as_slice() == bytes.as_slice());
+    Ok(())
+}
+
+// What happens to a value whose buffer is pinned by another seat.
+#[derive(Drop)]
+struct Shared {
+    written: Shape,
+    appended: Shape,
+    refused: Option<PlaceError>,
+    seen: Vec<u8>,
+    unpinned: Unpinned,
+    again: Shape,
+}
+
+// Writes a value, which a second seat pins; appends to it, and writes once more before and after the second seat gives its hold back.
+fn share<N: PoolName>(
+    alloc: Global,
+    blank: PoolBlank,
+    bytes: &[u8],
+    more: &[u8],
+    other: &[u8],
+) -> Result<Shared, Memory>
+    requires name { (blank.table ≡ N.table) × (blank.sizes ≡ N.sizes) × (8 < N.sizes.credits) }
+    requires few { (length bytes.now ≤ 4096) × (length more.now ≤ 4096) × (length other.now ≤ 4096) }
+{
+    let (pool, mut first) = blank.name::<N>();
+    let none: [Hold<N>; 0] = [];
+    let mut second = pool.split(&mut first, &none, 8);
+    let Ok(value) = write(alloc, &pool, &mut first, bytes) else {
+        return Err(Memory);
+    };
+    if value.count() == 0 {
+        return Err(Memory);
+    }
+    let written = shape_of(&value);
+    let len = value.frag(0).len;
+    let hold = pool.pin(&mut first, &mut second, &value.frag(0).hold);
+    let Ok(value) = append(alloc, &pool, &mut first, value, more) else {
+        return Err(Memory);
+    };
+    let appended = shape_of(&value);
+    let refused = write(alloc, &pool, &mut first, other).err();
+    let frag = Frag { hold, len };
+    let mut seen = vec![in alloc; 0u8; len as usize]?;
+    read_frag(&pool, &mut second, &frag, &mut seen);
+    let Frag { hold, .. } = frag;
+    let unpinned = pool.unpin(&mut second, hold);
+    let Ok(again) = write(alloc, &pool, &mut first, other) else {
+        return Err(Memory);
+    };
+    Ok(Shared {
+        written,
+        appended,
+        refused,
+        seen,
+        unpinned,
+        again: shape_of(&again),
+    })
+}
+
+fn share_between(
+    alloc: Global,
+    blank: PoolBlank,
+    bytes: &[u8],
+    more: &[u8],
+    other: &[u8],
+) -> Result<Shared, Memory>
+    requires name { 8 < blank.sizes.credits }
+    requires few { (length bytes.now ≤ 4096) × (length more.now ≤ 4096) × (length other.now ≤ 4096) }
+{
+    share::<Brand>(alloc, blank, bytes, more, other)
+}
+
+#[test]
+fn a_pinned_fragment_is_not_written_again(rt: HostRuntime) -> Result<(), Fail> {
+    let blank = PoolBlank::open(rt.alloc(), 4, 2, 16)?;
+    let old = [b'A'; 4090];
+    let shared = share_between(rt.alloc(), blank, &old, &[b'B'; 10], &[b'C'; 4096])?;
+    let one = |buffer, len| Shape {
+        count: 1,
+        first: (buffer, len),
+        second: (0, 0),
+    };
+    let none = NoBuffer {
+        class: Class::Large,
+        looked: 2,
+    };
+    assert_eq!(rt; shared.written, one(4, 4090));
+    assert_eq!(rt;
+        shared.appended,
+        Shape {
+            count: 2,
+            first: (5, 4096),
+            second: (0, 4)
+        }
+    );
+    assert!(rt; shared.refused == Some(PlaceError::NoBuffer(none)));
+    assert!(rt; shared.seen.as_slice() == old.as_slice());
+    assert!(rt; shared.unpinned == Unpinned::Last);
+    assert_eq!(rt; shared.again, one(4, 4096));
+    Ok(())
+}
+
+// Writes a value, and hands it to a taker.
+fn hand_over<N: PoolName>(alloc: Global, blank: PoolBlank, bytes: &[u8]) -> Result<Copier, Memory>
+    requires name { (blank.table ≡ N.table) × (blank.sizes ≡ N.sizes) }
+    requires few { length bytes.now ≤ 16384 }
+{
+    let (pool, mut seat) = blank.name::<N>();
+    let Ok(value) = write(alloc, &pool, &mut seat, bytes) else {
+        return Err(Memory);
+    };
+    let mut copier = Copier::new(alloc)?;
+    hand(&pool, &mut seat, &value, &mut copier);
+    Ok(copier)
+}
+
+fn handed(alloc: Global, blank: PoolBlank, bytes: &[u8]) -> Result<Copier, Memory>
+    requires { length bytes.now ≤ 16384 }
+{
+    hand_over::<Brand>(alloc, blank, bytes)
+}
+
+#[test]
+fn a_taker_is_handed_each_fragment(rt: HostRuntime) -> Result<(), Fail> {
+    let bytes = sample(rt.alloc(), 9000, 3)?;
+    let blank = PoolBlank::open(rt.alloc(), 2, 3, 1)?;
+    let copier = handed(rt.alloc(), blank, &bytes)?;
+    assert!(rt; !copier.taking && copier.size == 9000);
+    let mut all = Vec::new(rt.alloc());
+    let mut addresses = Vec::new(rt.alloc());
+    for copy in &copier.copies {
+        all.extend_from_slice(&copy.bytes[..copy.len])?;
+        addresses.push((copy.address, copy.len))?;
+    }
+    assert!(rt; all.as_slice() == bytes.as_slice());
+    let large = [(1_049_600, 4096), (1_053_696, 4096), (1_057_792, 808)];
+    assert!(rt; addresses.as_slice() == large.as_slice());
+    Ok(())
+}
