@@ -7,6 +7,10 @@ pub mod OneKind
 pub mod Faults
 pub mod Vectors
 pub mod OneParse
+pub mod FirstNumber
+pub mod FirstWord
+pub mod FirstElement
+pub mod SomeParse
 pub mod OneSession
 pub mod OneOrder
 pub mod SameStores
