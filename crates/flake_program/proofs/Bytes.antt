@@ -1,5 +1,5 @@
 -- A map with keys of bytes, after a change at one key.
-use Rattle.std.proofs.Common.{◌≡◌, ℕ, Bool, true, false, cond, List, Option, IsSome, nat_eq, is_some, None, Some, refl, sym, ap, ◌∙◌, subst, ⊎_elim}
+use Rattle.std.proofs.Common.{◌≡◌, ℕ, Bool, true, false, cond, List, Option, IsSome, is_some, None, Some, refl, sym, ap, ◌∙◌, subst, ⊎_elim}
 use Rattle.std.specs.Global.{Vec}
 use Rattle.std.specs.HashMap.{HashMap, UpdatesBy, WritesThrough, get_by}
 use Rattle.std.specs.Map.{lookup, IsKeyTest, AreApart, KeepsOthers}

@@ -1,6 +1,6 @@
 -- The histories of the shards with one entry more.
-use Rattle.std.proofs.Common.{◌≡◌, ◌≢◌, ℕ, zero, suc, ◌+◌, ◌<◌, ◌==◌, ◌⊎◌, ⊎_elim, inl, inr, Bool, true, false, cond, List, [], ◌∷◌, ◌++◌, Option, Some, None, length, map, take, set, slice_get, replicate, arith, refl, ap, sym, ◌∙◌, subst, append_assoc, append-nil}
-use Rattle.std.proofs.lemmas.List.{map-append, map-set, length-set, length-map, replicate_more}
+use Rattle.std.proofs.Common.{◌≡◌, ◌≢◌, ℕ, zero, suc, ◌+◌, ◌==◌, ◌⊎◌, ⊎_elim, inl, inr, Bool, true, false, cond, List, [], ◌∷◌, ◌++◌, Some, length, take, set, slice_get, replicate, arith, refl, ap, sym, ◌∙◌, subst, append_assoc, append-nil}
+use Rattle.std.proofs.lemmas.List.{map-append, map-set, length-set, length-map}
 use Rattle.std.proofs.lemmas.List.Elements.{filter-append}
 use Rattle.std.proofs.lemmas.Option.{slice_get-map}
 use Rattle.std.specs.Option.{option_map}
@@ -39,13 +39,13 @@ entered steps journal step place history was at had shard found is =
     subst (λ n. found ≡ entries_of (in_shard n shard (steps ++ step ∷ []))) (sym (length-set journal place (history ++ step.0 ∷ [])))
     (⊎_elim
     (λ here.
-        let test : (shard_of shards (key_of step.1) == shard) ≡ true = eq-eqb (shard_of shards (key_of step.1)) shard (sym at ∙ sym here.0) in
-        here.1 ∙ ap (λ h. h ++ step.0 ∷ []) (was shard history (ap (slice_get journal) here.0 ∙ had))
-        ∙ ap (λ h. entries_of (in_shard shards shard steps) ++ h) (sym (last_entry shards shard step true test)) ∙ sym (one_step_more shards shard steps step))
+    let test : (shard_of shards (key_of step.1) == shard) ≡ true = eq-eqb (shard_of shards (key_of step.1)) shard (sym at ∙ sym here.0) in
+    here.1 ∙ ap (λ h. h ++ step.0 ∷ []) (was shard history (ap (slice_get journal) here.0 ∙ had))
+    ∙ ap (λ h. entries_of (in_shard shards shard steps) ++ h) (sym (last_entry shards shard step true test)) ∙ sym (one_step_more shards shard steps step))
     (λ there.
-        let test : (shard_of shards (key_of step.1) == shard) ≡ false = ⊎_elim (λ yes. absurd (there.0 (sym (eqb-true (shard_of shards (key_of step.1)) shard yes) ∙ sym at))) (λ no. no) (cases_Bool (shard_of shards (key_of step.1) == shard)) in
-        was shard found there.1 ∙ sym (append-nil (entries_of (in_shard shards shard steps)))
-        ∙ ap (λ h. entries_of (in_shard shards shard steps) ++ h) (sym (last_entry shards shard step false test)) ∙ sym (one_step_more shards shard steps step))
+    let test : (shard_of shards (key_of step.1) == shard) ≡ false = ⊎_elim (λ yes. absurd (there.0 (sym (eqb-true (shard_of shards (key_of step.1)) shard yes) ∙ sym at))) (λ no. no) (cases_Bool (shard_of shards (key_of step.1) == shard)) in
+    was shard found there.1 ∙ sym (append-nil (entries_of (in_shard shards shard steps)))
+    ∙ ap (λ h. entries_of (in_shard shards shard steps) ++ h) (sym (last_entry shards shard step false test)) ∙ sym (one_step_more shards shard steps step))
     (read_set journal place shard (history ++ step.0 ∷ []) found is))
 
 -- the same, of lists with room

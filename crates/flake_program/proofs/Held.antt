@@ -1,5 +1,5 @@
 -- The tables of the shards after a change at one key.
-use Rattle.std.proofs.Common.{◌≡◌, ◌≢◌, ℕ, zero, suc, replicate, ◌⊎◌, ⊎_elim, Bool, true, false, cond, List, [], Option, Some, None, length, map, set, slice_get, nat_le, nat_eq, arith, refl, ap, sym, ◌∙◌, subst}
+use Rattle.std.proofs.Common.{◌≡◌, ℕ, zero, suc, replicate, ⊎_elim, Bool, true, false, cond, List, [], Option, Some, None, length, set, slice_get, refl, ap, sym, ◌∙◌, subst}
 use Rattle.std.proofs.lemmas.Bool.{cases_Bool, cond-true, cond-false}
 use Rattle.std.proofs.lemmas.List.{length-set}
 use Rattle.std.proofs.lemmas.List.{map-set}
@@ -9,7 +9,7 @@ use Rattle.std.specs.HashMap.{HashMap}
 use Rattle.std.specs.Option.{option_map}
 use Rattle.std.specs.FinMap as finite
 use Rattle.std.specs.Ordering.{nat_cmp, eq_by_cmp}
-use Rattle.std.specs.Cmp.Lexicographic.{pointwise, bytes_decides, slice_cmp, nat_list_cmp_total, nat_list_eq_equiv, texts_ties}
+use Rattle.std.specs.Cmp.Lexicographic.{bytes_decides, slice_cmp, nat_list_cmp_total, nat_list_eq_equiv, texts_ties}
 use Rattle.flake_model.specs.Store as model
 use Rattle.flake_model.specs.Store.{Store, Operation, answer, after, key_of, appended, value_limit}
 use Rattle.flake_model.specs.Journal.{shard_of}
@@ -69,12 +69,12 @@ held tables store now place key value old new holds had at table_changed store_c
           let belongs : shard_of (length tables) other ≡ shard = ap (λ n. shard_of n other) (sym long) ∙ belongs in
           ⊎_elim
           (λ here.
-              let was : bytes_at other old ≡ finite.get store other = holds.each shard old (ap (slice_get tables) here.0 ∙ had) other belongs in
-              ap (bytes_at other) here.1 ∙ table_changed other ∙ ap (cond (same_bytes key other) value) was ∙ sym (store_changed other))
+          let was : bytes_at other old ≡ finite.get store other = holds.each shard old (ap (slice_get tables) here.0 ∙ had) other belongs in
+          ap (bytes_at other) here.1 ∙ table_changed other ∙ ap (cond (same_bytes key other) value) was ∙ sym (store_changed other))
           (λ there.
-              let differs : same_bytes key other ≡ false = ⊎_elim
-                  (λ yes. absurd (there.0 (sym belongs ∙ ap (λ n. shard_of n other) holds.count ∙ sym (ap (shard_of 8) ((bytes_decides key other).0 yes)) ∙ sym at))) (λ no. no) (cases_Bool (same_bytes key other)) in
-              holds.each shard entries there.1 other belongs ∙ sym (store_changed other ∙ cond-false (same_bytes key other) value (finite.get store other) differs))
+          let differs : same_bytes key other ≡ false = ⊎_elim
+          (λ yes. absurd (there.0 (sym belongs ∙ ap (λ n. shard_of n other) holds.count ∙ sym (ap (shard_of 8) ((bytes_decides key other).0 yes)) ∙ sym at))) (λ no. no) (cases_Bool (same_bytes key other)) in
+          holds.each shard entries there.1 other belongs ∙ sym (store_changed other ∙ cond-false (same_bytes key other) value (finite.get store other) differs))
           (read_set tables place shard new entries is);
     }
 

@@ -4,7 +4,7 @@ use Rattle.std.specs.Global.{Vec}
 use Rattle.std.specs.Map.{lookup}
 use Rattle.std.specs.Option.{option_map}
 use Rattle.std.specs.Cmp.Lexicographic.{pointwise}
-use Rattle.flake_model.specs.Store.{Operation, get, set, append, del, exists, Answer, missing, done, length_is, did, too_long, found, appended, value_limit}
+use Rattle.flake_model.specs.Store.{Operation, get, set, append, del, exists, Answer, done, length_is, did, too_long, found, appended, value_limit}
 
 abbrev pub Entries : Type 0
 Entries = List (Vec ℕ × Vec ℕ)

@@ -1,4 +1,4 @@
-use Rattle.std.proofs.Common.{ℕ, List, Some, ap, subst}
+use Rattle.std.proofs.Common.{ℕ, List, Some, subst}
 use Rattle.std.specs.Global.{Vec}
 use Rattle.std.specs.HashMap.{UpdatesBy}
 use Rattle.flake_program.specs.Table.{HasChanged, same_bytes}

@@ -1,4 +1,4 @@
-use Rattle.std.proofs.Common.{◌≡◌, ◌++◌, ◌∙◌, subst, sym, take, arith}
+use Rattle.std.proofs.Common.{◌++◌, ◌∙◌, subst, take, arith}
 use Rattle.std.proofs.lemmas.List.{take_all}
 use Rattle.flake_model.specs.Command.{parts}
 use Rattle.flake_model.specs.Journal.{call_steps}

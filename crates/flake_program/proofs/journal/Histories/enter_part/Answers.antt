@@ -10,7 +10,7 @@ pub returns-in_err-push-clause-err : goal.returns-in_err-push-clause-err
 returns-in_err-push-clause-err c =
     let lists = c.self.inside.lists.items in
     let same = written_back lists c.shard_of-shard.result c.index_mut.result.now c.push.new.self (slice_get_read lists 8 c.shard_of-shard.result c.index_mut.result.now (sym c.self.invariant) c.shard_of-shard.ensures.below c.index_mut.ensures.value)
-        c.in_err-push.ensures.err.1 ∙ c.self.view_is in
+    c.in_err-push.ensures.err.1 ∙ c.self.view_is in
     on_err c.from_residual.result same
 
 pub returns-clause-ok : goal.returns-clause-ok
