@@ -9,13 +9,16 @@ use Rattle.flake_base.specs.declared.session.End.TheVariants.{Clean, Protocol, T
 use Rattle.flake_model.specs.Resp.{Words, judged_bytes, IsClean, IsTruncated, IsFaulty, Parses, stream}
 use Rattle.flake_model.specs.Command.{Command, fault, command_of}
 use Rattle.flake_model.specs.Run.{protocol_error, commands_in, IsSession}
+use Rattle.flake_base.specs.declared.session.SessionEnd.{SessionEnd}
+use Rattle.flake_model.proofs.OneParse.{goes_on}
+use Rattle.flake_model.proofs.SomeParse.{some_parse}
 use Rattle.flake_model.proofs.Streams.{requests_fit}
 use Rattle.resp_reader.specs.declared.error.ReadError.{ReadError}
 use Rattle.resp_reader.specs.declared.error.ReadError.TheVariants.{BadCount, ExpectedBulk, BadLength, Inline}
 use Rattle.resp_reader.specs.declared.error.ReadError.TheVariants as errors
 use Rattle.resp_reader.specs.Reader.{Progress, Reads, IsReadTo, IsTaken as IsJudged, end_of}
 use Rattle.flake_program.specs.Given.{Gave}
-use Rattle.flake_program.specs.Pump.{BeginsWith, IsWhole, AreRead, IsEnded, IsAt, IsPump, PumpState, HasEnded, EndFaults, FaultsSo, ended_at, taken_by, stage_after}
+use Rattle.flake_program.specs.Pump.{BeginsWith, IsWhole, AreRead, AreFirst, IsEnded, IsAt, IsPump, PumpState, HasEnded, EndFaults, FaultsSo, ended_at, taken_by, stage_after}
 use Rattle.flake_program.specs.declared.pump.Stage.{Stage}
 use Rattle.flake_program.specs.declared.pump.Stage.TheVariants.{Reading, Refused, Ended}
 
@@ -66,6 +69,7 @@ read_so_far bytes requests place [] read = record {
   shown = Clean;
   parsed = (read.judged, record { elements = read.elements; allowed = read.allowed; bytes_are = read.bytes_are ∙ append-nil (stream read.elements); requests_are = read.requests_are });
   no_error = λ all. refl;
+  whole = inl refl;
 }
 read_so_far bytes requests place (b ∷ front) read = record {
   shown = Truncated place;
@@ -83,6 +87,7 @@ read_so_far bytes requests place (b ∷ front) read = record {
     },
   );
   no_error = λ all. refl;
+  whole = inr (place, refl);
 }
 
 -- what an open reader was fed is whole requests, and perhaps the front of one
@@ -151,23 +156,6 @@ at_fault input before given pump left faults is none rose p =
       at = (begins input pump.left r.bytes r.gave, open_are_read r.bytes r.requests pump.reader r.closed r.reads, none, r.given_is);
     }
 
--- want of memory in the reader, which is as it was
-pub at_memory : (input : Option (List ℕ)) (before : ℕ) (given : List Command) (pump : PumpState) (left : Option (List ℕ)) (faults : ℕ) (reader : Progress) → pump.stage ≡ Reading → faults ≡ pump.faults
-    → reader ≡ pump.reader → IsPump input before given pump → IsPump input before given (record { left = left; faults = faults; reader = reader; stage = Ended Memory; taken = pump.taken })
-at_memory input before given pump left faults reader is quiet same p =
-    let r = while_reading input before given pump is p in
-    record {
-      bytes = r.bytes;
-      requests = r.requests;
-      taken_is = r.taken_is;
-      faults_are = quiet ∙ r.faults_are;
-      at = (
-        begins input pump.left r.bytes r.gave,
-        subst (λ (n : Progress). AreRead r.bytes (r.requests ++ n.requests)) (sym same) (open_are_read r.bytes r.requests pump.reader r.closed r.reads),
-        r.given_is,
-      );
-    }
-
 -- the end of the input
 ends_so : (end : End) (input : Option (List ℕ)) (bytes : List ℕ) (requests : List Words) (given : List Command) (reader : Progress) → (end ≡ Clean) ⊎ ((place : ℕ) × (end ≡ Truncated place))
     → IsWhole input bytes → Parses bytes (requests ++ reader.requests) end → given ≡ map command_of requests → (before : ℕ) → (EndFaults end before before) × IsEnded end input bytes requests given reader
@@ -208,6 +196,32 @@ at_piece input before given pump left faults n reader room piece is same takes i
       at = (gave_more input pump.left left r.bytes piece room n r.gave takes is_piece, fed r.bytes r.requests r.reads, still, r.given_is);
     }
 
+-- what a piece more means, of which the reader holds nothing
+first_of : (bytes piece : List ℕ) (requests : List Words) → AreRead bytes requests → AreFirst (bytes ++ piece) requests
+first_of bytes piece requests read =
+    let some = some_parse (bytes ++ piece) in
+    let more = goes_on bytes piece requests some.0 read.shown some.1 read.whole read.parsed some.2 in
+    record { all = some.0; shown = some.1; parsed = some.2; rest = more.0; all_are = more.1 }
+
+-- want of memory in the reader, which is as it was
+at_memory : (input : Option (List ℕ)) (before : ℕ) (given : List Command) (pump : PumpState) (left : Option (List ℕ)) (faults n : ℕ) (reader : Progress) (room piece : List ℕ) → pump.stage ≡ Reading
+    → faults ≡ pump.faults → Takes pump.left left n room → piece ≡ take n room → length piece ≡ n → reader ≡ pump.reader → IsPump input before given pump
+    → IsPump input before given (record { left = left; faults = faults; reader = reader; stage = Ended Memory; taken = pump.taken + n })
+at_memory input before given pump left faults n reader room piece is quiet takes is_piece count same p =
+    let r = while_reading input before given pump is p in
+    record {
+      bytes = r.bytes ++ piece;
+      requests = r.requests;
+      taken_is = omega (arith, r.taken_is, length-append r.bytes piece, count);
+      faults_are = quiet ∙ r.faults_are;
+      at = (
+        begins input left (r.bytes ++ piece) (gave_more input pump.left left r.bytes piece room n r.gave takes is_piece),
+        first_of r.bytes piece (r.requests ++ reader.requests)
+            (subst (λ (n : Progress). AreRead r.bytes (r.requests ++ n.requests)) (sym same) (open_are_read r.bytes r.requests pump.reader r.closed r.reads)),
+        r.given_is,
+      );
+    }
+
 stops_so : (error : ReadError) (input left : Option (List ℕ)) (bytes : List ℕ) (requests : List Words) (given : List Command) (reader : Progress) (before : ℕ) → BeginsWith input bytes
     → IsJudged error × Parses bytes (requests ++ reader.requests) (end_of error) → given ≡ map command_of requests
     → FaultsSo (stage_after error) before before × IsAt (stage_after error) input left bytes requests given reader
@@ -219,7 +233,7 @@ stops_so (errors.TooLong taken) input left bytes requests given reader before fr
 stops_so errors.Memory input left bytes requests given reader before front parsed is = absurd parsed.0
 
 -- a piece that the reader refused
-pub at_error : (input : Option (List ℕ)) (before : ℕ) (given : List Command) (pump : PumpState) (left : Option (List ℕ)) (faults n : ℕ) (reader : Progress) (error : ReadError) (room piece : List ℕ) → pump.stage ≡ Reading
+at_error : (input : Option (List ℕ)) (before : ℕ) (given : List Command) (pump : PumpState) (left : Option (List ℕ)) (faults n : ℕ) (reader : Progress) (error : ReadError) (room piece : List ℕ) → pump.stage ≡ Reading
     → faults ≡ pump.faults → Takes pump.left left n room → piece ≡ take n room → length piece ≡ n → reader.closed ≡ Some error
     → ((bytes : List ℕ) (given : List Words) → Reads bytes given pump.reader → Reads (bytes ++ piece) given reader) → IsPump input before given pump
     → IsPump input before given (record { left = left; faults = faults; reader = reader; stage = stage_after error; taken = pump.taken + n })
@@ -234,6 +248,24 @@ at_error input before given pump left faults n reader error room piece is same t
       faults_are = subst (λ m. FaultsSo (stage_after error) before m) (sym (same ∙ r.faults_are)) so.0;
       at = so.1;
     }
+
+-- an error of any kind
+pub at_stop : (input : Option (List ℕ)) (before : ℕ) (given : List Command) (pump : PumpState) (left : Option (List ℕ)) (faults n : ℕ) (reader : Progress) (error : ReadError) (room piece : List ℕ) → pump.stage ≡ Reading
+    → faults ≡ pump.faults → Takes pump.left left n room → piece ≡ take n room → length piece ≡ n → (error ≢ errors.Memory → reader.closed ≡ Some error)
+    → (error ≢ errors.Memory → (bytes : List ℕ) (given : List Words) → Reads bytes given pump.reader → Reads (bytes ++ piece) given reader) → (error ≡ errors.Memory → reader ≡ pump.reader)
+    → IsPump input before given pump → IsPump input before given (record { left = left; faults = faults; reader = reader; stage = stage_after error; taken = pump.taken + n })
+at_stop input before given pump left faults n reader (BadCount place) room piece is quiet takes is_piece count closed fed same p =
+    at_error input before given pump left faults n reader (BadCount place) room piece is quiet takes is_piece count (closed (λ e. cc e)) (fed (λ e. cc e)) p
+at_stop input before given pump left faults n reader (ExpectedBulk place) room piece is quiet takes is_piece count closed fed same p =
+    at_error input before given pump left faults n reader (ExpectedBulk place) room piece is quiet takes is_piece count (closed (λ e. cc e)) (fed (λ e. cc e)) p
+at_stop input before given pump left faults n reader (BadLength place) room piece is quiet takes is_piece count closed fed same p =
+    at_error input before given pump left faults n reader (BadLength place) room piece is quiet takes is_piece count (closed (λ e. cc e)) (fed (λ e. cc e)) p
+at_stop input before given pump left faults n reader (Inline place) room piece is quiet takes is_piece count closed fed same p =
+    at_error input before given pump left faults n reader (Inline place) room piece is quiet takes is_piece count (closed (λ e. cc e)) (fed (λ e. cc e)) p
+at_stop input before given pump left faults n reader (errors.TooLong taken) room piece is quiet takes is_piece count closed fed same p =
+    at_error input before given pump left faults n reader (errors.TooLong taken) room piece is quiet takes is_piece count (closed (λ e. cc e)) (fed (λ e. cc e)) p
+at_stop input before given pump left faults n reader errors.Memory room piece is quiet takes is_piece count closed fed same p =
+    at_memory input before given pump left faults n reader room piece is quiet takes is_piece count (same refl) p
 
 -- how many reads a pump can still make
 abbrev pub reads_left : PumpState → ℕ
@@ -272,7 +304,7 @@ took_last TooLong input bytes requests given reader new request is at =
     (at.0, subst (λ r. Parses bytes r TooLong) (one_more requests reader.requests new.requests request is) at.1, given_more given requests request at.2)
 took_last ReadFault input bytes requests given reader new request is at = absurd (cc (is, at.2))
 took_last Memory input bytes requests given reader new request is at =
-    (at.0, subst (AreRead bytes) (one_more requests reader.requests new.requests request is) at.1, given_more given requests request at.2)
+    (at.0, subst (AreFirst bytes) (one_more requests reader.requests new.requests request is) at.1, given_more given requests request at.2)
 took_last Left input bytes requests given reader new request is at = absurd at
 
 took : (stage : Stage) (input left : Option (List ℕ)) (bytes : List ℕ) (requests : List Words) (given : List Command) (reader new : Progress) (request : Words) → reader.requests ≡ request ∷ new.requests
@@ -349,10 +381,28 @@ error_place bytes requests kind place faulty =
 front_of_all : (all bytes : List ℕ) (taken : ℕ) (rest : List ℕ) → taken ≡ length bytes → all ≡ bytes ++ rest → take taken all ≡ bytes
 front_of_all all bytes taken rest count is = ap (λ n. take n all) count ∙ ap (take (length bytes)) is ∙ take-append_seam bytes rest
 
+-- the first requests of an input make its first commands
+commands_first : (all requests rest : List Words) (shown : End) → all ≡ requests ++ rest → (more : List Command) × (commands_in all shown ≡ map command_of requests ++ more)
+commands_first all requests rest Clean is = (map command_of rest, ap (map command_of) is ∙ map-append command_of requests rest)
+commands_first all requests rest (Protocol kind place) is = (
+  map command_of rest ++ fault (protocol_error kind) ∷ [],
+  ap (λ a. map command_of a ++ fault (protocol_error kind) ∷ []) is ∙ ap (λ c. c ++ fault (protocol_error kind) ∷ []) (map-append command_of requests rest)
+      ∙ append_assoc (map command_of requests) (map command_of rest) (fault (protocol_error kind) ∷ []),
+)
+commands_first all requests rest (Truncated place) is = (map command_of rest, ap (map command_of) is ∙ map-append command_of requests rest)
+commands_first all requests rest TooLong is = (map command_of rest, ap (map command_of) is ∙ map-append command_of requests rest)
+commands_first all requests rest ReadFault is = (map command_of rest, ap (map command_of) is ∙ map-append command_of requests rest)
+commands_first all requests rest Memory is = (map command_of rest, ap (map command_of) is ∙ map-append command_of requests rest)
+commands_first all requests rest Left is = (map command_of rest, ap (map command_of) is ∙ map-append command_of requests rest)
+
+-- no command is behind those that were given
+alone : (all : List ℕ) (given : List Command) (end : Bool → SessionEnd) → ((failed : Bool) → IsSession all given (end failed)) → (more : List Command) × ((failed : Bool) → IsSession all (given ++ more) (end failed))
+alone all given end session = ([], λ failed. subst (λ c. IsSession all c (end failed)) (sym (append-nil given)) (session failed))
+
 -- the session of an input that is told, by its end
-session_of : (end : End) (all bytes : List ℕ) (requests : List Words) (given : List Command) (reader : Progress) (taken : ℕ) (failed : Bool) → taken ≡ length bytes → reader.requests ≡ []
-    → IsEnded end (Some all) bytes requests given reader → IsSession all given (ended_at end (taken_by end taken) (length given) failed)
-session_of Clean all bytes requests given reader taken failed count none at = record {
+session_of : (end : End) (all bytes : List ℕ) (requests : List Words) (given : List Command) (reader : Progress) (taken : ℕ) → taken ≡ length bytes → reader.requests ≡ []
+    → IsEnded end (Some all) bytes requests given reader → (more : List Command) × ((failed : Bool) → IsSession all (given ++ more) (ended_at end (taken_by end taken) (length given) failed))
+session_of Clean all bytes requests given reader taken count none at = alone all given _ (λ failed. record {
   requests = requests;
   shown = Clean;
   parsed = subst (λ b. Parses b requests Clean) (sym at.0) (subst (λ r. Parses bytes r Clean) (ap (λ m. requests ++ m) none ∙ append-nil requests) at.1);
@@ -360,8 +410,8 @@ session_of Clean all bytes requests given reader taken failed count none at = re
   commands_are = at.2;
   taken_is = count ∙ ap length (sym at.0);
   served_is = refl;
-}
-session_of (Truncated place) all bytes requests given reader taken failed count none at = record {
+})
+session_of (Truncated place) all bytes requests given reader taken count none at = alone all given _ (λ failed. record {
   requests = requests;
   shown = Truncated place;
   parsed = subst (λ b. Parses b requests (Truncated place)) (sym at.0) (subst (λ r. Parses bytes r (Truncated place)) (ap (λ m. requests ++ m) none ∙ append-nil requests) at.1);
@@ -369,8 +419,8 @@ session_of (Truncated place) all bytes requests given reader taken failed count 
   commands_are = at.2;
   taken_is = count ∙ ap length (sym at.0);
   served_is = refl;
-}
-session_of (Protocol kind place) all bytes requests given reader taken failed count none at = record {
+})
+session_of (Protocol kind place) all bytes requests given reader taken count none at = alone all given _ (λ failed. record {
   requests = requests;
   shown = Protocol kind place;
   parsed = subst (λ b. Parses b requests (Protocol kind place)) (sym at.0.1) (error_stays bytes at.0.0 requests kind place at.1);
@@ -378,8 +428,8 @@ session_of (Protocol kind place) all bytes requests given reader taken failed co
   commands_are = at.3;
   taken_is = omega (arith, error_place bytes requests kind place at.1);
   served_is = refl;
-}
-session_of TooLong all bytes requests given reader taken failed count none at = record {
+})
+session_of TooLong all bytes requests given reader taken count none at = alone all given _ (λ failed. record {
   requests = requests;
   shown = TooLong;
   parsed = subst (λ b. Parses b requests TooLong) (sym at.0.1) (long_stays bytes at.0.0 requests (subst (λ r. Parses bytes r TooLong) (ap (λ m. requests ++ m) none ∙ append-nil requests) at.1));
@@ -387,10 +437,10 @@ session_of TooLong all bytes requests given reader taken failed count none at = 
   commands_are = at.2;
   taken_is = refl;
   served_is = refl;
-}
-session_of ReadFault all bytes requests given reader taken failed count none at =
+})
+session_of ReadFault all bytes requests given reader taken count none at =
     let read = subst (AreRead bytes) (ap (λ m. requests ++ m) none ∙ append-nil requests) at.1 in
-    record {
+    alone all given _ (λ failed. record {
       requests = requests;
       shown = read.shown;
       parsed = subst (λ b. Parses b requests read.shown) (sym (front_of_all all bytes taken at.0.0 count at.0.1)) read.parsed;
@@ -398,24 +448,29 @@ session_of ReadFault all bytes requests given reader taken failed count none at 
       commands_are = at.3 ∙ sym (read.no_error requests);
       taken_is = omega (arith, count, ap length at.0.1, length-append bytes at.0.0);
       served_is = refl;
-    }
-session_of Memory all bytes requests given reader taken failed count none at =
-    let read = subst (AreRead bytes) (ap (λ m. requests ++ m) none ∙ append-nil requests) at.1 in
-    record {
-      requests = requests;
-      shown = read.shown;
-      parsed = subst (λ b. Parses b requests read.shown) (sym (front_of_all all bytes taken at.0.0 count at.0.1)) read.parsed;
-      shown_is = tt;
-      commands_are = at.2 ∙ sym (read.no_error requests);
-      taken_is = omega (arith, count, ap length at.0.1, length-append bytes at.0.0);
-      served_is = omega arith;
-    }
-session_of Left all bytes requests given reader taken failed count none at = absurd at
+    })
+session_of Memory all bytes requests given reader taken count none at =
+    let first = subst (AreFirst bytes) (ap (λ m. requests ++ m) none ∙ append-nil requests) at.1 in
+    let more = commands_first first.all requests first.rest first.shown first.all_are in
+    let commands_are : given ++ more.0 ≡ commands_in first.all first.shown = ap (λ g. g ++ more.0) at.2 ∙ sym more.1 in
+    (
+      more.0,
+      λ failed. record {
+        requests = first.all;
+        shown = first.shown;
+        parsed = subst (λ b. Parses b first.all first.shown) (sym (front_of_all all bytes taken at.0.0 count at.0.1)) first.parsed;
+        shown_is = tt;
+        commands_are = commands_are;
+        taken_is = omega (arith, count, ap length at.0.1, length-append bytes at.0.0);
+        served_is = omega (arith, length-append given more.0);
+      },
+    )
+session_of Left all bytes requests given reader taken count none at = absurd at
 
 on_input : (input : Option (List ℕ)) (end : End) (bytes : List ℕ) (requests : List Words) (given : List Command) (reader : Progress) (taken : ℕ) → taken ≡ length bytes → reader.requests ≡ []
-    → IsEnded end input bytes requests given reader → IfSome input (λ all. (failed : Bool) → IsSession all given (ended_at end (taken_by end taken) (length given) failed))
+    → IsEnded end input bytes requests given reader → IfSome input (λ all. (more : List Command) × ((failed : Bool) → IsSession all (given ++ more) (ended_at end (taken_by end taken) (length given) failed)))
 on_input None end bytes requests given reader taken count none at = tt
-on_input (Some all) end bytes requests given reader taken count none at = λ failed. session_of end all bytes requests given reader taken failed count none at
+on_input (Some all) end bytes requests given reader taken count none at = session_of end all bytes requests given reader taken count none at
 
 -- all commands were given
 pub in_order : (input : Option (List ℕ)) (before : ℕ) (given : List Command) (pump : PumpState) (end : End) → pump.stage ≡ Ended end → IsPump input before given pump → end ≢ Left
@@ -427,7 +482,7 @@ at_last input before given pump end taken reader is none by p =
     let at = subst (λ s. IsAt s input pump.left p.bytes p.requests given pump.reader) is p.at in
     record {
       faults_are = subst (λ s. FaultsSo s before pump.faults) is p.faults_are;
-      on_input = subst (λ t. IfSome input (λ all. (failed : Bool) → IsSession all given (ended_at end t (length given) failed))) (sym by)
+      on_input = subst (λ t. IfSome input (λ all. (more : List Command) × ((failed : Bool) → IsSession all (given ++ more) (ended_at end t (length given) failed)))) (sym by)
           (on_input input end p.bytes p.requests given pump.reader pump.taken p.taken_is none at);
     }
 
@@ -519,7 +574,20 @@ meant_at (Ended TooLong) input left bytes requests given reader taken count at =
   commands_are = all_of given requests reader.requests at.2;
 }
 meant_at (Ended ReadFault) input left bytes requests given reader taken count at = meant_read input given taken bytes requests reader.requests count at.0 at.1 at.3
-meant_at (Ended Memory) input left bytes requests given reader taken count at = meant_read input given taken bytes requests reader.requests count at.0 at.1 at.2
+meant_at (Ended Memory) input left bytes requests given reader taken count at =
+    let first = at.1 in
+    let all_are : first.all ≡ requests ++ (reader.requests ++ first.rest) = first.all_are ∙ append_assoc requests reader.requests first.rest in
+    let more = commands_first first.all requests (reader.requests ++ first.rest) first.shown all_are in
+    record {
+      bytes = bytes;
+      requests = first.all;
+      shown = first.shown;
+      more = more.0;
+      taken_is = count;
+      begun = at.0;
+      parsed = first.parsed;
+      commands_are = more.1 ∙ ap (λ g. g ++ more.0) (sym at.2);
+    }
 meant_at (Ended Left) input left bytes requests given reader taken count at = absurd at
 
 pub meant : (input : Option (List ℕ)) (before : ℕ) (given : List Command) (pump : PumpState) → IsPump input before given pump → Meant input given pump.taken

@@ -90,39 +90,35 @@ next_is : (given : List Command) (command : Command) (more : List Command) → n
 next_is [] command more = append-nil (parts command)
 next_is (first ∷ given) command more = next_is given command more
 
-none_behind : (given : List Command) → next_parts (length given) given ≡ []
-none_behind [] = refl
-none_behind (first ∷ given) = none_behind given
-
-not_cut : (end : End) → IsCut end 0 0
-not_cut Clean = refl
-not_cut (Protocol kind place) = refl
-not_cut (Truncated place) = refl
-not_cut TooLong = refl
-not_cut ReadFault = refl
-not_cut Memory = inl refl
-not_cut Left = refl
+not_cut : (end : End) (n : ℕ) → IsCut end 0 n
+not_cut Clean n = refl
+not_cut (Protocol kind place) n = refl
+not_cut (Truncated place) n = refl
+not_cut TooLong n = refl
+not_cut ReadFault n = refl
+not_cut Memory n = inl refl
+not_cut Left n = refl
 
 -- a session that ran all that its pump gave
-entered_all : (all : List ℕ) (given : List Command) (end : End) (taken : ℕ) (journal : List (List Entry)) → ((failed : Bool) → IsSession all given (ended_at end taken (length given) failed))
+entered_all : (all : List ℕ) (given more : List Command) (end : End) (taken : ℕ) (journal : List (List Entry)) → ((failed : Bool) → IsSession all (given ++ more) (ended_at end taken (length given) failed))
     → IsSharded (session_steps 0 0 given) journal → HasEntered all given end taken journal
-entered_all all given end taken journal session sharded =
-    let whole : take (length given) given ≡ given = take_all (length given) given (omega arith) in
-    let none : next_parts (length given) given ≡ [] = none_behind given in
-    let steps : ran_steps 0 given (length given) 0 ≡ session_steps 0 0 given = append-nil (session_steps 0 0 (take (length given) given)) ∙ ap (session_steps 0 0) whole in
+entered_all all given more end taken journal session sharded =
+    let front : take (length given) (given ++ more) ≡ given = take-append_seam given more in
+    let steps : ran_steps 0 (given ++ more) (length given) 0 ≡ session_steps 0 0 given = append-nil (session_steps 0 0 (take (length given) (given ++ more))) ∙ ap (session_steps 0 0) front in
     record {
-      commands = given;
+      commands = given ++ more;
       cut = 0;
-      first = whole;
+      first = front;
       session = session;
-      cut_is = subst (λ (ps : List Operation). IsCut end 0 (length ps)) (sym none) (not_cut end);
+      cut_is = not_cut end (length (next_parts (length given) (given ++ more)));
       sharded = subst (λ s. IsSharded s journal) (sym steps) sharded;
     }
 
-on_all : (input : Option (List ℕ)) (given : List Command) (end : End) (taken : ℕ) (journal : List (List Entry)) → IfSome input (λ all. (failed : Bool) → IsSession all given (ended_at end taken (length given) failed))
-    → IsSharded (session_steps 0 0 given) journal → IfSome input (λ all. HasEntered all given end taken journal)
+on_all : (input : Option (List ℕ)) (given : List Command) (end : End) (taken : ℕ) (journal : List (List Entry))
+    → IfSome input (λ all. (more : List Command) × ((failed : Bool) → IsSession all (given ++ more) (ended_at end taken (length given) failed))) → IsSharded (session_steps 0 0 given) journal
+    → IfSome input (λ all. HasEntered all given end taken journal)
 on_all None given end taken journal ended sharded = tt
-on_all (Some all) given end taken journal ended sharded = entered_all all given end taken journal ended sharded
+on_all (Some all) given end taken journal ended sharded = entered_all all given ended.0 end taken journal ended.1 sharded
 
 pub ended_so : (input : Option (List ℕ)) (before : ℕ) (given : List Command) (pump : PumpState) (end : End) (journal : List (List Entry)) → HasEnded input before given end pump × (end ≢ Left)
     → IsSharded (session_steps 0 0 given) journal → HasStopped input before given end pump journal

@@ -1,5 +1,5 @@
 -- A pump: what its source gave, and which commands it has given of that.
-use Rattle.std.specs.Prelude.{◌≡◌, ℕ, ◌+◌, ◌-◌, ◌^◌, ◌≤◌, min, Bool, List, [], ◌∷◌, ◌++◌, Option, None, IfSome, length, map}
+use Rattle.std.specs.Prelude.{◌≡◌, ◌⊎◌, ℕ, ◌+◌, ◌-◌, ◌^◌, ◌≤◌, min, Bool, List, [], ◌∷◌, ◌++◌, Option, None, IfSome, length, map}
 use Rattle.flake_base.specs.Causes.{Rose}
 use Rattle.flake_base.specs.declared.session.End.{End}
 use Rattle.flake_base.specs.declared.session.End.TheVariants.{Clean, Protocol, Truncated, TooLong, ReadFault, Memory, Left}
@@ -73,6 +73,15 @@ pub record AreRead (bytes : List ℕ) (requests : List Words) : Type 0 where
   pub shown : End
   pub parsed : Parses bytes requests shown
   pub no_error : (all : List Words) → commands_in all shown ≡ map command_of all
+  pub whole : (shown ≡ Clean) ⊎ ((place : ℕ) × (shown ≡ Truncated place))
+
+-- the bytes mean something, and these are the first of their requests
+pub record AreFirst (bytes : List ℕ) (requests : List Words) : Type 0 where
+  pub all : List Words
+  pub shown : End
+  pub parsed : Parses bytes all shown
+  pub rest : List Words
+  pub all_are : all ≡ requests ++ rest
 
 -- What the bytes of an ended input mean: the requests that were given and those that are still to be given are theirs.
 abbrev pub IsEnded : End → Option (List ℕ) → List ℕ → List Words → List Command → Progress → Type 0
@@ -84,7 +93,7 @@ IsEnded (Truncated place) input bytes requests given reader =
 IsEnded TooLong input bytes requests given reader = BeginsWith input bytes × Parses bytes (requests ++ reader.requests) TooLong × (given ≡ map command_of requests)
 IsEnded ReadFault input bytes requests given reader =
     BeginsWith input bytes × AreRead bytes (requests ++ reader.requests) × (reader.requests ≡ []) × (given ≡ map command_of requests)
-IsEnded Memory input bytes requests given reader = BeginsWith input bytes × AreRead bytes (requests ++ reader.requests) × (given ≡ map command_of requests)
+IsEnded Memory input bytes requests given reader = BeginsWith input bytes × AreFirst bytes (requests ++ reader.requests) × (given ≡ map command_of requests)
 IsEnded Left input bytes requests given reader = ⊥
 
 abbrev pub IsAt : Stage → Option (List ℕ) → Option (List ℕ) → List ℕ → List Words → List Command → Progress → Type 0
@@ -105,6 +114,7 @@ pub record IsPump (input : Option (List ℕ)) (before : ℕ) (given : List Comma
 abbrev pub ended_at : End → ℕ → ℕ → Bool → SessionEnd
 ended_at end taken replies failed = record { end = end; taken = taken; replies = replies; failed = failed }
 
+-- Of an input, these commands were given, and it ended so; where memory was wanting there may be more.
 pub record HasEnded (input : Option (List ℕ)) (before : ℕ) (given : List Command) (end : End) (pump : PumpState) : Type 0 where
   pub faults_are : EndFaults end before pump.faults
-  pub on_input : IfSome input (λ all. (failed : Bool) → IsSession all given (ended_at end pump.taken (length given) failed))
+  pub on_input : IfSome input (λ all. (more : List Command) × ((failed : Bool) → IsSession all (given ++ more) (ended_at end pump.taken (length given) failed)))

@@ -1,5 +1,5 @@
 // Commands from a source.
-ghost use Rattle.std.specs.Prelude.{◌≡◌, ◌≢◌, ◌<◌, ◌⊎◌, ◌++◌, ◌∷◌, [], List, ℕ, Option, None, true, false, IfOk, IfErr, Err};
+ghost use Rattle.std.specs.Prelude.{◌≡◌, ◌≢◌, ◌<◌, ◌⊎◌, ◌++◌, ◌∷◌, [], List, ℕ, Option, None, IfOk, IfErr, Err};
 ghost use Rattle.flake_model.specs.Command.{Command as Meaning};
 ghost use Rattle.flake_model.specs.Resp.{Words, Parses};
 ghost use Rattle.flake_model.specs.Run.{protocol_error};
@@ -76,13 +76,6 @@ fn stopped(error: ReadError) -> Stage
         ReadError::TooLong { .. } => Stage::Ended(End::TooLong),
         ReadError::Memory => Stage::Ended(End::Memory),
     }
-}
-
-fn is_memory(error: ReadError) -> bool
-    ensures yes { result ≡ true → error ≡ ReadError.Memory }
-    ensures no { result ≡ false → error ≢ ReadError.Memory }
-{
-    matches!(error, ReadError::Memory)
 }
 
 // How many bytes a session took that ended so, of those that the source gave.
@@ -168,9 +161,6 @@ impl<S: Source> Pump<S> {
         }
         if let Err(error) = self.reader.feed(&room[..count]) {
             self.stage = stopped(error);
-            if is_memory(error) {
-                return;
-            }
         }
         self.taken += count as u64;
     }
