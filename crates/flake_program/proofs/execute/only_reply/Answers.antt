@@ -1,4 +1,4 @@
-use Rattle.std.proofs.Common.{◌≡◌, Some, map, ap, sym, subst, ◌∙◌}
+use Rattle.std.proofs.Common.{Some, map, ap, sym, subst, ◌∙◌}
 use Rattle.flake_model.specs.Command.{parts}
 use Rattle.flake_model.specs.Reply.{reply_to, only}
 use Rattle.flake_model.specs.OneThread.{answers_to, after_all}

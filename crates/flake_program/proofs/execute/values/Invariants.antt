@@ -1,7 +1,7 @@
-use Rattle.std.proofs.Common.{◌≡◌, ◌≤◌, Some, map, take, count_by}
+use Rattle.std.proofs.Common.{◌≡◌, Some, map, take}
 use Rattle.flake_model.specs.Store.{Store}
 use Rattle.flake_model.specs.Command.{parts}
-use Rattle.flake_model.specs.Reply.{item_of, is_yes}
+use Rattle.flake_model.specs.Reply.{item_of}
 use Rattle.flake_model.specs.OneThread.{answers_to, after_all}
 use Rattle.resp_text.specs.Meaning.{item_meaning}
 use Rattle.flake_program.specs.Store.{Holds}
