@@ -452,8 +452,7 @@ session_of ReadFault all bytes requests given reader taken count none at =
 session_of Memory all bytes requests given reader taken count none at =
     let first = subst (AreFirst bytes) (ap (λ m. requests ++ m) none ∙ append-nil requests) at.1 in
     let more = commands_first first.all requests first.rest first.shown first.all_are in
-    let commands_are : given ++ more.0 ≡ commands_in first.all first.shown = ap (λ g. g ++ more.0) at.2 ∙ sym more.1 in
-    (
+    let commands_are : given ++ more.0 ≡ commands_in first.all first.shown = ap (λ g. g ++ more.0) at.2 ∙ sym more.1 in (
       more.0,
       λ failed. record {
         requests = first.all;

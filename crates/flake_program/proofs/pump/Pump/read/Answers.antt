@@ -1,7 +1,7 @@
-use Rattle.std.proofs.Common.{refl, ap, sym, ◌∙◌, ◌≡◌, ◌+◌, subst, take}
+use Rattle.std.proofs.Common.{refl, ap, sym, ◌∙◌, ◌+◌, subst, take}
 use Rattle.std.proofs.lemmas.List.{length-take-le}
 use Rattle.flake_program.specs.Pump.{IsPump, PumpState}
-use Rattle.flake_program.proofs.Pumped.{at_fault, at_end, at_piece, at_stop}
+use Rattle.flake_program.proofs.Pumped.{at_fault, at_piece, at_stop}
 use Rattle.flake_program.proofs.pump.Pump.read.Goals.{in-Err, in_default-feed}
 use Rattle.flake_program.proofs.pump.Pump.read.Goals as goal
 
