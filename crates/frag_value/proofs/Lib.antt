@@ -1,6 +1,7 @@
 pub mod Sames
 pub mod Lists
 pub mod Words
+pub mod Parts
 pub mod Fronts
 pub mod Unmarked
 pub mod Hands

@@ -7,8 +7,9 @@ ghost use Rattle.frag_value.specs.Changes.{IsAppended, IsReleased, WhyUnappended
 use crate::error::{AppendError, PlaceError};
 use crate::filling::FULL;
 use crate::frag::Value;
-use crate::placing::write;
-use crate::read::read_before;
+use crate::placing::write_text;
+use crate::read::read_frag;
+use crate::text::Text;
 use flake_base::Memory;
 use pinned_pool::{Pool, PoolName, PoolSeat};
 use std::alloc::Global;
@@ -16,25 +17,25 @@ use std::alloc::Global;
 /// A value has at most so many bytes.
 const LIMIT: u64 = 16_384;
 
-// The bytes of the value's partial fragment, and these behind them.
-fn text_behind<N: PoolName>(
+// The bytes of the value's partial fragment; none where each of its fragments is full.
+fn partial_bytes<N: PoolName>(
     alloc: Global,
     pool: &Pool<N>,
     seat: &mut PoolSeat<N>,
     value: &Value<N>,
-    bytes: &[u8],
 ) -> Result<Vec<u8>, Memory>
-    requires value { HasValue seat.old.holds value.now }
-    requires partial { 0 < size_of value.now % 4096 }
-    requires few { length bytes.now ≤ 16384 }
-    ensures text { IfOk result (λ t. t.items ≡ value_bytes seat.old.holds (partial_of value.now) ++ bytes.now) }
+    requires { HasValue seat.old.holds value.now }
+    ensures bytes { IfOk result (λ tail. tail.items ≡ value_bytes seat.old.holds (partial_of value.now)) }
     ensures seat { seat.new ≡ seat.old }
 {
     let partial = value.len() as usize % FULL;
-    let mut text = vec![in alloc; 0u8; partial + bytes.len()]?;
+    if partial == 0 {
+        return Ok(Vec::new(alloc));
+    }
+    let mut tail = vec![in alloc; 0u8; partial]?;
     let last = value.frag(value.count() - 1);
-    read_before(pool, seat, last, bytes, &mut text);
-    Ok(text)
+    read_frag(pool, seat, last, &mut tail);
+    Ok(tail)
 }
 
 // Writes the bytes anew that are behind the value's full fragments.
@@ -52,13 +53,11 @@ fn write_behind<N: PoolName>(
     ensures cause { IfErr result (λ e. WhyUnplaced N.sizes (anew seat.old.holds value.now bytes.now) e seat.old seat.new) }
     ensures claims { ClaimsFor N.sizes (anew seat.old.holds value.now bytes.now) seat.old seat.new }
 {
-    if value.len() % FULL as u64 == 0 {
-        return write(alloc, pool, seat, bytes);
-    }
-    let Ok(text) = text_behind(alloc, pool, seat, value, bytes) else {
+    value.is_value();
+    let Ok(tail) = partial_bytes(alloc, pool, seat, value) else {
         return Err(PlaceError::Memory);
     };
-    write(alloc, pool, seat, &text)
+    write_text(alloc, pool, seat, &Text::new(&tail, bytes))
 }
 
 // Gives the hold of the partial fragment back, where there is one.

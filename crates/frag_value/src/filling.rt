@@ -1,6 +1,5 @@
 //! Bytes go into buffers.
-ghost use Rattle.std.specs.Prelude.{◌≡◌, ℕ, ◌*◌, ◌<◌, ◌≤◌, [], length, take, vec_capacity, IfOk, IfErr};
-ghost use Rattle.std.specs.Int.{w64, to_le_bytes};
+ghost use Rattle.std.specs.Prelude.{◌≡◌, ℕ, ◌*◌, ◌<◌, ◌≤◌, [], length, vec_capacity, IfOk, IfErr};
 ghost use Rattle.view_sums.specs.Total.{total, Each};
 ghost use Rattle.pin_core.specs.Buffers.{room};
 ghost use Rattle.pin_core.specs.Holding.{Key, sole_at};
@@ -9,6 +8,7 @@ ghost use Rattle.frag_value.specs.Values.{size_of, keys_of, loose_key};
 ghost use Rattle.frag_value.specs.Filled.{Fills, FillsAll, AreReady, IsFor, cut_of};
 
 use crate::frag::{Frag, Value};
+use crate::text::Text;
 use flake_base::Memory;
 use pinned_pool::{Hold, Pool, PoolName, PoolSeat};
 use std::alloc::Global;
@@ -19,28 +19,17 @@ pub(crate) const FULL: usize = 4096;
 /// A value has at most so many fragments.
 pub(crate) const MOST: usize = 4;
 
-// The word that begins with up to 8 bytes.
-fn word_of(bytes: &[u8]) -> u64
-    requires { length bytes.now ≤ 8 }
-    ensures { take (length bytes.now) (to_le_bytes w64 result) ≡ bytes.now }
-{
-    let mut word = [0u8; 8];
-    word[..bytes.len()].copy_from_slice(bytes);
-    u64::from_le_bytes(word)
-}
-
 // Writes bytes from a buffer's first word on.
-fn fill_buffer<N: PoolName>(pool: &Pool<N>, seat: &mut PoolSeat<N>, hold: &Hold<N>, bytes: &[u8])
+fn fill_buffer<N: PoolName>(pool: &Pool<N>, seat: &mut PoolSeat<N>, hold: &Hold<N>, text: &Text<'_>)
     requires exclusive { 0 < total (sole_at hold.now.buffer) seat.old.holds }
-    requires fits { (0 < length bytes.now) × (length bytes.now ≤ 8 * room N.sizes hold.now.buffer) }
-    ensures { Fills hold.now.buffer bytes.now seat.old seat.new }
+    requires fits { (0 < length text.now) × (length text.now ≤ 8 * room N.sizes hold.now.buffer) }
+    ensures { Fills hold.now.buffer text.now seat.old seat.new }
 {
-    let count = bytes.len().div_ceil(8);
-    for k in 0..count {
+    let len = text.len();
+    for k in 0..len.div_ceil(8) {
         let from = 8 * k;
-        let to = bytes.len().min(from + 8);
-        let word = word_of(&bytes[from..to]);
-        pool.put_word(seat, hold, k as u32, word);
+        let to = len.min(from + 8);
+        pool.put_word(seat, hold, k as u32, text.part(from, to).word());
     }
 }
 
@@ -68,11 +57,11 @@ fn value_of<N: PoolName>(mut frags: Vec<Frag<N>>, holds: &[Hold<N>], len: usize)
 }
 
 // Writes each fragment's bytes.
-fn fill_each<N: PoolName>(pool: &Pool<N>, seat: &mut PoolSeat<N>, value: &Value<N>, bytes: &[u8])
-    requires size { size_of value.now ≡ length bytes.now }
+fn fill_each<N: PoolName>(pool: &Pool<N>, seat: &mut PoolSeat<N>, value: &Value<N>, text: &Text<'_>)
+    requires size { size_of value.now ≡ length text.now }
     requires held { HasHolds (keys_of value.now) seat.old.holds }
     requires exclusive { Each (λ (p : ℕ × ℕ). 0 < total (sole_at p.0) seat.old.holds) value.now }
-    ensures { FillsAll (keys_of value.now) bytes.now value.now seat.old seat.new }
+    ensures { FillsAll (keys_of value.now) text.now value.now seat.old seat.new }
 {
     seat.is_seat();
     value.is_value();
@@ -80,8 +69,28 @@ fn fill_each<N: PoolName>(pool: &Pool<N>, seat: &mut PoolSeat<N>, value: &Value<
         let frag = value.frag(i);
         let from = FULL * i;
         let to = from + frag.len as usize;
-        fill_buffer(pool, seat, &frag.hold, &bytes[from..to]);
+        fill_buffer(pool, seat, &frag.hold, &text.part(from, to));
     }
+}
+
+// Puts a text into the buffers of these holds, 4,096 bytes into each but the last. `Memory` comes before the first put.
+pub(crate) fn fill_text<N: PoolName>(
+    alloc: Global,
+    pool: &Pool<N>,
+    seat: &mut PoolSeat<N>,
+    holds: Vec<Hold<N>>,
+    text: &Text<'_>,
+) -> Result<Value<N>, (Memory, Vec<Hold<N>>)>
+    requires { AreReady N.sizes (length text.now) holds.items seat.old.holds }
+    ensures filled { IfOk result (λ v. FillsAll holds.items text.now v seat.old seat.new) }
+    ensures memory { IfErr result (λ e. (e.1.items ≡ holds.items) × (seat.new ≡ seat.old)) }
+{
+    let Ok(frags) = Vec::with_capacity(alloc, MOST) else {
+        return Err((Memory, holds));
+    };
+    let value = value_of(frags, &holds, text.len());
+    fill_each(pool, seat, &value, text);
+    Ok(value)
 }
 
 /// Puts bytes into the buffers of these holds, 4,096 into each but the last. `Memory` comes before the first put.
@@ -97,10 +106,5 @@ pub fn fill<N: PoolName>(
     ensures filled { IfOk result (λ v. FillsAll holds.items bytes.now v seat.old seat.new) }
     ensures memory { IfErr result (λ e. (e.1.items ≡ holds.items) × (seat.new ≡ seat.old)) }
 {
-    let Ok(frags) = Vec::with_capacity(alloc, MOST) else {
-        return Err((Memory, holds));
-    };
-    let value = value_of(frags, &holds, bytes.len());
-    fill_each(pool, seat, &value, bytes);
-    Ok(value)
+    fill_text(alloc, pool, seat, holds, &Text::new(bytes, &[]))
 }

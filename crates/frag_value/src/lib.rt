@@ -13,6 +13,7 @@ mod releasing;
 mod taker;
 #[cfg(test)]
 mod tests;
+mod text;
 
 pub use appending::append;
 pub use error::{AppendError, PlaceError};

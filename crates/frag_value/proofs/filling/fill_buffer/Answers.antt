@@ -23,10 +23,11 @@ put_word-requires-clause-index g c =
 
 pub loop-k-preserved : goal.loop-k-preserved
 loop-k-preserved g c =
-    let bytes = c.args.bytes.now in
+    let text = c.args.text.now in
     let k = c.loop-k.k in
-    let x = c.word_of-word.result in
+    let x = c.word.result in
     let m = c.min-to.result - 8 * k in
-    let len : length (take m (drop (8 * k) bytes)) ≡ m = omega (arith, length-take m (drop (8 * k) bytes), length-drop (8 * k) bytes, c.min-to.ensures) in
-    word_put c.args.hold.now.buffer x k m bytes c.args.seat.now c.loop-k.seat c.put_word.new.seat c.loop-k.invariant c.put_word.ensures (omega arith) (omega (arith, c.min-to.ensures))
-    (ap (λ n. take n (to_le_bytes w64 x)) (sym len) ∙ c.word_of-word.ensures)
+    let long : length text ≡ c.len-len.result = sym c.len-len.ensures.size in
+    let len : length c.part.result ≡ m = omega (arith, ap length c.part.ensures, length-take m (drop (8 * k) text), length-drop (8 * k) text, c.min-to.ensures, long) in
+    word_put c.args.hold.now.buffer x k m text c.args.seat.now c.loop-k.seat c.put_word.new.seat c.loop-k.invariant c.put_word.ensures (omega (arith, long)) (omega (arith, c.min-to.ensures, long))
+    (ap (λ n. take n (to_le_bytes w64 x)) (sym len) ∙ c.word.ensures ∙ c.part.ensures)
