@@ -1,15 +1,16 @@
 -- What a pump comes to, step by step.
-use Rattle.std.proofs.Common.{◌≡◌, ◌≢◌, ℕ, ◌+◌, ◌-◌, ◌<◌, ◌≤◌, ◌⊎◌, inl, inr, zero, suc, Bool, List, [], ◌∷◌, ◌++◌, Option, Some, None, IfSome, MatchOption, length, map, take, drop, arith, refl, ap, sym, ◌∙◌, subst, append_assoc, append-nil}
-use Rattle.std.proofs.lemmas.List.{map-append, length-append, length-map, length-take, take-append-drop, take-append-le}
+use Rattle.std.proofs.Common.{◌≡◌, ◌≢◌, ℕ, ◌+◌, ◌-◌, ◌<◌, ◌≤◌, ◌⊎◌, inl, inr, Bool, List, [], ◌∷◌, ◌++◌, Option, Some, None, IfSome, MatchOption, length, map, take, drop, arith, refl, ap, sym, ◌∙◌, subst, append_assoc, append-nil}
+use Rattle.std.proofs.lemmas.List.{map-append, length-append, length-map, length-take, take-append-drop}
 use Rattle.std.proofs.Math.Seq.{take-append_seam}
 use Rattle.flake_base.specs.Causes.{Rose}
 use Rattle.flake_base.specs.Reads.{Reads as Takes}
 use Rattle.flake_base.specs.declared.session.End.{End}
 use Rattle.flake_base.specs.declared.session.End.TheVariants.{Clean, Protocol, Truncated, TooLong, ReadFault, Memory, Left}
-use Rattle.flake_model.specs.Resp.{Words, judged_bytes, IsClean, IsTruncated, IsFaulty, Parses, stream}
+use Rattle.flake_model.specs.Resp.{Words, judged_bytes, IsClean, IsTruncated, Parses, stream}
 use Rattle.flake_model.specs.Command.{Command, fault, command_of}
 use Rattle.flake_model.specs.Run.{protocol_error, commands_in, IsSession}
 use Rattle.flake_base.specs.declared.session.SessionEnd.{SessionEnd}
+use Rattle.flake_model.proofs.Faults.{error_stays, long_stays}
 use Rattle.flake_model.proofs.OneParse.{goes_on}
 use Rattle.flake_model.proofs.SomeParse.{some_parse}
 use Rattle.flake_model.proofs.Streams.{requests_fit}
@@ -21,40 +22,6 @@ use Rattle.flake_program.specs.Given.{Gave}
 use Rattle.flake_program.specs.Pump.{BeginsWith, IsWhole, AreRead, AreFirst, IsEnded, IsAt, IsPump, PumpState, HasEnded, EndFaults, FaultsSo, ended_at, taken_by, stage_after}
 use Rattle.flake_program.specs.declared.pump.Stage.{Stage}
 use Rattle.flake_program.specs.declared.pump.Stage.TheVariants.{Reading, Refused, Ended}
-
--- the first bytes of more are those of the first, and some behind them
-take_more : (n : ℕ) (bytes rest : List ℕ) → (more : List ℕ) × (take n (bytes ++ rest) ≡ take n bytes ++ more)
-take_more zero bytes rest = ([], refl)
-take_more (suc n) [] rest = (take (suc n) rest, refl)
-take_more (suc n) (b ∷ bytes) rest = let found = take_more n bytes rest in (found.0, ap (λ t. b ∷ t) found.1)
-
-faulty_more : (bytes more : List ℕ) (requests : List Words) (kind place : ℕ) → IsFaulty bytes requests kind place → IsFaulty (bytes ++ more) requests kind place
-faulty_more bytes more requests kind place faulty = record {
-  elements = faulty.elements;
-  front = faulty.front;
-  byte = faulty.byte;
-  more = faulty.more ++ more;
-  allowed = faulty.allowed;
-  begun = faulty.begun;
-  refused = faulty.refused;
-  bytes_are = ap (λ b. b ++ more) faulty.bytes_are ∙ append_assoc (stream faulty.elements ++ faulty.front) (faulty.byte ∷ faulty.more) more;
-  requests_are = faulty.requests_are;
-  place_is = faulty.place_is;
-  kind_is = faulty.kind_is;
-}
-
--- an error, and an input that is too long, stay so whatever comes behind
-pub error_stays : (bytes rest : List ℕ) (requests : List Words) (kind place : ℕ) → Parses bytes requests (Protocol kind place) → Parses (bytes ++ rest) requests (Protocol kind place)
-error_stays bytes rest requests kind place faulty =
-    let more = take_more judged_bytes bytes rest in
-    subst (λ b. IsFaulty b requests kind place) (sym more.1) (faulty_more (take judged_bytes bytes) more.0 requests kind place faulty)
-
-pub long_stays : (bytes rest : List ℕ) (requests : List Words) → Parses bytes requests TooLong → Parses (bytes ++ rest) requests TooLong
-long_stays bytes rest requests long =
-    let same = take-append-le judged_bytes bytes rest (omega (arith, long.0)) in (
-      omega (arith, long.0, length-append bytes rest),
-      subst (λ b. IsClean b requests ⊎ ((place : ℕ) × IsTruncated b requests place)) (sym same) long.1,
-    )
 
 opened : (bytes : List ℕ) (requests : List Words) (reader : Progress) → reader.closed ≡ None → Reads bytes requests reader → IsReadTo bytes (requests ++ reader.requests) reader.place reader.front
 opened bytes requests reader is reads =
