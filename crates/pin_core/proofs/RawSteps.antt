@@ -93,6 +93,12 @@ module _ {z : Sizes} {holds : List Hold} {words : List ℕ} {credits : List Hold
       let key : Key = record { buffer = b; pinned = pinned } in
       (owned_in z words f.item, find-map-some (is_key p key) (owned_in z words) f.item holds f.found)
 
+  -- the hold that is there is the holder's, and the rest are all others
+  there_held : {test : Hold → Bool} {p : Holder} {k : ℕ} {h : Hold} (there : IsThere test holds k h) → h.holder ≡ p → Adds (own p (owned_in z words h).hold) (map (owned_in z words) there.rest) old.holds
+  there_held {h = h} there is weight =
+      let view : Hold → Owned Holder = owned_in z words in
+      omega (arith, total-map weight view holds, total-map weight view there.rest, there.whole (λ (g : Hold). weight (view g)), ap (λ (q : Holder). weight (own q (view h).hold)) is)
+
   module _ {p : Holder} {b k : ℕ} {h : Hold} (held_at : IsHeld z holds p b k h) where
     open held_at use {near, there}
 
@@ -106,14 +112,7 @@ module _ {z : Sizes} {holds : List Hold} {words : List ℕ} {credits : List Hold
     one_found = find-map-some (is_at p b) view h holds there.found
 
     pub held : Adds (own p (view h).hold) (map view there.rest) old.holds
-    held weight =
-        omega (
-          arith,
-          total-map weight view holds,
-          total-map weight view there.rest,
-          there.whole (λ (g : Hold). weight (view g)),
-          ap (λ (q : Holder). weight (own q (view h).hold)) raw.holder_is,
-        )
+    held = there_held there raw.holder_is
 
     near_h : h.buffer < buffers z
     near_h = omega (arith, raw.buffer_is, near)
@@ -249,14 +248,7 @@ module _ {z : Sizes} {holds : List Hold} {words : List ℕ} {credits : List Hold
     key_found = find-map-some (is_key p key) view_of h holds there.found
 
     pub key_held : Adds (own p (view_of h).hold) (map view_of there.rest) old.holds
-    key_held weight =
-        omega (
-          arith,
-          total-map weight view_of holds,
-          total-map weight view_of there.rest,
-          there.whole (λ (g : Hold). weight (view_of g)),
-          ap (λ (q : Holder). weight (own q (view_of h).hold)) raw_of_key.holder_is,
-        )
+    key_held = there_held there raw_of_key.holder_is
 
     is_meant : IsMeant key (view_of h).hold
     is_meant = record { of_buffer = raw_of_key.buffer_is; as_pinned = raw_of_key.pinned_is }
