@@ -18,6 +18,7 @@ use Rattle.resp_reader.specs.declared.error.ReadError.{ReadError}
 use Rattle.resp_reader.specs.declared.error.ReadError.TheVariants.{BadCount, ExpectedBulk, BadLength, Inline}
 use Rattle.resp_reader.specs.declared.error.ReadError.TheVariants as errors
 use Rattle.resp_reader.specs.Reader.{Progress, Reads, IsReadTo, IsTaken as IsJudged, end_of}
+use Rattle.resp_reader.proofs.Fed.{read_ends}
 use Rattle.flake_program.specs.Given.{Gave}
 use Rattle.flake_program.specs.Pump.{BeginsWith, IsWhole, AreRead, AreFirst, IsEnded, IsAt, IsPump, PumpState, HasEnded, EndFaults, FaultsSo, ended_at, taken_by, stage_after}
 use Rattle.flake_program.specs.declared.pump.Stage.{Stage}
@@ -32,30 +33,10 @@ closed_by bytes requests reader error is reads =
     subst (λ (c : Option ReadError). MatchOption c (IsReadTo bytes (requests ++ reader.requests) reader.place reader.front) (λ error. IsJudged error × Parses bytes (requests ++ reader.requests) (end_of error))) is reads
 
 read_so_far : (bytes : List ℕ) (requests : List Words) (place : ℕ) (front : List ℕ) → IsReadTo bytes requests place front → AreRead bytes requests
-read_so_far bytes requests place [] read = record {
-  shown = Clean;
-  parsed = (read.judged, record { elements = read.elements; allowed = read.allowed; bytes_are = read.bytes_are ∙ append-nil (stream read.elements); requests_are = read.requests_are });
-  no_error = λ all. refl;
-  whole = inl refl;
-}
-read_so_far bytes requests place (b ∷ front) read = record {
-  shown = Truncated place;
-  parsed = (
-    read.judged,
-    record {
-      elements = read.elements;
-      front = b ∷ front;
-      allowed = read.allowed;
-      begun = omega arith;
-      cut_short = read.cut_short;
-      bytes_are = read.bytes_are;
-      requests_are = read.requests_are;
-      place_is = read.place_is;
-    },
-  );
-  no_error = λ all. refl;
-  whole = inr (place, refl);
-}
+read_so_far bytes requests place front read = elim (read_ends bytes requests place front read) [
+  | inl whole ↦ record { shown = Clean; parsed = (read.judged, whole.1); no_error = λ all. refl; whole = inl refl }
+  | inr cut ↦ record { shown = Truncated place; parsed = (read.judged, cut.1); no_error = λ all. refl; whole = inr (place, refl) }
+]
 
 -- what an open reader was fed is whole requests, and perhaps the front of one
 pub open_are_read : (bytes : List ℕ) (requests : List Words) (reader : Progress) → reader.closed ≡ None → Reads bytes requests reader → AreRead bytes (requests ++ reader.requests)
