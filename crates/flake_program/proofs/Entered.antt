@@ -1,5 +1,5 @@
 -- The histories of the shards with one entry more.
-use Rattle.std.proofs.Common.{◌≡◌, ◌≢◌, ℕ, zero, suc, ◌+◌, ◌==◌, ◌⊎◌, ⊎_elim, inl, inr, Bool, true, false, cond, List, [], ◌∷◌, ◌++◌, Some, length, take, set, slice_get, replicate, arith, refl, ap, sym, ◌∙◌, subst, append_assoc, append-nil}
+use Rattle.std.proofs.Common.{◌≡◌, ◌≢◌, ℕ, zero, suc, ◌+◌, ◌==◌, ◌⊎◌, ⊎_elim, inl, inr, Bool, true, false, cond, List, [], ◌∷◌, ◌++◌, Some, length, take, set, slice_get, arith, refl, ap, sym, ◌∙◌, subst, append_assoc, append-nil}
 use Rattle.std.proofs.lemmas.List.{map-append, map-set, length-set, length-map}
 use Rattle.std.proofs.lemmas.List.Elements.{filter-append}
 use Rattle.std.proofs.lemmas.Option.{slice_get-map}
@@ -62,12 +62,6 @@ pub written_back : (lists : List (Roomy Entry)) (place : ℕ) (old new : Roomy E
 written_back [] place old new had same = absurd (cc (had))
 written_back (list ∷ lists) zero old new had same = cc
 written_back (list ∷ lists) (suc place) old new had same = ap (λ journal. list.items ∷ journal) (written_back lists place old new had same)
-
--- no entry is in any history
-pub none_entered : (n : ℕ) → IsSharded [] (replicate n [])
-none_entered zero shard history is = absurd (cc (is))
-none_entered (suc n) zero history is = cc
-none_entered (suc n) (suc shard) history is = none_entered n shard history is
 
 -- the parts with one more
 pub parts_more : (call from : ℕ) (operations : List Operation) (j : ℕ) (operation : Operation) → slice_get operations j ≡ Some operation

@@ -1,15 +1,16 @@
 -- What a pump comes to, step by step.
-use Rattle.std.proofs.Common.{◌≡◌, ◌≢◌, ℕ, ◌+◌, ◌-◌, ◌<◌, ◌≤◌, ◌⊎◌, inl, inr, zero, suc, Bool, List, [], ◌∷◌, ◌++◌, Option, Some, None, IfSome, MatchOption, length, map, take, drop, arith, refl, ap, sym, ◌∙◌, subst, append_assoc, append-nil}
-use Rattle.std.proofs.lemmas.List.{map-append, length-append, length-map, length-take, take-append-drop, take-append-le}
+use Rattle.std.proofs.Common.{◌≡◌, ◌≢◌, ℕ, ◌+◌, ◌-◌, ◌<◌, ◌≤◌, ◌⊎◌, inl, inr, Bool, List, [], ◌∷◌, ◌++◌, Option, Some, None, IfSome, MatchOption, length, map, take, drop, arith, refl, ap, sym, ◌∙◌, subst, append_assoc, append-nil}
+use Rattle.std.proofs.lemmas.List.{map-append, length-append, length-map, length-take, take-append-drop}
 use Rattle.std.proofs.Math.Seq.{take-append_seam}
 use Rattle.flake_base.specs.Causes.{Rose}
 use Rattle.flake_base.specs.Reads.{Reads as Takes}
 use Rattle.flake_base.specs.declared.session.End.{End}
 use Rattle.flake_base.specs.declared.session.End.TheVariants.{Clean, Protocol, Truncated, TooLong, ReadFault, Memory, Left}
-use Rattle.flake_model.specs.Resp.{Words, judged_bytes, IsClean, IsTruncated, IsFaulty, Parses, stream}
+use Rattle.flake_model.specs.Resp.{Words, judged_bytes, IsClean, IsTruncated, Parses, stream}
 use Rattle.flake_model.specs.Command.{Command, fault, command_of}
 use Rattle.flake_model.specs.Run.{protocol_error, commands_in, IsSession}
 use Rattle.flake_base.specs.declared.session.SessionEnd.{SessionEnd}
+use Rattle.flake_model.proofs.Faults.{error_stays, long_stays}
 use Rattle.flake_model.proofs.OneParse.{goes_on}
 use Rattle.flake_model.proofs.SomeParse.{some_parse}
 use Rattle.flake_model.proofs.Streams.{requests_fit}
@@ -17,44 +18,11 @@ use Rattle.resp_reader.specs.declared.error.ReadError.{ReadError}
 use Rattle.resp_reader.specs.declared.error.ReadError.TheVariants.{BadCount, ExpectedBulk, BadLength, Inline}
 use Rattle.resp_reader.specs.declared.error.ReadError.TheVariants as errors
 use Rattle.resp_reader.specs.Reader.{Progress, Reads, IsReadTo, IsTaken as IsJudged, end_of}
+use Rattle.resp_reader.proofs.Fed.{read_ends}
 use Rattle.flake_program.specs.Given.{Gave}
 use Rattle.flake_program.specs.Pump.{BeginsWith, IsWhole, AreRead, AreFirst, IsEnded, IsAt, IsPump, PumpState, HasEnded, EndFaults, FaultsSo, ended_at, taken_by, stage_after}
 use Rattle.flake_program.specs.declared.pump.Stage.{Stage}
 use Rattle.flake_program.specs.declared.pump.Stage.TheVariants.{Reading, Refused, Ended}
-
--- the first bytes of more are those of the first, and some behind them
-take_more : (n : ℕ) (bytes rest : List ℕ) → (more : List ℕ) × (take n (bytes ++ rest) ≡ take n bytes ++ more)
-take_more zero bytes rest = ([], refl)
-take_more (suc n) [] rest = (take (suc n) rest, refl)
-take_more (suc n) (b ∷ bytes) rest = let found = take_more n bytes rest in (found.0, ap (λ t. b ∷ t) found.1)
-
-faulty_more : (bytes more : List ℕ) (requests : List Words) (kind place : ℕ) → IsFaulty bytes requests kind place → IsFaulty (bytes ++ more) requests kind place
-faulty_more bytes more requests kind place faulty = record {
-  elements = faulty.elements;
-  front = faulty.front;
-  byte = faulty.byte;
-  more = faulty.more ++ more;
-  allowed = faulty.allowed;
-  begun = faulty.begun;
-  refused = faulty.refused;
-  bytes_are = ap (λ b. b ++ more) faulty.bytes_are ∙ append_assoc (stream faulty.elements ++ faulty.front) (faulty.byte ∷ faulty.more) more;
-  requests_are = faulty.requests_are;
-  place_is = faulty.place_is;
-  kind_is = faulty.kind_is;
-}
-
--- an error, and an input that is too long, stay so whatever comes behind
-pub error_stays : (bytes rest : List ℕ) (requests : List Words) (kind place : ℕ) → Parses bytes requests (Protocol kind place) → Parses (bytes ++ rest) requests (Protocol kind place)
-error_stays bytes rest requests kind place faulty =
-    let more = take_more judged_bytes bytes rest in
-    subst (λ b. IsFaulty b requests kind place) (sym more.1) (faulty_more (take judged_bytes bytes) more.0 requests kind place faulty)
-
-pub long_stays : (bytes rest : List ℕ) (requests : List Words) → Parses bytes requests TooLong → Parses (bytes ++ rest) requests TooLong
-long_stays bytes rest requests long =
-    let same = take-append-le judged_bytes bytes rest (omega (arith, long.0)) in (
-      omega (arith, long.0, length-append bytes rest),
-      subst (λ b. IsClean b requests ⊎ ((place : ℕ) × IsTruncated b requests place)) (sym same) long.1,
-    )
 
 opened : (bytes : List ℕ) (requests : List Words) (reader : Progress) → reader.closed ≡ None → Reads bytes requests reader → IsReadTo bytes (requests ++ reader.requests) reader.place reader.front
 opened bytes requests reader is reads =
@@ -65,30 +33,10 @@ closed_by bytes requests reader error is reads =
     subst (λ (c : Option ReadError). MatchOption c (IsReadTo bytes (requests ++ reader.requests) reader.place reader.front) (λ error. IsJudged error × Parses bytes (requests ++ reader.requests) (end_of error))) is reads
 
 read_so_far : (bytes : List ℕ) (requests : List Words) (place : ℕ) (front : List ℕ) → IsReadTo bytes requests place front → AreRead bytes requests
-read_so_far bytes requests place [] read = record {
-  shown = Clean;
-  parsed = (read.judged, record { elements = read.elements; allowed = read.allowed; bytes_are = read.bytes_are ∙ append-nil (stream read.elements); requests_are = read.requests_are });
-  no_error = λ all. refl;
-  whole = inl refl;
-}
-read_so_far bytes requests place (b ∷ front) read = record {
-  shown = Truncated place;
-  parsed = (
-    read.judged,
-    record {
-      elements = read.elements;
-      front = b ∷ front;
-      allowed = read.allowed;
-      begun = omega arith;
-      cut_short = read.cut_short;
-      bytes_are = read.bytes_are;
-      requests_are = read.requests_are;
-      place_is = read.place_is;
-    },
-  );
-  no_error = λ all. refl;
-  whole = inr (place, refl);
-}
+read_so_far bytes requests place front read = elim (read_ends bytes requests place front read) [
+  | inl whole ↦ record { shown = Clean; parsed = (read.judged, whole.1); no_error = λ all. refl; whole = inl refl }
+  | inr cut ↦ record { shown = Truncated place; parsed = (read.judged, cut.1); no_error = λ all. refl; whole = inr (place, refl) }
+]
 
 -- what an open reader was fed is whole requests, and perhaps the front of one
 pub open_are_read : (bytes : List ℕ) (requests : List Words) (reader : Progress) → reader.closed ≡ None → Reads bytes requests reader → AreRead bytes (requests ++ reader.requests)

@@ -17,11 +17,11 @@ use Rattle.pin_core.specs.declared.refused.Refused.TheVariants.{Memory, NotHeld}
 abbrev Refuses : Result Change Refused → Option Refused → Type 0
 Refuses result first = MatchOption first (IsOkUnless result Memory) (λ r. result ≡ Err r)
 
-module _ (old : SizedPins) (event : PinEvent) (sound : IsSound old.sizes old.pins) where
+module _ {old now : SizedPins} (is : old ≡ now) (event : PinEvent) (sound : IsSound old.sizes old.pins) where
   -- the new state has the same sizes
-  pub done : (new : Pins Holder) (change : Change) → IsNear old.sizes (event_of event) → refusal_of old.sizes old.pins event ≡ None → PinStep old.sizes old.pins (event_of event) new → change ≡ change_of old.pins event
-      → IsAnswer old event (Ok change) (record { sizes = old.sizes; pins = new })
-  done new change near passes step tells = record {
+  pub done : (change : Change) {new : Pins Holder} {after : SizedPins} → IsNear old.sizes (event_of event) → refusal_of old.sizes old.pins event ≡ None → PinStep old.sizes old.pins (event_of event) new
+      → change ≡ change_of old.pins event → after ≡ record { sizes = old.sizes; pins = new } → IsAnswer now event (Ok change) after
+  done change {new = new} {after = after} near passes step tells same = subst (λ s. IsAnswer s event (Ok change) after) is (subst (IsAnswer old event (Ok change)) (sym same) (record {
     refused = subst (Refuses (Ok change)) (sym passes) tt;
     stepped = step;
     tells = tells;
@@ -29,13 +29,15 @@ module _ (old : SizedPins) (event : PinEvent) (sound : IsSound old.sizes old.pin
     sizes = refl;
     was_sound = sound;
     sound = step_sound old.sizes old.pins new (event_of event) near step sound;
-  }
+  }))
 
-  pub refuses : (r : Refused) → refusal_of old.sizes old.pins event ≡ Some r → IsAnswer old event (Err r) old
-  refuses r refused = record { refused = subst (Refuses (Err r)) (sym refused) refl; stepped = tt; tells = tt; unchanged = refl; sizes = refl; was_sound = sound; sound = sound }
+  pub refuses : (r : Refused) → refusal_of old.sizes old.pins event ≡ Some r → IsAnswer now event (Err r) now
+  refuses r refused = subst (λ s. IsAnswer s event (Err r) s) is
+      (record { refused = subst (Refuses (Err r)) (sym refused) refl; stepped = tt; tells = tt; unchanged = refl; sizes = refl; was_sound = sound; sound = sound })
 
-  pub no_memory : refusal_of old.sizes old.pins event ≡ None → IsAnswer old event (Err Memory) old
-  no_memory passes = record { refused = subst (Refuses (Err Memory)) (sym passes) refl; stepped = tt; tells = tt; unchanged = refl; sizes = refl; was_sound = sound; sound = sound }
+  pub no_memory : {after : SizedPins} → refusal_of old.sizes old.pins event ≡ None → after ≡ old → IsAnswer now event (Err Memory) after
+  no_memory {after} passes same = subst (λ s. IsAnswer s event (Err Memory) after) is (subst (IsAnswer old event (Err Memory)) (sym same)
+      (record { refused = subst (Refuses (Err Memory)) (sym passes) refl; stepped = tt; tells = tt; unchanged = refl; sizes = refl; was_sound = sound; sound = sound }))
 
 -- a test that passes, and one that fails
 pub unless-passed : (t : Bool) (r : Refused) (later : Option Refused) → t ≡ true → unless t r later ≡ later

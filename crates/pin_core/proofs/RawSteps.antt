@@ -1,6 +1,6 @@
 -- What the program does to its lists at each event is that event's step.
-use Rattle.std.proofs.Common.{◌≡◌, ℕ, ◌+◌, ◌<◌, ◌≤◌, List, [], ◌∷◌, ◌++◌, Bool, true, false, cond, eqb, length, map, replicate, take, set, sym, refl, ap, subst, ◌∙◌, arith}
-use Rattle.std.specs.Prelude.{None, Some, find, position, remove, slice_index}
+use Rattle.std.proofs.Common.{◌≡◌, ℕ, ◌+◌, ◌<◌, ◌≤◌, List, [], ◌∷◌, ◌++◌, Bool, true, false, cond, eqb, get_or, length, map, replicate, take, set, sym, refl, ap, subst, ◌∙◌, arith}
+use Rattle.std.specs.Prelude.{Option, None, Some, find, position, remove, slice_index}
 use Rattle.std.proofs.lemmas.List.{set-append_left}
 use Rattle.view_sums.specs.Total.{total, Each, SameItems, Adds}
 use Rattle.view_sums.proofs.Sums.{total-append, total-map}
@@ -10,19 +10,46 @@ use Rattle.pin_core.specs.Holding.{Key, IsMeant, at, sole_at, shared}
 use Rattle.pin_core.specs.Pins.{Owned, Pins, own, count_at}
 use Rattle.pin_core.specs.PinStep.{Event, IsNear, PinStep, IsClaim, IsPut, IsLoad, IsPin, IsUnpin, IsMove, IsGive}
 use Rattle.pin_core.specs.Raw.{front_in, owned_in, is_raw_at, is_raw_key}
-use Rattle.pin_core.specs.State.{pins_in, IsKept}
+use Rattle.pin_core.specs.State.{SizedPins, shown, pins_in, IsKept}
 use Rattle.pin_core.specs.declared.sizes.Sizes.{Sizes}
 use Rattle.pin_core.specs.declared.holder.Holder.{Holder}
 use Rattle.pin_core.specs.declared.state.Hold.{Hold}
+use Rattle.pin_core.specs.declared.state.PinState.TheInside.{Inside}
 use Rattle.pin_core.specs.Answers.{is_at, is_key, credits_of}
-use Rattle.pin_core.proofs.Found.{IsThere, is_first, is_none, find-map-some, find-map-none}
+use Rattle.pin_core.proofs.Found.{IsThere, is_there, is_first, is_none, find-map-some, find-map-none}
 use Rattle.pin_core.proofs.Places.{place-within}
 use Rattle.pin_core.proofs.AccountSums.{fewer, fewer-same}
 use Rattle.pin_core.proofs.Weights.{at-on, sole-on}
 use Rattle.pin_core.proofs.Steps.{step_sound}
 use Rattle.pin_core.proofs.RawHolds.{IsRaw, raw_at, IsRawKey, raw_key, front-length, front-word, front-put, others_stay}
 
-module _ (z : Sizes) (holds : List Hold) (words : List ℕ) (credits : List Holder) (kept : IsKept z holds words credits) where
+-- a look-up in what was read of the list is one in the list
+looked : (test : Hold → Bool) {result place : Option ℕ} {read holds : List Hold} → result ≡ place → result ≡ position test read → read ≡ holds → place ≡ position test holds
+looked test is ensured same = sym is ∙ ensured ∙ ap (position test) same
+
+-- the hold that was found, of this holder and this buffer
+pub record IsHeld (z : Sizes) (holds : List Hold) (p : Holder) (b k : ℕ) (h : Hold) : Type 1 where
+  pub near : b < buffers z
+  pub there : IsThere (is_raw_at p b) holds k h
+
+-- and the one that is pinned or not
+pub record IsKeyHeld (z : Sizes) (holds : List Hold) (p : Holder) (b : ℕ) (pinned : Bool) (k : ℕ) (h : Hold) : Type 1 where
+  pub near : b < buffers z
+  pub there : IsThere (is_raw_key p b pinned) holds k h
+
+-- the program's state is what contracts see of it
+module _ (i : Inside) {now : SizedPins} (is : shown i.sizes i.holds.items i.words.items i.credits ≡ now) (b : ℕ) (near : b < buffers now.sizes) where
+  pub near_in : b < buffers i.sizes
+  near_in = subst (λ (s : SizedPins). b < buffers s.sizes) (sym is) near
+
+  pub is_held : (p : Holder) {result : Option ℕ} {read : List Hold} {k : ℕ} {h : Hold} → result ≡ Some k → result ≡ position (is_raw_at p b) read → read ≡ i.holds.items → h ≡ get_or i.holds.items k h → IsHeld i.sizes i.holds.items p b k h
+  is_held p {k = k} {h = h} found ensured same here = record { near = near_in; there = is_there (is_raw_at p b) i.holds.items k h (looked (is_raw_at p b) found ensured same) here }
+
+  pub is_key_held : (p : Holder) (pinned : Bool) {result : Option ℕ} {read : List Hold} {k : ℕ} {h : Hold} → result ≡ Some k → result ≡ position (is_raw_key p b pinned) read → read ≡ i.holds.items → h ≡ get_or i.holds.items k h
+      → IsKeyHeld i.sizes i.holds.items p b pinned k h
+  is_key_held p pinned {k = k} {h = h} found ensured same here = record { near = near_in; there = is_there (is_raw_key p b pinned) i.holds.items k h (looked (is_raw_key p b pinned) found ensured same) here }
+
+module _ {z : Sizes} {holds : List Hold} {words : List ℕ} {credits : List Holder} (kept : IsKept z holds words credits) where
   abbrev pub old : Pins Holder
   old = pins_in z holds words credits
 
@@ -47,24 +74,34 @@ module _ (z : Sizes) (holds : List Hold) (words : List ℕ) (credits : List Hold
       }
 
   -- no hold was found
-  pub none_found : (p : Holder) (b : ℕ) → None ≡ position (is_raw_at p b) holds → find (is_at p b) old.holds ≡ None
-  none_found p b none = find-map-none (is_at p b) (owned_in z words) holds (is_none (is_raw_at p b) holds none)
+  pub none_found : (p : Holder) (b : ℕ) {result : Option ℕ} {read : List Hold} → result ≡ None → result ≡ position (is_raw_at p b) read → read ≡ holds → find (is_at p b) old.holds ≡ None
+  none_found p b none ensured same = find-map-none (is_at p b) (owned_in z words) holds (is_none (is_raw_at p b) holds (looked (is_raw_at p b) none ensured same))
 
-  pub none_found_key : (p : Holder) (b : ℕ) (pinned : Bool) → None ≡ position (is_raw_key p b pinned) holds → find (is_key p (record { buffer = b; pinned = pinned })) old.holds ≡ None
-  none_found_key p b pinned none = find-map-none (is_key p (record { buffer = b; pinned = pinned })) (owned_in z words) holds (is_none (is_raw_key p b pinned) holds none)
+  pub none_found_key : (p : Holder) (b : ℕ) (pinned : Bool) {result : Option ℕ} {read : List Hold} → result ≡ None → result ≡ position (is_raw_key p b pinned) read → read ≡ holds
+      → find (is_key p (record { buffer = b; pinned = pinned })) old.holds ≡ None
+  none_found_key p b pinned none ensured same =
+      find-map-none (is_key p (record { buffer = b; pinned = pinned })) (owned_in z words) holds (is_none (is_raw_key p b pinned) holds (looked (is_raw_key p b pinned) none ensured same))
 
   -- some hold was found
-  pub some_found : (p : Holder) (b k : ℕ) → Some k ≡ position (is_raw_at p b) holds → (o : Owned Holder) × (find (is_at p b) old.holds ≡ Some o)
-  some_found p b k found = let f = is_first (is_raw_at p b) holds k found in (owned_in z words f.item, find-map-some (is_at p b) (owned_in z words) f.item holds f.found)
+  pub some_found : (p : Holder) (b : ℕ) {result : Option ℕ} {read : List Hold} {k : ℕ} → result ≡ Some k → result ≡ position (is_raw_at p b) read → read ≡ holds → (o : Owned Holder) × (find (is_at p b) old.holds ≡ Some o)
+  some_found p b {k = k} found ensured same = let f = is_first (is_raw_at p b) holds k (looked (is_raw_at p b) found ensured same) in (owned_in z words f.item, find-map-some (is_at p b) (owned_in z words) f.item holds f.found)
 
-  pub some_key_found : (p : Holder) (b : ℕ) (pinned : Bool) (k : ℕ) → Some k ≡ position (is_raw_key p b pinned) holds → (o : Owned Holder) × (find (is_key p (record { buffer = b; pinned = pinned })) old.holds ≡ Some o)
-  some_key_found p b pinned k found =
-      let f = is_first (is_raw_key p b pinned) holds k found in
+  pub some_key_found : (p : Holder) (b : ℕ) (pinned : Bool) {result : Option ℕ} {read : List Hold} {k : ℕ} → result ≡ Some k → result ≡ position (is_raw_key p b pinned) read → read ≡ holds
+      → (o : Owned Holder) × (find (is_key p (record { buffer = b; pinned = pinned })) old.holds ≡ Some o)
+  some_key_found p b pinned {k = k} found ensured same =
+      let f = is_first (is_raw_key p b pinned) holds k (looked (is_raw_key p b pinned) found ensured same) in
       let key : Key = record { buffer = b; pinned = pinned } in
       (owned_in z words f.item, find-map-some (is_key p key) (owned_in z words) f.item holds f.found)
 
-  -- the hold that was found, of this holder and this buffer
-  module _ (p : Holder) (b : ℕ) (k : ℕ) (h : Hold) (near : b < buffers z) (there : IsThere (is_raw_at p b) holds k h) where
+  -- the hold that is there is the holder's, and the rest are all others
+  there_held : {test : Hold → Bool} {p : Holder} {k : ℕ} {h : Hold} (there : IsThere test holds k h) → h.holder ≡ p → Adds (own p (owned_in z words h).hold) (map (owned_in z words) there.rest) old.holds
+  there_held {h = h} there is weight =
+      let view : Hold → Owned Holder = owned_in z words in
+      omega (arith, total-map weight view holds, total-map weight view there.rest, there.whole (λ (g : Hold). weight (view g)), ap (λ (q : Holder). weight (own q (view h).hold)) is)
+
+  module _ {p : Holder} {b k : ℕ} {h : Hold} (held_at : IsHeld z holds p b k h) where
+    open held_at use {near, there}
+
     raw : IsRaw p b h
     raw = raw_at p b h there.passes
 
@@ -75,14 +112,7 @@ module _ (z : Sizes) (holds : List Hold) (words : List ℕ) (credits : List Hold
     one_found = find-map-some (is_at p b) view h holds there.found
 
     pub held : Adds (own p (view h).hold) (map view there.rest) old.holds
-    held weight =
-        omega (
-          arith,
-          total-map weight view holds,
-          total-map weight view there.rest,
-          there.whole (λ (g : Hold). weight (view g)),
-          ap (λ (q : Holder). weight (own q (view h).hold)) raw.holder_is,
-        )
+    held = there_held there raw.holder_is
 
     near_h : h.buffer < buffers z
     near_h = omega (arith, raw.buffer_is, near)
@@ -202,8 +232,9 @@ module _ (z : Sizes) (holds : List Hold) (words : List ℕ) (credits : List Hold
         let P : Hold → Type 0 = λ g. g.length ≤ room z g.buffer in
         subst (Each P) (sym (set-append_left holds (copy_for taker ∷ []) k shared_hold there.near)) (each-append P (set holds k shared_hold) (copy_for taker ∷ []) (there.each_changed P shared_hold short_h kept.short) (short_h, tt))
 
-  -- the hold that was found, of this holder and this buffer, pinned or not
-  module _ (p : Holder) (b : ℕ) (pinned : Bool) (k : ℕ) (h : Hold) (there : IsThere (is_raw_key p b pinned) holds k h) where
+  module _ {p : Holder} {b : ℕ} {pinned : Bool} {k : ℕ} {h : Hold} (held_at : IsKeyHeld z holds p b pinned k h) where
+    open held_at use {there}
+
     abbrev pub key : Key
     key = record { buffer = b; pinned = pinned }
 
@@ -217,14 +248,7 @@ module _ (z : Sizes) (holds : List Hold) (words : List ℕ) (credits : List Hold
     key_found = find-map-some (is_key p key) view_of h holds there.found
 
     pub key_held : Adds (own p (view_of h).hold) (map view_of there.rest) old.holds
-    key_held weight =
-        omega (
-          arith,
-          total-map weight view_of holds,
-          total-map weight view_of there.rest,
-          there.whole (λ (g : Hold). weight (view_of g)),
-          ap (λ (q : Holder). weight (own q (view_of h).hold)) raw_of_key.holder_is,
-        )
+    key_held = there_held there raw_of_key.holder_is
 
     is_meant : IsMeant key (view_of h).hold
     is_meant = record { of_buffer = raw_of_key.buffer_is; as_pinned = raw_of_key.pinned_is }

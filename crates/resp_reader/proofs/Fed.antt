@@ -1,11 +1,11 @@
 -- What was fed in all, from piece to piece.
 use Rattle.std.proofs.Common.{◌≡◌, ◌≢◌, ℕ, ◌+◌, ◌-◌, ◌<◌, ◌≤◌, ◌⊎◌, inl, inr, List, [], ◌∷◌, ◌++◌, Some, None, length, take, arith, refl, ap, sym, ◌∙◌, subst, append_assoc, append-nil, length-append, lit<}
 use Rattle.std.specs.Prelude.{Result, Ok, Err, OnOk, IfErr, MatchOption}
-use Rattle.std.proofs.lemmas.List.{take_all, take-append-le, length-take-le}
-use Rattle.std.proofs.lemmas.Bool.{cases_lt}
+use Rattle.std.proofs.lemmas.List.{take_all, length-take-le}
 use Rattle.std.proofs.Math.Seq.{take-append-add}
 use Rattle.flake_base.specs.declared.session.End.TheVariants as ends
 use Rattle.flake_model.specs.Resp.{Words, null_array, element_text, IsElement, stream, requests_of, IsCutShort, FaultKind, inline, in_count, at_word, in_word, IsClean, IsTruncated, IsFaulty, judged_bytes, Parses}
+use Rattle.flake_model.proofs.Faults.{error_stays, long_stays}
 use Rattle.flake_model.proofs.Fronts.{cut_in_null}
 use Rattle.flake_model.proofs.Streams.{all_append, stream-append, requests_of-append}
 use Rattle.resp_reader.specs.declared.error.ReadError.{ReadError}
@@ -134,44 +134,13 @@ failed_on (Err e) old new piece kept judged found = λ other bytes given read.
     let all : take (judged_bytes - old.taken) piece ≡ piece = take_all (judged_bytes - old.taken) piece (omega arith) in
     error_on bytes given old new piece e kept read (subst (λ p. HasError old new p e) (sym all) (found other))
 
--- more bytes behind an error
-faulty_more : (bytes more : List ℕ) (requests : List Words) (kind place : ℕ) → IsFaulty bytes requests kind place → IsFaulty (bytes ++ more) requests kind place
-faulty_more bytes more requests kind place fault = record {
-  elements = fault.elements;
-  front = fault.front;
-  byte = fault.byte;
-  more = fault.more ++ more;
-  allowed = fault.allowed;
-  begun = fault.begun;
-  refused = fault.refused;
-  bytes_are = ap (λ b. b ++ more) fault.bytes_are ∙ append_assoc (stream fault.elements ++ fault.front) (fault.byte ∷ fault.more) more;
-  requests_are = fault.requests_are;
-  place_is = fault.place_is;
-  kind_is = fault.kind_is;
-}
-
-still_faulty : (bytes piece : List ℕ) (requests : List Words) (kind place : ℕ) → Parses bytes requests (ends.Protocol kind place) → Parses (bytes ++ piece) requests (ends.Protocol kind place)
-still_faulty bytes piece requests kind place fault =
-    elim (cases_lt (length bytes) judged_bytes) [
-      | inl short ↦ (
-          let whole : IsFaulty bytes requests kind place = subst (λ b. IsFaulty b requests kind place) (take_all judged_bytes bytes (omega arith)) fault in
-          subst (λ b. IsFaulty b requests kind place) (sym (judged_on bytes piece (omega arith))) (faulty_more bytes (take (judged_bytes - length bytes) piece) requests kind place whole))
-      | inr long ↦ subst (λ b. IsFaulty b requests kind place) (sym (take-append-le judged_bytes bytes piece long)) fault
-    ]
-
-still_too_long : (bytes piece : List ℕ) (requests : List Words) → Parses bytes requests ends.TooLong → Parses (bytes ++ piece) requests ends.TooLong
-still_too_long bytes piece requests (long, parsed) = (
-  omega (arith, length-append bytes piece),
-  subst (λ b. IsClean b requests ⊎ ((place : ℕ) × IsTruncated b requests place)) (sym (take-append-le judged_bytes bytes piece (omega arith))) parsed,
-)
-
 -- an input that has an error has it whatever is behind
 pub still_closed : (bytes piece : List ℕ) (requests : List Words) (error : ReadError) → IsTaken error → Parses bytes requests (end_of error) → Parses (bytes ++ piece) requests (end_of error)
-still_closed bytes piece requests (BadCount place) taken parsed = still_faulty bytes piece requests 1 place parsed
-still_closed bytes piece requests (ExpectedBulk place) taken parsed = still_faulty bytes piece requests 2 place parsed
-still_closed bytes piece requests (BadLength place) taken parsed = still_faulty bytes piece requests 3 place parsed
-still_closed bytes piece requests (Inline place) taken parsed = still_faulty bytes piece requests 4 place parsed
-still_closed bytes piece requests (TooLong taken) is parsed = still_too_long bytes piece requests parsed
+still_closed bytes piece requests (BadCount place) taken parsed = error_stays bytes piece requests 1 place parsed
+still_closed bytes piece requests (ExpectedBulk place) taken parsed = error_stays bytes piece requests 2 place parsed
+still_closed bytes piece requests (BadLength place) taken parsed = error_stays bytes piece requests 3 place parsed
+still_closed bytes piece requests (Inline place) taken parsed = error_stays bytes piece requests 4 place parsed
+still_closed bytes piece requests (TooLong taken) is parsed = long_stays bytes piece requests parsed
 still_closed bytes piece requests Memory taken parsed = absurd taken
 
 -- a closed reader

@@ -1,5 +1,5 @@
 -- The lines that begin arrays and words, byte by byte.
-use Rattle.std.proofs.Common.{◌≡◌, ◌≢◌, ℕ, ◌+◌, ◌-◌, ◌*◌, ◌/◌, ◌%◌, ◌<◌, ◌≤◌, ◌^◌, ◌⊎◌, inl, inr, suc, true, nat_eq, get_or, take, drop, List, [], ◌∷◌, ◌++◌, length, arith, ap, sym, ◌∙◌, subst, append_assoc, lit<, lit≤}
+use Rattle.std.proofs.Common.{◌≡◌, ◌≢◌, ℕ, ◌+◌, ◌-◌, ◌*◌, ◌<◌, ◌≤◌, ◌^◌, ◌⊎◌, inl, inr, suc, true, nat_eq, get_or, take, drop, List, [], ◌∷◌, ◌++◌, length, arith, ap, sym, ◌∙◌, subst, append_assoc, lit<, lit≤}
 use Rattle.std.specs.Fmt.{decimal}
 use Rattle.std.specs.Char.{digit_value}
 use Rattle.std.specs.Str.Parse.{AllDigits, digits_value}
@@ -8,9 +8,9 @@ use Rattle.std.proofs.lemmas.List.{take-append-drop, length-take-le}
 use Rattle.std.proofs.lemmas.Bool.{cases_lt}
 use Rattle.std.proofs.lemmas.Bool.Decides.{nat_tests}
 use Rattle.std.proofs.lemmas.Str.Parse.{digit_from_value}
-use Rattle.std.proofs.lemmas.Fmt.{decimal_is_IsNumeral, decimal_digit, decimal_step}
-use Rattle.std.proofs.lemmas.Int.Digits.{digits_value_push}
+use Rattle.std.proofs.lemmas.Fmt.{decimal_is_IsNumeral, decimal_digit}
 use Rattle.flake_model.specs.Fronts.{NoNumber, NoNull}
+use Rattle.flake_model.proofs.Decimals.{digits_value-push}
 use Rattle.flake_model.proofs.Digits.{not_a_digit, no_digits, behind_zero, too_large, no_minus}
 use Rattle.flake_model.proofs.Fronts.{not_null_mark, not_null_one, not_null_line_end, not_null_digits}
 use Rattle.resp_reader.specs.declared.head.Head.{Head}
@@ -60,18 +60,10 @@ behind_first_zero head byte inside = subst (λ line. NoLine head line byte) (sym
 pub past_limit : (head : Head) (n digit : ℕ) → n ≤ limit_of head → digit < 10 → limit_of head < n * 10 + digit → NoLine head (decimal n) (48 + digit)
 past_limit head n digit small is_digit large =
     let within : n < 2 ^ 64 = omega (arith, small_limit head) in
-    let value : digits_value 10 (decimal n ++ (48 + digit) ∷ []) ≡ n * 10 + digit =
-    digits_value_push 10 (decimal n) (48 + digit) ∙ ap (λ m. m * 10 + digit_value (48 + digit)) (decimal_is_IsNumeral n within).1 ∙ ap (λ d. n * 10 + d) (digit_is digit is_digit) in
+    let value : digits_value 10 (decimal n ++ (48 + digit) ∷ []) ≡ n * 10 + digit = digits_value-push n (48 + digit) within ∙ ap (λ d. n * 10 + d) (digit_is digit is_digit) in
     no_line head (decimal n) (48 + digit)
     (too_large (limit_of head) (decimal n) (48 + digit) (small_limit head) (some_digits n within).1 (omega arith) (omega arith))
     (not_null_digits (decimal n) (48 + digit) (some_digits n within).0 (some_digits n within).1)
-
-pub one_digit_more : (n digit : ℕ) → 0 < n → n * 10 + digit < 2 ^ 64 → digit < 10 → decimal (n * 10 + digit) ≡ decimal n ++ (48 + digit) ∷ []
-one_digit_more n digit some small is_digit =
-    let m = n * 10 + digit in
-    let front : m / 10 ≡ n = omega arith in
-    let last : m % 10 ≡ digit = omega arith in
-    decimal_step m (omega arith) small ∙ ap (λ k. decimal k ++ (48 + m % 10) ∷ []) front ∙ ap (λ k. decimal n ++ (48 + k) ∷ []) last
 
 pub behind_minus : (head : Head) (byte : ℕ) → IsDigits head Minus → byte ≢ 49 → NoLine head (45 ∷ []) byte
 behind_minus Count byte allowed other = (no_minus 1024 [] byte (lit< tt), not_null_one byte other)

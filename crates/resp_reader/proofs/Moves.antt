@@ -1,17 +1,18 @@
 -- How an element goes on, state by state.
-use Rattle.std.proofs.Common.{◌≡◌, ◌≢◌, ℕ, ◌+◌, ◌<◌, ◌≤◌, List, [], ◌∷◌, ◌++◌, length, replicate, arith, refl, ap, sym, ◌∙◌, subst, append_assoc, length-append, lit<, lit≤}
+use Rattle.std.proofs.Common.{◌≡◌, ◌≢◌, ℕ, ◌+◌, ◌<◌, List, [], ◌∷◌, ◌++◌, length, arith, refl, ap, sym, ◌∙◌, subst, append_assoc, length-append, lit<}
 use Rattle.std.specs.Prelude.{Result, Ok, Err, IfErr}
 use Rattle.std.specs.Fmt.{decimal}
 use Rattle.std.specs.Char.{digit_value}
 use Rattle.std.specs.Str.Parse.{AllDigits}
-use Rattle.std.specs.List.{AllByRecursion, Contains}
-use Rattle.std.proofs.lemmas.List.{length-replicate}
-use Rattle.flake_model.specs.Resp.{Words, crlf, bulk_string, IsWord, element_text, null_array, IsCutShort, FaultKind, inline, in_count, at_word, in_word, IsFaulty}
+use Rattle.std.specs.List.{AllByRecursion}
+use Rattle.flake_model.specs.Resp.{Words, crlf, bulk_string, element_text, null_array, IsCutShort, FaultKind, inline, in_count, at_word, in_word, IsFaulty}
 use Rattle.flake_model.specs.Fronts.{NoNull, NoWordGoesOn, NoElementGoesOn, array_front, word_front}
 use Rattle.flake_model.proofs.Grammar.{NoCr-digits}
 use Rattle.flake_model.proofs.Streams.{all_append}
-use Rattle.flake_model.proofs.Digits.{no_line_feed, no_minus, NoLf-digits, not_at}
+use Rattle.flake_model.proofs.Digits.{no_line_feed, no_minus, NoLf-digits, none_among}
 use Rattle.flake_model.proofs.Fronts.{not_a_mark, not_a_count, not_null_line, not_null_line_feed, not_a_length, not_a_line_end, not_a_line_feed, no_word_in_array, no_mark_in_array, cut_in_count, cut_in_word, cut_at_word, cut_in_null}
+use Rattle.flake_model.proofs.FirstNumber.{cut_before_digits, cut_behind_digits, cut_behind_cr}
+use Rattle.flake_model.proofs.FirstWord.{WordCut, cut_in_length}
 use Rattle.flake_model.proofs.Faults.{faulty}
 use Rattle.resp_reader.specs.declared.head.Head.TheVariants.{Count, Length}
 use Rattle.resp_reader.specs.declared.head.Digits.{Digits}
@@ -47,9 +48,6 @@ no_lf (Number n) allowed = NoLf-digits (decimal n) (some_digits n (omega arith))
 no_lf Minus allowed = (λ e. absurd (omega (arith, e)), tt)
 no_lf MinusOne allowed = (λ e. absurd (omega (arith, e)), (λ e. absurd (omega (arith, e)), tt))
 
-none_among : (bytes : List ℕ) → AllByRecursion (λ b. b ≢ 10) bytes → Contains bytes 10 → ⊥
-none_among bytes all found = not_at 10 bytes all found.0 found.1 found.2
-
 pub start_stops : (bytes : List ℕ) → 0 < length bytes → ((rest : List ℕ) → bytes ≢ 42 ∷ rest) → Stops Start bytes (Fault 4 0)
 start_stops bytes some none words word sound = fault_here [] bytes 42 4 (cut_in_null [] (element_text null_array) refl (lit< tt)) not_a_mark inline some none
 
@@ -78,7 +76,7 @@ line_fault front text came byte more bytes now place kind bytes_are now_is place
 pub in_count_stops : (digits : Digits) (bytes : List ℕ) (place : ℕ) → LineFault Count digits bytes place → Stops (InCount digits) bytes (Fault 1 place)
 in_count_stops digits bytes place fault words word sound =
     line_fault (42 ∷ []) (digits_text digits) fault.front fault.byte fault.more bytes (digits_text fault.now) place 1 fault.bytes_are fault.now_is fault.place_is
-    (cut_count fault.now fault.allowed) (not_a_count (digits_text fault.now) fault.byte fault.refused.0 fault.refused.1) (in_count (digits_text fault.now) (none_among (digits_text fault.now) (no_lf fault.now fault.allowed)))
+    (cut_count fault.now fault.allowed) (not_a_count (digits_text fault.now) fault.byte fault.refused.0 fault.refused.1) (in_count (digits_text fault.now) (none_among 10 (digits_text fault.now) (no_lf fault.now fault.allowed)))
 
 digits_then_cr : (digits : List ℕ) (byte : ℕ) → 0 < length digits → AllDigits 10 digits → NoNull (digits ++ 13 ∷ []) byte
 digits_then_cr [] byte some all rest e = omega arith
@@ -97,25 +95,17 @@ pub count_end_stops : (digits : Digits) (bytes : List ℕ) → 0 < length bytes 
 count_end_stops digits bytes some none words word sound =
     let line = digits_text digits ++ 13 ∷ [] in
     let clear : AllByRecursion (λ b. b ≢ 10) line = all_append (λ b. b ≢ 10) (digits_text digits) (13 ∷ []) (no_lf digits sound.2) (λ e. absurd (omega (arith, e)), tt) in
-    fault_here (42 ∷ line) bytes 10 1 (cut_count_end digits sound.2 sound.3) (λ byte other. no_count_end digits byte sound.2 sound.3 other) (in_count line (none_among line clear)) some none
+    fault_here (42 ∷ line) bytes 10 1 (cut_count_end digits sound.2 sound.3) (λ byte other. no_count_end digits byte sound.2 sound.3 other) (in_count line (none_among 10 line clear)) some none
 
 pub at_word_stops : (count : ℕ) (bytes : List ℕ) → 0 < length bytes → ((rest : List ℕ) → bytes ≢ 36 ∷ rest) → Stops (AtWord count) bytes (Fault 2 0)
 at_word_stops count bytes some none words word sound =
     fault_here (array_front count words) bytes 36 2 (cut_at_word count words sound.0.most sound.0.allowed sound.0.less)
     (λ byte other. no_mark_in_array count words byte sound.0.most sound.0.allowed sound.0.less other) (at_word count words sound.0.less) some none
 
--- a word of a length, with its text
-pub word_of : (len : ℕ) → len ≤ 1048576 → (word : List ℕ) × IsWord word × (bulk_string word ≡ 36 ∷ (decimal len ++ 13 ∷ 10 ∷ (word ++ crlf)))
-word_of len most =
-    let word : List ℕ = replicate len 0 in
-    let is : length word ≡ len = length-replicate len 0 in
-    let shape : bulk_string word ≡ 36 ∷ (decimal (length word) ++ 13 ∷ 10 ∷ (word ++ crlf)) = simp append_assoc in
-    (word, omega arith, shape ∙ ap (λ n. 36 ∷ (decimal n ++ 13 ∷ 10 ∷ (word ++ crlf))) is)
-
 -- a length line is the front of a word
-pub length_begins : (digits : Digits) → IsDigits Length digits → (word : List ℕ) × (more : List ℕ) × IsWord word × (bulk_string word ≡ 36 ∷ digits_text digits ++ more) × (0 < length more)
-length_begins Nothing allowed = let found = word_of 0 (lit≤ tt) in (found.0, decimal 0 ++ 13 ∷ 10 ∷ (found.0 ++ crlf), found.1, found.2, omega (arith, length-append (decimal 0) (13 ∷ 10 ∷ (found.0 ++ crlf))))
-length_begins (Number n) allowed = let found = word_of n allowed in (found.0, 13 ∷ 10 ∷ (found.0 ++ crlf), found.1, found.2, omega arith)
+pub length_begins : (digits : Digits) → IsDigits Length digits → WordCut (36 ∷ digits_text digits)
+length_begins Nothing allowed = cut_in_length [] (cut_before_digits 1048576)
+length_begins (Number n) allowed = cut_in_length (decimal n) (cut_behind_digits 1048576 n allowed)
 length_begins Minus allowed = absurd allowed
 length_begins MinusOne allowed = absurd allowed
 
@@ -127,23 +117,21 @@ in_length_stops count digits bytes place fault words word sound =
     let start : (front ++ 36 ∷ []) ++ digits_text digits ≡ front ++ 36 ∷ digits_text digits = append_assoc front (36 ∷ []) (digits_text digits) in
     subst (λ b. IsFaulty (b ++ bytes) [] 3 (length b + place)) start
     (line_fault (front ++ 36 ∷ []) (digits_text digits) fault.front fault.byte fault.more bytes (digits_text fault.now) place 3 fault.bytes_are fault.now_is fault.place_is
-    (subst IsCutShort (sym same) (cut_in_word count words found.0 (36 ∷ digits_text fault.now) found.1 sound.0.most sound.0.allowed sound.0.less found.2 found.3 found.4))
+    (subst IsCutShort (sym same) (cut_in_word count words found.word (36 ∷ digits_text fault.now) found.more sound.0.most sound.0.allowed sound.0.less found.allowed found.goes_on found.some))
     (subst (λ b. NoElementGoesOn b fault.byte) (sym same) (no_word_in_array count words (36 ∷ digits_text fault.now) fault.byte sound.0.most sound.0.allowed sound.0.less (not_a_length (digits_text fault.now) fault.byte fault.refused)))
-    (subst (λ b. FaultKind b 3) (sym same) (in_word count words found.0 (digits_text fault.now) found.1 sound.0.less found.3 found.4)))
+    (subst (λ b. FaultKind b 3) (sym same) (in_word count words found.word (digits_text fault.now) found.more sound.0.less found.goes_on found.some)))
 
 -- an error at the next byte inside a word
-pub fault_in_word : (count : ℕ) (words : Words) (word begun more bytes : List ℕ) (mark : ℕ) → IsArray count words → IsWord word → bulk_string word ≡ 36 ∷ begun ++ more → 0 < length more
+pub fault_in_word : (count : ℕ) (words : Words) (begun bytes : List ℕ) (mark : ℕ) → IsArray count words → WordCut (36 ∷ begun)
     → ((byte : ℕ) → byte ≢ mark → NoWordGoesOn (36 ∷ begun) byte) → 0 < length bytes → ((rest : List ℕ) → bytes ≢ mark ∷ rest)
     → IsFaulty ((array_front count words ++ 36 ∷ begun) ++ bytes) [] 3 (length (array_front count words ++ 36 ∷ begun) + 0)
-fault_in_word count words word begun more bytes mark sound is begins longer refused some none =
-    fault_here (array_front count words ++ 36 ∷ begun) bytes mark 3 (cut_in_word count words word (36 ∷ begun) more sound.most sound.allowed sound.less is begins longer)
-    (λ byte other. no_word_in_array count words (36 ∷ begun) byte sound.most sound.allowed sound.less (refused byte other)) (in_word count words word begun more sound.less begins longer) some none
+fault_in_word count words begun bytes mark sound cut refused some none =
+    fault_here (array_front count words ++ 36 ∷ begun) bytes mark 3 (cut_in_word count words cut.word (36 ∷ begun) cut.more sound.most sound.allowed sound.less cut.allowed cut.goes_on cut.some)
+    (λ byte other. no_word_in_array count words (36 ∷ begun) byte sound.most sound.allowed sound.less (refused byte other)) (in_word count words cut.word begun cut.more sound.less cut.goes_on cut.some) some none
 
 pub length_end_stops : (count len : ℕ) (bytes : List ℕ) → 0 < length bytes → ((rest : List ℕ) → bytes ≢ 10 ∷ rest) → Stops (LengthEnd count len) bytes (Fault 3 0)
 length_end_stops count len bytes some none words word sound =
-    let found = word_of len sound.2 in
-    let begins : bulk_string found.0 ≡ 36 ∷ (decimal len ++ 13 ∷ []) ++ 10 ∷ (found.0 ++ crlf) = found.2 ∙ ap (λ b. 36 ∷ b) (sym (append_assoc (decimal len) (13 ∷ []) (10 ∷ (found.0 ++ crlf)))) in
-    fault_in_word count words found.0 (decimal len ++ 13 ∷ []) (10 ∷ (found.0 ++ crlf)) bytes 10 sound.0 found.1 begins (omega arith)
+    fault_in_word count words (decimal len ++ 13 ∷ []) bytes 10 sound.0 (cut_in_length (decimal len ++ 13 ∷ []) (cut_behind_cr 1048576 len sound.2))
     (λ byte other. not_a_length (decimal len ++ 13 ∷ []) byte (no_line_feed 1048576 (decimal len) byte (lit< tt) (NoCr-digits (decimal len) (some_digits len (omega (arith, sound.2))).1) other)) some none
 
 -- an error behind a word's bytes
@@ -152,7 +140,7 @@ pub word_stops : (count len : ℕ) (words : Words) (word bytes : List ℕ) → I
 word_stops count len words word bytes sound whole some none =
     let front : word_front word ≡ 36 ∷ (decimal len ++ 13 ∷ 10 ∷ word) = let shape : word_front word ≡ 36 ∷ (decimal (length word) ++ 13 ∷ 10 ∷ word) = simp append_assoc in shape ∙ ap (λ n. 36 ∷ (decimal n ++ 13 ∷ 10 ∷ word)) whole in
     let begins : bulk_string word ≡ 36 ∷ (decimal len ++ 13 ∷ 10 ∷ word) ++ crlf = ap (λ f. f ++ crlf) front in
-    fault_in_word count words word (decimal len ++ 13 ∷ 10 ∷ word) crlf bytes 13 sound.0 (omega (arith, sound.2)) begins (lit< tt)
+    fault_in_word count words (decimal len ++ 13 ∷ 10 ∷ word) bytes 13 sound.0 (record { word = word; more = crlf; allowed = omega (arith, sound.2); goes_on = begins; some = lit< tt })
     (λ byte other. subst (λ f. NoWordGoesOn f byte) front (not_a_line_end word byte (omega (arith, sound.2)) other)) some none
 
 -- and behind the CR there
@@ -162,7 +150,7 @@ word_end_stops count words word bytes sound some none =
     let begun = decimal (length word) ++ crlf ++ word ++ 13 ∷ [] in
     let front : word_front word ++ 13 ∷ [] ≡ 36 ∷ begun = refl in
     let begins : bulk_string word ≡ 36 ∷ begun ++ 10 ∷ [] = sym (append_assoc (word_front word) (13 ∷ []) (10 ∷ [])) in
-    fault_in_word count words word begun (10 ∷ []) bytes 10 sound.0 sound.1 begins (lit< tt)
+    fault_in_word count words begun bytes 10 sound.0 (record { word = word; more = 10 ∷ []; allowed = sound.1; goes_on = begins; some = lit< tt })
     (λ byte other. not_a_line_feed word byte sound.1 other) some none
 
 -- an error behind the front, by the state that it comes at

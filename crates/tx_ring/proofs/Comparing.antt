@@ -1,5 +1,5 @@
 -- The calls that bring both ends to one seat and part them again.
-use Rattle.std.proofs.Common.{◌≡◌, ℕ, List, [], ◌∷◌, ◌++◌, length, Bool, true, false, sym, refl, ap, ◌∙◌, subst, Option, length-append, append-nil, arith}
+use Rattle.std.proofs.Common.{◌≡◌, ℕ, List, [], ◌∷◌, ◌++◌, length, true, sym, refl, ap, ◌∙◌, subst, Option, length-append, append-nil, arith}
 use mathlib.Core.Option.{none}
 use Rattle.atomic_table.specs.Table.{Me, step, Allows, Enters, Splits, Joins}
 use Rattle.flake_base.specs.declared.segment.Seg.{Seg}
@@ -9,7 +9,7 @@ use Rattle.tx_ring.specs.Plays.{Keeps, compared, InOrder, both_parts, driver_par
 use Rattle.tx_ring.specs.declared.view.View.{View}
 use Rattle.tx_ring.specs.declared.view.DriverView.{DriverView}
 use Rattle.tx_ring.specs.declared.view.DeviceView.{DeviceView}
-use Rattle.tx_ring.specs.declared.view.DriverStage.TheVariants.{Idle, Closed}
+use Rattle.tx_ring.specs.declared.view.DriverStage.TheVariants.{Closed}
 use Rattle.tx_ring.proofs.Seats.{enters}
 use Rattle.tx_ring.proofs.Steps.{compares, splits, joins-seats}
 
@@ -36,11 +36,6 @@ module _ {P : Type 0} (segs : P → List Seg) (n slots : ℕ) where
 
   pub learned : (m : Me (Option P) (View P)) (d : DriverView P) (e : DeviceView P) → m ≡ (together d e, []) → InOrder m.0.driver m.0.device × (m.0.device.ended ≡ true → m.0.driver.stage ≡ Closed) → InOrder d e × (e.ended ≡ true → d.stage ≡ Closed)
   learned m d e a told = subst (λ (z : Me (Option P) (View P)). InOrder z.0.driver z.0.device × (z.0.device.ended ≡ true → z.0.driver.stage ≡ Closed)) a told
-
--- a driver that is idle was not closed
-pub still-open : {P : Type 0} (b : Bool) (d : DriverView P) → d.stage ≡ Idle → (b ≡ true → d.stage ≡ Closed) → b ≡ false
-still-open true d idle told = absurd (let z : Idle ≡ Closed = sym idle ∙ told refl in cc)
-still-open false d idle told = refl
 
 empty : {P : Type 0} (xs : List P) → length xs ≡ 0 → xs ≡ []
 empty [] h = refl

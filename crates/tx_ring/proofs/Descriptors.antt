@@ -1,10 +1,10 @@
 -- The two words of a descriptor are the halves of its bytes, and a frame has one descriptor for each segment.
-use Rattle.std.proofs.Common.{◌≡◌, ℕ, ◌+◌, ◌*◌, ◌/◌, ◌%◌, ◌<◌, ◌≤◌, List, [], ◌∷◌, map, slice_get, Some, zero, suc, sym, refl, ◌++◌, Bool, true, false, ap, arith}
+use Rattle.std.proofs.Common.{◌≡◌, ℕ, ◌+◌, ◌*◌, ◌/◌, ◌%◌, ◌<◌, ◌≤◌, List, [], ◌∷◌, map, refl, ◌++◌, Bool, true, false, ap, arith}
 use Rattle.std.specs.Int.{w64, to_le_bytes}
 use Rattle.tx_descriptor.specs.Bytes.{descriptor_bytes}
 use Rattle.flake_base.specs.declared.segment.Seg.{Seg}
 use Rattle.tx_ring.specs.Words.{IsShort, second, Each}
-use Rattle.tx_ring.specs.Rows.{segment_descriptor, row_bytes, frame_rows, frame_bytes}
+use Rattle.tx_ring.specs.Rows.{row_bytes, frame_rows, frame_bytes}
 
 eight : (n len c d : ℕ) → len ≤ 4096 → c < 256 → d < 256 → n ≡ len + c * 16777216 + d * 4294967296 → to_le_bytes w64 n ≡ len % 256 ∷ len / 256 % 256 ∷ 0 ∷ c ∷ d ∷ 0 ∷ 0 ∷ 0 ∷ []
 eight n len c d h low small e =
@@ -29,11 +29,3 @@ pub bytes-of-rows : (ss : List Seg) → Each IsShort ss → map row_bytes (frame
 bytes-of-rows [] a = refl
 bytes-of-rows (s ∷ []) a = λ k. halves s.address s.len true false a.0.1 k ∷ []
 bytes-of-rows (s ∷ t ∷ ss) a = λ k. halves s.address s.len false false a.0.1 k ∷ bytes-of-rows (t ∷ ss) a.1 k
-
--- descriptor i is that of segment i
-pub descriptor-at : (ss : List Seg) (i : ℕ) (bytes : List ℕ) → slice_get (frame_bytes ss) i ≡ Some bytes → (s : Seg) × (last : Bool) × (slice_get ss i ≡ Some s) × (bytes ≡ descriptor_bytes (segment_descriptor s last false))
-descriptor-at [] i bytes e = absurd (cc)
-descriptor-at (s ∷ []) zero bytes e = (s, true, refl, let same : descriptor_bytes (segment_descriptor s true false) ≡ bytes = cc in sym same)
-descriptor-at (s ∷ []) (suc i) bytes e = absurd (cc)
-descriptor-at (s ∷ t ∷ ss) zero bytes e = (s, false, refl, let same : descriptor_bytes (segment_descriptor s false false) ≡ bytes = cc in sym same)
-descriptor-at (s ∷ t ∷ ss) (suc i) bytes e = descriptor-at (t ∷ ss) i bytes e

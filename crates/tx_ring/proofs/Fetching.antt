@@ -12,8 +12,6 @@ use Rattle.tx_ring.specs.Ends.{gathering, IsFetching, Fetched}
 use Rattle.tx_ring.specs.Moves.{fetching, holding}
 use Rattle.tx_ring.specs.Plays.{Keeps, fetched, Fetches, with_device}
 use Rattle.tx_ring.specs.declared.view.View.{View}
-use Rattle.tx_ring.specs.declared.view.DeviceStage.{DeviceStage}
-use Rattle.tx_ring.specs.declared.view.DeviceStage.TheVariants.{Fetching}
 use Rattle.tx_ring.proofs.Posting.{word-at}
 use Rattle.tx_ring.proofs.Steps.{fetches-word}
 
@@ -56,10 +54,6 @@ module _ {P : Type 0} (segs : P → List Seg) (n : ℕ) (f : P) where
             ∙ (λ k. (gathering (holding f m.0.device), ((extent segs m.0.device.completed + (size segs f - 1)) % same k, Some f) ∷ []))
             ∙ ap (λ (k : ℕ). (gathering (holding f m.0.device), (k, Some f) ∷ [])) (ap (λ t. t % n) (let q : extent segs m.0.device.completed + (size segs f - 1) ≡ extent segs m.0.device.completed + at = omega arith in q) ∙ sym i.4),
       )
-
--- one frame is fetched at a time
-pub same-frame : {P : Type 0} (stage : DeviceStage P) (f g : P) (k j : ℕ) → stage ≡ Fetching f k → stage ≡ Fetching g j → f ≡ g
-same-frame stage f g k j a b = let e : Fetching f k ≡ Fetching g j = sym a ∙ b in cc
 
 -- what the status word of a descriptor shows
 pub record Shows (ss : List Seg) (k : ℕ) : Type 0 where

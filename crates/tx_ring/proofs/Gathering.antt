@@ -5,7 +5,7 @@ use Rattle.atomic_table.specs.Table.{Me, step, Allows}
 use Rattle.flake_base.specs.declared.segment.Seg.{Seg}
 use Rattle.tx_ring.specs.Words.{second, last_len, IsFrame, size, extent}
 use Rattle.tx_ring.specs.Ends.{gathering, IsAtRest, IsFetching}
-use Rattle.tx_ring.specs.Moves.{fetching, completing, blanked, ending}
+use Rattle.tx_ring.specs.Moves.{fetching, completing, blanked}
 use Rattle.tx_ring.specs.Plays.{Keeps, looked, wrote_back, moved_head, saw_closed, with_device}
 use Rattle.tx_ring.specs.declared.view.View.{View}
 use Rattle.tx_ring.specs.declared.view.DeviceStage.TheVariants.{Holding}
@@ -25,9 +25,6 @@ module _ {P : Type 0} (segs : P → List Seg) (n slots seat : ℕ) (same : slots
   pub after-blank : (m m' : Me (Option P) (View P)) → IsAtRest m → m' ≡ (with_device (blanked m.0.device) m.0, m.1) → (m' ≡ (gathering (blanked m.0.device), [])) × IsAtRest m'
   after-blank m m' rests e = let q : m' ≡ (gathering (blanked m.0.device), []) = e ∙ ap (λ (z : Me (Option P) (View P)). (with_device (blanked m.0.device) z.0, z.1)) rests.0 in
       (q, (q ∙ ap (λ (z : Me (Option P) (View P)). (gathering z.0.device, [])) (sym q), ap (λ (z : Me (Option P) (View P)). z.0.device.stage) q ∙ rests.1))
-
-  pub after-end : (m m' m'' : Me (Option P) (View P)) → m' ≡ (gathering (blanked m.0.device), []) → m'' ≡ (with_device (ending m'.0.device) m'.0, m'.1) → m'' ≡ (gathering (ending (blanked m.0.device)), [])
-  after-end m m' m'' e o = o ∙ ap (λ (z : Me (Option P) (View P)). (with_device (ending z.0.device) z.0, z.1)) e
 
   pub after-look : (m m' : Me (Option P) (View P)) (head : ℕ) (f : P) → IsAtRest m → head ≡ extent segs m.0.device.completed % n → m' ≡ (with_device (fetching f 0 m.0.device) m.0, m.1) → IsFrame (segs f)
       → (m' ≡ (gathering (fetching f 0 m.0.device), [])) × IsFetching segs n m' head 0 f

@@ -18,31 +18,15 @@ use Rattle.tx_ring.specs.declared.view.DeviceStage.TheVariants.{Resting, Fetchin
 use Rattle.tx_ring.proofs.Rounds.{change, slot_here, slot_else, else_where}
 use Rattle.tx_ring.proofs.Words.{each-left, each-right, front-length, frame-length, Frame, extent-append, lay-append, lay-length, stop-at, extent-zero}
 use Rattle.tx_ring.proofs.Posts.{sums, driver-above}
+use Rattle.tx_ring.proofs.Restated.{restated}
 
 module _ {P : Type 0} (segs : P → List Seg) (n : ℕ) (words : List ℕ) (homes : List (maybe.Option (Option P))) (d : DriverView P) (e : DeviceView P) (s : Stands segs n words homes d e) where
   -- the stage alone changes, and neither has the slot of a descriptor out
   restaged : (stage : DeviceStage P) → ((done at : ℕ) → DeviceHas segs done e.stage at → ⊥) → lag segs e.stage ≡ 0 → lag segs stage ≡ 0 → DeviceAt segs s.waiting e.completed stage
       → (blanks : List ℕ) (ended : Bool) → (ended ≡ true → get_or words 2 0 ≢ 0)
       → Stands segs n words homes d (record { completed = e.completed; blanks = blanks; ended = ended; told = e.told; stage = stage })
-  restaged stage free old new fetches blanks ended shut = record {
-    word_count = s.word_count;
-    slot_count = s.slot_count;
-    finished = s.finished;
-    waiting = s.waiting;
-    completed_is = s.completed_is;
-    posted_is = s.posted_is;
-    frames = s.frames;
-    fits = s.fits;
-    written = s.written;
-    tail = s.tail;
-    head = s.head ∙ ap (λ t. (extent segs e.completed - t) % n) (old ∙ sym new);
-    slots = λ j h a b. s.slots j h a (free (extent segs e.completed) (extent segs d.reaped + j));
-    fetches = fetches;
-    closed = s.closed;
-    ended = shut;
-    driver_told = s.driver_told;
-    device_told = s.device_told;
-  }
+  restaged stage free old new fetches blanks ended shut =
+      restated s d.misses d.told blanks ended e.told stage (λ done at had. absurd (free done at had)) (old ∙ sym new) fetches shut s.driver_told s.device_told
 
   module _ (rests : e.stage ≡ Resting) where
     free : (done at : ℕ) → DeviceHas segs done e.stage at → ⊥

@@ -70,14 +70,6 @@ module _ {P : Type 0} (segs : P → List Seg) (n slots seat : ℕ) (m : Me (Opti
       subst (λ (p : ℕ × ℕ). Allows (Keeps segs n) p.0 seat m p.1 (λ _. x) (λ _. wrote_last segs (step p.0 p.1 x 0 none) m x)) (λ k. (sym same k, word k))
       (writes-last-word segs n seat m (ap (λ (z : View P). z.drives) was ∙ i.drives) x (ap (λ (z : View P). z.driver.stage) was ∙ i.idle) (omega (arith, i.whole)) (omega (arith, i.whole, i.room)))
 
-  -- which slot that takes
-  pub last-slot : m.0 ≡ with_driver (drafting y v.driver) v → (extent segs m.0.driver.posted + length m.0.driver.draft / 2) % slots ≡ place
-  last-slot was =
-      let posted = ap (λ (z : View P). extent segs z.driver.posted) was in
-      let draft = ap (λ (z : View P). length z.driver.draft) was ∙ length-append v.driver.draft (y ∷ []) in
-      let e : extent segs m.0.driver.posted + length m.0.driver.draft / 2 ≡ extent segs v.driver.posted + i.drafted = omega (arith, i.whole) in
-      (λ k. e k % same k) ∙ sym i.is_place
-
   pub move-tail : (last after : ℕ) (f : P) (s : Seg) → m ≡ (with_driver (drafted (second s.len true false) (drafting s.address v.driver)) v, (place, Some f) ∷ []) → IsFrame (segs f)
       → v.driver.draft ≡ pairs (take last (segs f)) → slice_get (segs f) last ≡ Some s → last + 1 ≡ size segs f → after ≡ (place + 1) % n
       → Allows (Keeps segs n) slots seat m 0 (λ _. after) (λ _. moved_tail segs (step slots 0 after 0 none) m after)

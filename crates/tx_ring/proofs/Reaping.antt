@@ -7,7 +7,7 @@ use Rattle.atomic_table.specs.Table.{Me, step, Allows, rest}
 use Rattle.flake_base.specs.declared.segment.Seg.{Seg}
 use Rattle.tx_ring.specs.Words.{size, extent}
 use Rattle.tx_ring.specs.Ends.{driving}
-use Rattle.tx_ring.specs.Moves.{reaping, missed, idle}
+use Rattle.tx_ring.specs.Moves.{reaping, missed}
 use Rattle.tx_ring.specs.Plays.{Keeps, saw_status, gave_back, shut, with_driver}
 use Rattle.tx_ring.specs.declared.view.View.{View}
 use Rattle.tx_ring.specs.declared.view.DriverView.{DriverView}
@@ -45,9 +45,6 @@ module _ {P : Type 0} (segs : P → List Seg) (n : ℕ) where
       at ∙ sym (add-mod_right (extent segs d.reaped + (size segs f - 1)) n) ∙ ap (λ t. t % n) (let z : extent segs d.reaped + (size segs f - 1) + n ≡ extent segs m.0.driver.reaped + (n - 1) = omega arith in z) in
       subst (λ (s : ℕ). Allows (Keeps segs n) s seat m k (λ x. x) (gave_back segs (step s k 0 0 none) m)) (sym same)
       (gives-slot-back segs n seat m (ap (λ (z : Me (Option P) (View P)). z.0.drives) e) (ap (λ (z : Me (Option P) (View P)). z.0.driver.stage) e) (ap (λ (z : Me (Option P) (View P)). z.1) e ∙ (λ j. (place j, None) ∷ [])) k)
-
-  pub after-give : (m m' : Me (Option P) (View P)) (d : DriverView P) (f : P) (last : ℕ) → m ≡ (with_driver (reaping f (driving d).driver) (driving d), (last, None) ∷ []) → m' ≡ (with_driver (idle m.0.driver) m.0, rest m.1) → m' ≡ (driving (reaping f d), [])
-  after-give m m' d f last e o = o ∙ ap (λ (z : Me (Option P) (View P)). (with_driver (idle z.0.driver) z.0, rest z.1)) e
 
 -- what was in the slot
 pub slot_value : {P : Type 0} → Option P → List (ℕ × Option P) → Option P

@@ -18,6 +18,7 @@ use Rattle.tx_ring.specs.declared.view.DriverStage.TheVariants.{Idle, Reaping}
 use Rattle.tx_ring.proofs.Rounds.{later, slot_here, slot_else, else_where}
 use Rattle.tx_ring.proofs.Words.{each-right, front-length, frame-length, Frame, extent-append, stops-length}
 use Rattle.tx_ring.proofs.Posts.{sums, device-from}
+use Rattle.tx_ring.proofs.Restated.{restated}
 
 module _ {P : Type 0} (segs : P → List Seg) where
   -- the words of a frame end in that of its status
@@ -56,25 +57,7 @@ module _ {P : Type 0} (segs : P → List Seg) where
           let w : s.waiting ≡ f ∷ more = ap (λ t. t ++ s.waiting) (sym none_done) ∙ ahead in (
             status false (lay segs false more ++ d.draft)
                 (ap (λ t. lay segs true t ++ (lay segs false s.waiting ++ d.draft)) none_done ∙ ap (λ t. lay segs false t ++ d.draft) w ∙ append_assoc (frame_words false (segs f)) (lay segs false more) d.draft),
-            record {
-              word_count = s.word_count;
-              slot_count = s.slot_count;
-              finished = s.finished;
-              waiting = s.waiting;
-              completed_is = s.completed_is;
-              posted_is = s.posted_is;
-              frames = s.frames;
-              fits = s.fits;
-              written = s.written;
-              tail = s.tail;
-              head = s.head;
-              slots = s.slots;
-              fetches = s.fetches;
-              closed = s.closed;
-              ended = s.ended;
-              driver_told = s.driver_told;
-              device_told = s.device_told;
-            },
+            restated s (missed d).misses d.told e.blanks e.ended e.told e.stage (λ done at had. had) refl s.fetches s.ended s.driver_told s.device_told,
             omega (arith, s.driver_told, ap length (s.completed_is ∙ ap (λ t. d.reaped ++ t) none_done ∙ append-nil d.reaped)),
           )
 

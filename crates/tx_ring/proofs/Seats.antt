@@ -13,6 +13,7 @@ use Rattle.tx_ring.specs.declared.view.View.{View}
 use Rattle.tx_ring.specs.declared.view.DriverView.{DriverView}
 use Rattle.tx_ring.specs.declared.view.DeviceView.{DeviceView}
 use Rattle.tx_ring.specs.declared.view.DriverStage.TheVariants.{Closed}
+use Rattle.tx_ring.proofs.Restated.{restated}
 
 -- in a list with one item more an item was there before, or is the new one at its end
 last_or_before : {A : Type 0} (before : List A) (new found : A) (at : ℕ) → get_elem? (before ++ new ∷ []) at ≡ some found → (get_elem? before at ≡ some found) ⊎ ((at ≡ length before) × (new ≡ found))
@@ -86,25 +87,7 @@ module _ {P : Type 0} (segs : P → List Seg) (n : ℕ) (words : List ℕ) (home
             (λ (p : (j ≢ seat) × (get_elem? views j ≡ some u)). absurd (p.0 ((r.gathers j u p.1 t).0 ∙ sym b.0))) (at_set views seat j (driver_part v) u was))
             (λ (new : (j ≡ last) × (device_part v ≡ u)). (new.0, ap (λ (z : View P). z.device) (sym new.1)))
             (last_or_before (set views seat (driver_part v)) (device_part v) u j at);
-        stands = record {
-          word_count = s.word_count;
-          slot_count = s.slot_count;
-          finished = s.finished;
-          waiting = s.waiting;
-          completed_is = s.completed_is;
-          posted_is = s.posted_is;
-          frames = s.frames;
-          fits = s.fits;
-          written = s.written;
-          tail = s.tail;
-          head = s.head;
-          slots = s.slots;
-          fetches = s.fetches;
-          closed = s.closed;
-          ended = s.ended;
-          driver_told = omega arith;
-          device_told = omega arith;
-        };
+        stands = restated s v.driver.misses (driver_part v).driver.told v.device.blanks v.device.ended (device_part v).device.told v.device.stage (λ done at had. had) refl s.fetches s.ended (omega arith) (omega arith);
       }
 
   -- the parts of two seats come to one, and the other is spent

@@ -1,7 +1,8 @@
 use Rattle.std.proofs.Common.{ℕ, ◌+◌, ◌*◌, ◌<◌, [], ◌∷◌, ◌++◌, sym, ◌∙◌, ap, subst, arith}
 use Rattle.std.specs.Fmt.{decimal}
 use Rattle.resp_reader.specs.Head.{NoLine, limit_of}
-use Rattle.resp_reader.proofs.Heads.{no_more, behind_first_zero, past_limit, one_digit_more}
+use Rattle.flake_model.proofs.Decimals.{one_digit_more}
+use Rattle.resp_reader.proofs.Heads.{no_more, behind_first_zero, past_limit}
 use Rattle.resp_reader.proofs.head.more.Goals as goal
 
 pub returns-in_default-clause-none : goal.returns-in_default-clause-none

@@ -1,9 +1,8 @@
-use Rattle.std.proofs.Common.{◌≤◌, refl, subst, arith}
-use Rattle.std.specs.Prelude.{None, Ok}
+use Rattle.std.proofs.Common.{◌≤◌, refl, arith}
+use Rattle.std.specs.Prelude.{None}
 use Rattle.std.proofs.lemmas.Bool.{le-leb}
 use Rattle.pin_core.specs.PinStep.{give}
 use Rattle.pin_core.specs.Answers.{credits_of}
-use Rattle.pin_core.specs.State.{SizedPins, shown, IsAnswer}
 use Rattle.pin_core.specs.declared.event.Change.TheVariants as change
 use Rattle.pin_core.specs.declared.event.PinEvent.TheVariants.{Give}
 use Rattle.pin_core.specs.declared.refused.Refused.TheVariants.{NoCredit}
@@ -32,20 +31,16 @@ take-requires c =
 pub invariant_of-self-2 : goal.invariant_of-self-2
 invariant_of-self-2 c =
     let i = c.self.inside in
-    let s : SizedPins = shown i.sizes i.holds.items i.words.items i.credits in
     let kept = c.self.invariant in
     let enough : c.args.credits ≤ credits_of c.args.from i.credits = omega (arith, c.of.ensures, c.if-credits-of.false) in
     let adds = on_ok c.add.result c.if-is_err.ensures.value c.add.ensures.ok in
-    step_kept i.sizes i.holds.items i.words.items i.credits kept i.holds.items i.words.items c.take.new.self (give c.args.from c.args.to c.args.credits) tt (give_step i.sizes i.holds.items i.words.items i.credits kept c.args.from c.args.to c.args.credits c.add.new.self c.take.new.self enough adds c.take.ensures) kept.short
+    step_kept kept i.holds.items i.words.items c.take.new.self (give c.args.from c.args.to c.args.credits) tt (give_step kept c.args.from c.args.to c.args.credits c.add.new.self c.take.new.self enough adds c.take.ensures) kept.short
 
 pub returns : goal.returns
 returns c =
     let i = c.self.inside in
-    let s : SizedPins = shown i.sizes i.holds.items i.words.items i.credits in
     let kept = c.self.invariant in
     let enough : c.args.credits ≤ credits_of c.args.from i.credits = omega (arith, c.of.ensures, c.if-credits-of.false) in
     let adds = on_ok c.add.result c.if-is_err.ensures.value c.add.ensures.ok in
-    let event = Give c.args.from c.args.to c.args.credits in
     let passes = unless-passed _ NoCredit None (le-leb c.args.credits _ enough) in
-    let From : SizedPins → Type 0 = λ t. IsAnswer t event (Ok change.Given) (shown i.sizes i.holds.items i.words.items c.take.new.self) in
-    subst From c.self.view_is (done s event kept.sound _ change.Given tt passes (give_step i.sizes i.holds.items i.words.items i.credits kept c.args.from c.args.to c.args.credits c.add.new.self c.take.new.self enough adds c.take.ensures) refl)
+    done c.self.view_is (Give c.args.from c.args.to c.args.credits) kept.sound change.Given tt passes (give_step kept c.args.from c.args.to c.args.credits c.add.new.self c.take.new.self enough adds c.take.ensures) refl refl
