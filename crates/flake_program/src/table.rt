@@ -30,8 +30,22 @@ pub fn set(alloc: Global, table: &mut Table, key: &[u8], value: &[u8]) -> Result
     ensures ok { OnOk result (HasChanged key.now (Some value.now) table.old.entries table.new.entries) }
     ensures err { OnErr result (table.new.entries ≡ table.old.entries) }
 {
-    let key = Vec::from_slice(alloc, key)?;
     let value = Vec::from_slice(alloc, value)?;
+    match table.get_mut(key) {
+        Some(place) => {
+            *place = value;
+            Ok(())
+        }
+        None => insert(alloc, table, key, value),
+    }
+}
+
+// Gives a copy of a key a value; after want of memory the table is as it was.
+fn insert(alloc: Global, table: &mut Table, key: &[u8], value: Vec<u8>) -> Result<(), Memory>
+    ensures ok { OnOk result (HasChanged key.now (Some value.items) table.old.entries table.new.entries) }
+    ensures err { OnErr result (table.new.entries ≡ table.old.entries) }
+{
+    let key = Vec::from_slice(alloc, key)?;
     match table.insert(key, value) {
         Ok(_) => Ok(()),
         Err(_) => Err(Memory),
