@@ -1,5 +1,5 @@
 -- A map with keys of bytes, after a change at one key.
-use Rattle.std.proofs.Common.{◌≡◌, ℕ, Bool, true, false, cond, List, Option, IsSome, is_some, None, Some, refl, sym, ap, ◌∙◌, subst, ⊎_elim}
+use Rattle.std.proofs.Common.{◌≡◌, ℕ, Bool, true, false, cond, List, Option, IsSome, Some, refl, sym, ap, ◌∙◌, subst, ⊎_elim}
 use Rattle.std.specs.Global.{Vec}
 use Rattle.std.specs.HashMap.{HashMap, UpdatesBy, WritesThrough, get_by}
 use Rattle.std.specs.Map.{lookup, IsKeyTest, AreApart, KeepsOthers}
@@ -39,11 +39,6 @@ unchanged key old new same other =
     (λ is. ap (λ k. bytes_at k old) (sym ((bytes_decides key other).0 is)) ∙ sym (cond-true (same_bytes key other) (bytes_at key old) (bytes_at other old) is))
     (λ differs. sym (cond-false (same_bytes key other) (bytes_at key old) (bytes_at other old) differs))
     (cases_Bool (same_bytes key other))
-
--- whether a value was found, and whether bytes were
-pub was_there : (value : Option (Vec ℕ)) (bytes : Option (List ℕ)) → option_map (λ (v : Vec ℕ). v.items) value ≡ bytes → is_some value ≡ is_some bytes
-was_there None bytes is = ap is_some is
-was_there (Some value) bytes is = ap is_some is
 
 -- a value that was written through what was lent of it
 pub through : {S : Type 0} (key : List ℕ) (old new : HashMap (Vec ℕ) (Vec ℕ) S) (was now : Vec ℕ) → get_by (λ (name : Vec ℕ). same_bytes key name.items) old ≡ Some was → WritesThrough key_eq (λ (name : Vec ℕ). same_bytes key name.items) old now new

@@ -4,7 +4,7 @@ use Rattle.flake_base.specs.Growth.{Grew}
 use Rattle.flake_base.specs.declared.journal.Entry.{Entry}
 use Rattle.flake_base.specs.declared.session.SessionEnd.{SessionEnd}
 use Rattle.flake_model.specs.Run.{WasServed}
-use Rattle.flake_model.specs.Wire.{FaultIs, WiresGrew, FaultsAre}
+use Rattle.flake_model.specs.Wire.{WiresGrew}
 use Rattle.flake_model.proofs.ManyShards.{many_shards_wire, many_shards_in_order}
 use Rattle.flake_model.proofs.OneOrder.{many_shards_one_order}
 use Rattle.flake_program.specs.Session.{texts_to, HasServed, HasRun}
@@ -14,12 +14,6 @@ first_grew : {A : Type 0} (sent : A → Option (List ℕ)) (olds : List A) (firs
     → Grew failed text (sent first) (sent new) → WiresGrew ((failed, text) ∷ []) (map sent olds) (map sent (set olds 0 new))
 first_grew sent [] first new failed text some is grew = absurd (omega arith)
 first_grew sent (old ∷ olds) first new failed text some is grew = (subst (λ w. Grew failed text (sent w) (sent new)) is grew, refl)
-
--- the first wire's count is as told, and the others' are as they were
-pub first_faults : {A : Type 0} (faults : A → ℕ) (olds : List A) (first new : A) (failed : Bool) → 0 < length olds → first ≡ get_or olds 0 first
-    → FaultIs failed (faults first) (faults new) → FaultsAre (failed ∷ []) (map faults olds) (map faults (set olds 0 new))
-first_faults faults [] first new failed some is cause = absurd (omega arith)
-first_faults faults (old ∷ olds) first new failed some is cause = (subst (λ w. FaultIs failed (faults w) (faults new)) is cause, refl)
 
 was_served : {A : Type 0} (sent : A → Option (List ℕ)) (wires : List A) (first new : A) (bytes : List ℕ) (end : SessionEnd) (journal : List (List Entry)) → 0 < length wires → first ≡ get_or wires 0 first
     → 0 < length journal → HasServed bytes end journal (sent first) (sent new) → WasServed (bytes ∷ []) (end ∷ []) journal (map sent wires) (map sent (set wires 0 new))
