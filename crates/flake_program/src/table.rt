@@ -3,15 +3,13 @@ ghost use Rattle.std.specs.Prelude.{◌≡◌, IfOk, OnOk, OnErr, Some, None, is
 ghost use Rattle.std.specs.Option.{option_map};
 ghost use Rattle.flake_program.specs.Table.{bytes_at, appended_length, after_append, HasChanged, HasKept};
 
+use command_exec::VALUE_LIMIT;
 use flake_base::Memory;
 use indexmap::IndexMap;
 use std::alloc::Global;
 
 /// Values by key.
 pub type Table = IndexMap<Vec<u8>, Vec<u8>>;
-
-/// The most bytes of a value.
-const VALUE_LIMIT: usize = 16_384;
 
 pub fn get<'a>(table: &'a Table, key: &[u8]) -> Option<&'a Vec<u8>>
     ensures { option_map (λ value. value.now.items) result ≡ bytes_at key.now table.now.entries }
