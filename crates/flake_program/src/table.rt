@@ -68,7 +68,7 @@ pub fn append(
             if bytes.len() > VALUE_LIMIT {
                 return Ok(None);
             }
-            set(alloc, table, key, bytes)?;
+            insert(alloc, table, key, Vec::from_slice(alloc, bytes)?)?;
             Ok(Some(bytes.len() as u64))
         }
     }
