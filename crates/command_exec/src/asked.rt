@@ -16,7 +16,7 @@ const MOST_KEYS: usize = 64;
 const KEY_LIMIT: usize = 512;
 
 /// The most bytes of a value, of what is appended to one, and of PING's argument.
-const VALUE_LIMIT: usize = 16_384;
+pub const VALUE_LIMIT: usize = 16_384;
 
 /// What a request asks for, or the error of the first test that it fails.
 pub(crate) fn op_asked(request: &Request) -> Op

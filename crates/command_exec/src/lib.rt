@@ -8,5 +8,6 @@ mod op;
 #[cfg(test)]
 mod tests;
 
+pub use asked::VALUE_LIMIT;
 pub use command::Command;
 pub use op::Op;

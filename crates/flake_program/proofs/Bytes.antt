@@ -41,7 +41,7 @@ unchanged key old new same other =
     (cases_Bool (same_bytes key other))
 
 -- a value that was written through what was lent of it
-through : {S : Type 0} (key : List ℕ) (old new : HashMap (Vec ℕ) (Vec ℕ) S) (was now : Vec ℕ) → get_by (λ (name : Vec ℕ). same_bytes key name.items) old ≡ Some was → WritesThrough key_eq (λ (name : Vec ℕ). same_bytes key name.items) old now new
+pub through : {S : Type 0} (key : List ℕ) (old new : HashMap (Vec ℕ) (Vec ℕ) S) (was now : Vec ℕ) → get_by (λ (name : Vec ℕ). same_bytes key name.items) old ≡ Some was → WritesThrough key_eq (λ (name : Vec ℕ). same_bytes key name.items) old now new
     → HasChanged key (Some now.items) old.entries new.entries
 through key old new was now had written = updated key old new (Some now) (written.3 (subst IsSome (sym had) refl))
 

@@ -20,7 +20,7 @@ use Rattle.resp_reader.specs.declared.error.ReadError.TheVariants as errors
 use Rattle.resp_reader.specs.Reader.{Progress, Reads, IsReadTo, IsTaken as IsJudged, end_of}
 use Rattle.resp_reader.proofs.Fed.{read_ends}
 use Rattle.flake_program.specs.Given.{Gave}
-use Rattle.flake_program.specs.Pump.{BeginsWith, IsWhole, AreRead, AreFirst, IsEnded, IsAt, IsPump, PumpState, HasEnded, EndFaults, FaultsSo, ended_at, taken_by, stage_after}
+use Rattle.flake_program.specs.Pump.{BeginsWith, IsWhole, AreRead, AreFirst, IsEnded, IsAt, IsPump, PumpState, HasEnded, FaultsSo, ended_at, taken_by, stage_after}
 use Rattle.flake_program.specs.declared.pump.Stage.{Stage}
 use Rattle.flake_program.specs.declared.pump.Stage.TheVariants.{Reading, Refused, Ended}
 
@@ -46,14 +46,6 @@ open_are_read bytes requests reader is reads = read_so_far bytes (requests ++ re
 begins : (input left : Option (List ℕ)) (bytes : List ℕ) → Gave input left bytes → BeginsWith input bytes
 begins None left bytes gave = tt
 begins (Some all) left bytes gave = (gave.0, gave.2)
-
--- a source that has nothing more has given the whole input
-whole : (input left new : Option (List ℕ)) (bytes room : List ℕ) → Gave input left bytes → Takes left new 0 room → IsWhole input bytes
-whole None left new bytes room gave reads = tt
-whole (Some all) None new bytes room gave reads = absurd (cc (gave.1))
-whole (Some all) (Some l) new bytes room gave reads =
-    let rest : l ≡ gave.0 = cc (gave.1) in
-    gave.2 ∙ ap (λ r. bytes ++ r) (sym rest ∙ reads.end refl) ∙ append-nil bytes
 
 -- a source that gave a piece more
 gave_more : (input left new : Option (List ℕ)) (bytes piece room : List ℕ) (n : ℕ) → Gave input left bytes → Takes left new n room → piece ≡ take n room → Gave input new (bytes ++ piece)
@@ -102,31 +94,6 @@ at_fault input before given pump left faults is none rose p =
       taken_is = r.taken_is;
       faults_are = subst (λ n. Rose n faults) r.faults_are rose;
       at = (begins input pump.left r.bytes r.gave, open_are_read r.bytes r.requests pump.reader r.closed r.reads, none, r.given_is);
-    }
-
--- the end of the input
-ends_so : (end : End) (input : Option (List ℕ)) (bytes : List ℕ) (requests : List Words) (given : List Command) (reader : Progress) → (end ≡ Clean) ⊎ ((place : ℕ) × (end ≡ Truncated place))
-    → IsWhole input bytes → Parses bytes (requests ++ reader.requests) end → given ≡ map command_of requests → (before : ℕ) → (EndFaults end before before) × IsEnded end input bytes requests given reader
-ends_so end input bytes requests given reader (inl is) all parsed given_is before =
-    subst (λ e. EndFaults e before before × IsEnded e input bytes requests given reader) (sym is) (refl, (all, subst (Parses bytes (requests ++ reader.requests)) is parsed, given_is))
-ends_so end input bytes requests given reader (inr at) all parsed given_is before =
-    subst (λ e. EndFaults e before before × IsEnded e input bytes requests given reader) (sym at.1) (refl, (all, subst (Parses bytes (requests ++ reader.requests)) at.1 parsed, given_is))
-
-pub at_end : (input : Option (List ℕ)) (before : ℕ) (given : List Command) (pump : PumpState) (left : Option (List ℕ)) (faults : ℕ) (reader : Progress) (end : End) (room : List ℕ) → pump.stage ≡ Reading
-    → pump.reader.requests ≡ [] → reader.requests ≡ [] → faults ≡ pump.faults → Takes pump.left left 0 room → ((bytes : List ℕ) (given : List Words) → Reads bytes given pump.reader → Parses bytes (given ++ pump.reader.requests) end)
-    → (end ≡ Clean) ⊎ ((place : ℕ) × (end ≡ Truncated place)) → IsPump input before given pump
-    → IsPump input before given (record { left = left; faults = faults; reader = reader; stage = Ended end; taken = pump.taken })
-at_end input before given pump left faults reader end room is none fresh same reads parsed ends p =
-    let r = while_reading input before given pump is p in
-    let empty : pump.reader.requests ≡ reader.requests = none ∙ sym fresh in
-    let so = ends_so end input r.bytes r.requests given reader ends (whole input pump.left left r.bytes room r.gave reads)
-    (subst (λ (more : List Words). Parses r.bytes (r.requests ++ more) end) empty (parsed r.bytes r.requests r.reads)) r.given_is before in
-    record {
-      bytes = r.bytes;
-      requests = r.requests;
-      taken_is = r.taken_is;
-      faults_are = subst (λ n. EndFaults end before n) (sym (same ∙ r.faults_are)) so.0;
-      at = so.1;
     }
 
 -- a piece that was taken
@@ -223,23 +190,12 @@ reads_left pump = left_at pump.stage pump.taken where
   left_at (Refused kind place) taken = 0
   left_at (Ended end) taken = 0
 
--- two readers that show the same
-pub same_reader : (a b : Progress) → a.requests ≡ b.requests → a.front ≡ b.front → a.place ≡ b.place → a.closed ≡ b.closed → a ≡ b
-same_reader a b requests front place closed =
-    ap (λ r. record { requests = r; front = a.front; place = a.place; closed = a.closed }) requests
-    ∙ ap (λ f. record { requests = b.requests; front = f; place = a.place; closed = a.closed }) front
-    ∙ ap (λ p. record { requests = b.requests; front = b.front; place = p; closed = a.closed }) place
-    ∙ ap (λ c. record { requests = b.requests; front = b.front; place = b.place; closed = c }) closed
-
 -- a request that was given is no longer held
 one_more : (requests more rest : List Words) (request : Words) → more ≡ request ∷ rest → requests ++ more ≡ (requests ++ request ∷ []) ++ rest
 one_more requests more rest request is = ap (λ m. requests ++ m) is ∙ sym (append_assoc requests (request ∷ []) rest)
 
 given_more : (given : List Command) (requests : List Words) (request : Words) → given ≡ map command_of requests → given ++ command_of request ∷ [] ≡ map command_of (requests ++ request ∷ [])
 given_more given requests request is = ap (λ g. g ++ command_of request ∷ []) is ∙ sym (map-append command_of requests (request ∷ []))
-
-are_read_more : (bytes : List ℕ) (some more : List Words) → some ≡ more → AreRead bytes some → AreRead bytes more
-are_read_more bytes some more is = subst (AreRead bytes) is
 
 took_last : (end : End) (input : Option (List ℕ)) (bytes : List ℕ) (requests : List Words) (given : List Command) (reader new : Progress) (request : Words) → reader.requests ≡ request ∷ new.requests
     → IsEnded end input bytes requests given reader → IsEnded end input bytes (requests ++ request ∷ []) (given ++ command_of request ∷ []) new

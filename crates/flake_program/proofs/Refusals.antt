@@ -1,4 +1,4 @@
--- What a refusal tells.
+-- What is said, and lists of one item.
 use Rattle.std.proofs.Common.{◌≡◌, ℕ, List, [], ◌∷◌, Option, All, subst}
 use Rattle.std.proofs.lemmas.List.Elements.{recursion_from_All}
 use Rattle.flake_program.specs.Told.{Says}

@@ -8,16 +8,13 @@ ghost use Rattle.flake_program.specs.Pump.{IsPump, HasEnded, taken_by, stage_aft
 
 use command_exec::Command;
 use flake_base::{End, ErrorKind, Failed, Source};
-use resp_reader::{Ended, ReadError, Reader};
+use resp_reader::{Ended, JUDGED, ReadError, Reader};
 use std::alloc::Global;
 use std::marker::Model;
 use std::mem::replace;
 
 /// The most bytes of one read.
 const PIECE: usize = 4096;
-
-/// How many bytes of an input are judged: 64 MiB.
-const JUDGED: u64 = 67_108_864;
 
 /// How far a pump has come.
 #[derive(Clone, Copy, Debug, PartialEq, Eq)]

@@ -3,15 +3,13 @@ ghost use Rattle.std.specs.Prelude.{◌≡◌, IfOk, OnOk, OnErr, Some, None, is
 ghost use Rattle.std.specs.Option.{option_map};
 ghost use Rattle.flake_program.specs.Table.{bytes_at, appended_length, after_append, HasChanged, HasKept};
 
+use command_exec::VALUE_LIMIT;
 use flake_base::Memory;
 use indexmap::IndexMap;
 use std::alloc::Global;
 
 /// Values by key.
 pub type Table = IndexMap<Vec<u8>, Vec<u8>>;
-
-/// The most bytes of a value.
-const VALUE_LIMIT: usize = 16_384;
 
 pub fn get<'a>(table: &'a Table, key: &[u8]) -> Option<&'a Vec<u8>>
     ensures { option_map (λ value. value.now.items) result ≡ bytes_at key.now table.now.entries }
@@ -30,8 +28,22 @@ pub fn set(alloc: Global, table: &mut Table, key: &[u8], value: &[u8]) -> Result
     ensures ok { OnOk result (HasChanged key.now (Some value.now) table.old.entries table.new.entries) }
     ensures err { OnErr result (table.new.entries ≡ table.old.entries) }
 {
-    let key = Vec::from_slice(alloc, key)?;
     let value = Vec::from_slice(alloc, value)?;
+    match table.get_mut(key) {
+        Some(place) => {
+            *place = value;
+            Ok(())
+        }
+        None => insert(alloc, table, key, value),
+    }
+}
+
+// Gives a copy of a key a value; after want of memory the table is as it was.
+fn insert(alloc: Global, table: &mut Table, key: &[u8], value: Vec<u8>) -> Result<(), Memory>
+    ensures ok { OnOk result (HasChanged key.now (Some value.items) table.old.entries table.new.entries) }
+    ensures err { OnErr result (table.new.entries ≡ table.old.entries) }
+{
+    let key = Vec::from_slice(alloc, key)?;
     match table.insert(key, value) {
         Ok(_) => Ok(()),
         Err(_) => Err(Memory),
@@ -56,7 +68,7 @@ pub fn append(
             if bytes.len() > VALUE_LIMIT {
                 return Ok(None);
             }
-            set(alloc, table, key, bytes)?;
+            insert(alloc, table, key, Vec::from_slice(alloc, bytes)?)?;
             Ok(Some(bytes.len() as u64))
         }
     }

@@ -1,6 +1,6 @@
 use crate::outcome::Detail;
 use crate::run::run;
-use flake_base::{Bytes, Fails, Files, Journal, MemoryHost, MemoryWire, Wire};
+use flake_base::{Bytes, Entry, Fails, Files, Journal, MemoryHost, MemoryWire, Wire};
 use std::alloc::Global;
 use std::process::Abort;
 use std::test::Fail;
@@ -60,6 +60,34 @@ const CANNOT_OPEN: Row = Row {
     ..SERVED
 };
 
+/// What the tests compare of a run's outcome.
+#[derive(Drop)]
+struct Seen {
+    status: u8,
+    detail: Detail,
+    is_unserved: bool,
+    journal: Journal,
+    wires: Vec<Box<dyn Wire>>,
+}
+
+// The only call of `run`. It has no clauses, so that no assertion carries those of `run`.
+fn ran(
+    rt: &impl Abort,
+    alloc: Global,
+    words: &[String],
+    host: &mut MemoryHost,
+    wires: Vec<Box<dyn Wire>>,
+) -> Seen {
+    let outcome = run(rt, alloc, words, host, wires);
+    Seen {
+        status: outcome.status,
+        detail: outcome.detail,
+        is_unserved: outcome.ends.is_empty(),
+        journal: outcome.journal,
+        wires: outcome.wires,
+    }
+}
+
 fn fails(alloc: Global, number: Option<u64>) -> Result<Fails, Fail> {
     let mut fails = Fails::with_room(alloc, 1)?;
     if let Some(number) = number {
@@ -76,6 +104,50 @@ fn memory_host(alloc: Global, row: &Row, input: Bytes) -> Result<MemoryHost, Fai
     Ok(host)
 }
 
+fn typed(alloc: Global, texts: &[&str]) -> Result<Vec<String>, Fail> {
+    let mut words = Vec::new(alloc);
+    for text in texts {
+        words.push(String::from_str(alloc, text)?)?;
+    }
+    Ok(words)
+}
+
+fn one_wire(
+    alloc: Global,
+    room: usize,
+    put_fails: Option<u64>,
+) -> Result<Vec<Box<dyn Wire>>, Fail> {
+    let mut wires: Vec<Box<dyn Wire>> = Vec::with_capacity(alloc, 1)?;
+    let wire = MemoryWire::new(alloc, room, fails(alloc, put_fails)?)?;
+    wires.push(Box::new(alloc, wire)?)?;
+    Ok(wires)
+}
+
+// Each wire was sent this.
+fn expect_sent(rt: &impl Abort, wires: &[Box<dyn Wire>], sent: &[u8]) {
+    for wire in wires {
+        assert_eq!(rt; wire.shown(), Some(sent));
+    }
+}
+
+// A history has the parts of its shard that stand from this place on; answers the place behind them.
+fn expect_history(
+    rt: &impl Abort,
+    shard: u16,
+    history: &[Entry],
+    parts: &[Part],
+    place: usize,
+) -> usize {
+    let mut place = place;
+    for entry in history {
+        assert!(rt; place < parts.len());
+        assert_eq!(rt; entry.session, 0);
+        assert_eq!(rt; (shard, entry.call, entry.part), parts[place]);
+        place += 1;
+    }
+    place
+}
+
 // The journal has these parts, and no others.
 fn expect_journal(rt: &impl Abort, journal: &Journal, parts: Option<&[Part]>) {
     let Some(parts) = parts else {
@@ -85,12 +157,7 @@ fn expect_journal(rt: &impl Abort, journal: &Journal, parts: Option<&[Part]>) {
     assert_eq!(rt; journal.len(), 8);
     let mut place = 0;
     for (shard, history) in journal.as_slice().iter().enumerate() {
-        for entry in history.as_slice() {
-            assert!(rt; place < parts.len());
-            assert_eq!(rt; entry.session, 0);
-            assert_eq!(rt; (shard as u16, entry.call, entry.part), parts[place]);
-            place += 1;
-        }
+        place = expect_history(rt, shard as u16, history.as_slice(), parts, place);
     }
     assert_eq!(rt; place, parts.len());
 }
@@ -98,23 +165,16 @@ fn expect_journal(rt: &impl Abort, journal: &Journal, parts: Option<&[Part]>) {
 // Serves an input in place of the row's own.
 fn check_input(rt: &impl Abort, alloc: Global, row: &Row, input: Bytes) -> Result<(), Fail> {
     let mut host = memory_host(alloc, row, input)?;
-    let mut words = Vec::new(alloc);
-    for word in row.words {
-        words.push(String::from_str(alloc, word)?)?;
-    }
-    let mut wires: Vec<Box<dyn Wire>> = Vec::with_capacity(alloc, 1)?;
-    let wire = MemoryWire::new(alloc, 65_536, fails(alloc, row.put_fails)?)?;
-    wires.push(Box::new(alloc, wire)?)?;
-    let outcome = run(rt, alloc, words.as_slice(), &mut host, wires);
-    assert_eq!(rt; outcome.status, row.status);
-    assert_eq!(rt; outcome.detail, row.detail);
+    let words = typed(alloc, row.words)?;
+    let wires = one_wire(alloc, 65_536, row.put_fails)?;
+    let seen = ran(rt, alloc, words.as_slice(), &mut host, wires);
+    assert_eq!(rt; seen.status, row.status);
+    assert_eq!(rt; seen.detail, row.detail);
     assert_eq!(rt; host.said(), row.said.as_bytes());
-    assert_eq!(rt; outcome.wires.len(), 1);
-    for wire in &outcome.wires {
-        assert_eq!(rt; wire.shown(), Some(row.sent));
-    }
-    assert_eq!(rt; outcome.ends.is_empty(), row.parts.is_none());
-    expect_journal(rt, &outcome.journal, row.parts);
+    assert_eq!(rt; seen.wires.len(), 1);
+    expect_sent(rt, seen.wires.as_slice(), row.sent);
+    assert_eq!(rt; seen.is_unserved, row.parts.is_none());
+    expect_journal(rt, &seen.journal, row.parts);
     Ok(())
 }
 
@@ -129,234 +189,258 @@ fn check_all(rt: &impl Abort, alloc: Global, rows: &[Row]) -> Result<(), Fail> {
     Ok(())
 }
 
+// Each row, its input in pieces of at most so many bytes.
+fn check_in_steps(rt: &impl Abort, alloc: Global, rows: &[Row], step: usize) -> Result<(), Fail> {
+    for row in rows {
+        check(rt, alloc, &Row { step, ..*row })?;
+    }
+    Ok(())
+}
+
+static A_SET_AND_A_GET: [Row; 1] = [SERVED];
+
 #[test]
 fn a_set_and_a_get(rt: HostRuntime) -> Result<(), Fail> {
     for step in [1, 2, 26, 27, 28, 46, 47, 48] {
-        check(&rt, rt.alloc(), &Row { step, ..SERVED })?;
+        check_in_steps(&rt, rt.alloc(), &A_SET_AND_A_GET, step)?;
     }
     Ok(())
 }
 
-// What each command answers, and where its parts stand.
-#[test]
-fn commands(rt: HostRuntime) -> Result<(), Fail> {
-    let rows = [
-        Row {
-            input: b"",
-            said: "session 0 clean taken 0 replies 0 wire whole\n",
-            sent: b"",
-            parts: Some(&[]),
-            ..SERVED
-        },
-        // SET e "", GET e, GET x
-        Row {
-            input: b"*3\r\n$3\r\nSET\r\n$1\r\ne\r\n$0\r\n\r\n*2\r\n$3\r\nGET\r\n$1\r\ne\r\n*2\r\n$3\r\nGET\r\n$1\r\nx\r\n",
-            said: "session 0 clean taken 66 replies 3 wire whole\n",
-            sent: b"+OK\r\n$0\r\n\r\n$-1\r\n",
-            parts: Some(&[(0, 0, 0), (0, 1, 0), (7, 2, 0)]),
-            ..SERVED
-        },
-        // SET a 1, DEL a a, SET b 1, EXISTS b b
-        Row {
-            input: b"*3\r\n$3\r\nSET\r\n$1\r\na\r\n$1\r\n1\r\n*3\r\n$3\r\nDEL\r\n$1\r\na\r\n$1\r\na\r\n*3\r\n$3\r\nSET\r\n$1\r\nb\r\n$1\r\n1\r\n*3\r\n$6\r\nEXISTS\r\n$1\r\nb\r\n$1\r\nb\r\n",
-            said: "session 0 clean taken 111 replies 4 wire whole\n",
-            sent: b"+OK\r\n:1\r\n+OK\r\n:2\r\n",
-            parts: Some(&[
-                (4, 0, 0),
-                (4, 1, 0),
-                (4, 1, 1),
-                (5, 2, 0),
-                (5, 3, 0),
-                (5, 3, 1),
-            ]),
-            ..SERVED
-        },
-        // APPEND k ab, append k cd, GET k
-        Row {
-            input: b"*3\r\n$6\r\nAPPEND\r\n$1\r\nk\r\n$2\r\nab\r\n*3\r\n$6\r\nappend\r\n$1\r\nk\r\n$2\r\ncd\r\n*2\r\n$3\r\nGET\r\n$1\r\nk\r\n",
-            said: "session 0 clean taken 82 replies 3 wire whole\n",
-            sent: b":2\r\n:4\r\n$4\r\nabcd\r\n",
-            parts: Some(&[(2, 0, 0), (2, 1, 0), (2, 2, 0)]),
-            ..SERVED
-        },
-        // SET a 1, mGet a x a, EXISTS a x a, DEL x a, GET a
-        Row {
-            input: b"*3\r\n$3\r\nSET\r\n$1\r\na\r\n$1\r\n1\r\n*4\r\n$4\r\nmGet\r\n$1\r\na\r\n$1\r\nx\r\n$1\r\na\r\n*4\r\n$6\r\nEXISTS\r\n$1\r\na\r\n$1\r\nx\r\n$1\r\na\r\n*3\r\n$3\r\nDEL\r\n$1\r\nx\r\n$1\r\na\r\n*2\r\n$3\r\nGET\r\n$1\r\na\r\n",
-            said: "session 0 clean taken 146 replies 5 wire whole\n",
-            sent: b"+OK\r\n*3\r\n$1\r\n1\r\n$-1\r\n$1\r\n1\r\n:2\r\n:1\r\n$-1\r\n",
-            parts: Some(&[
-                (4, 0, 0),
-                (4, 1, 0),
-                (4, 1, 2),
-                (4, 2, 0),
-                (4, 2, 2),
-                (4, 3, 1),
-                (4, 4, 0),
-                (7, 1, 1),
-                (7, 2, 1),
-                (7, 3, 0),
-            ]),
-            ..SERVED
-        },
-        // get a, FLY, SET a, SET a b EX 9, PING, PING hi
-        Row {
-            input: b"*2\r\n$3\r\nget\r\n$1\r\na\r\n*1\r\n$3\r\nFLY\r\n*2\r\n$3\r\nSET\r\n$1\r\na\r\n*5\r\n$3\r\nSET\r\n$1\r\na\r\n$1\r\nb\r\n$2\r\nEX\r\n$1\r\n9\r\n*1\r\n$4\r\nPING\r\n*2\r\n$4\r\nPING\r\n$2\r\nhi\r\n",
-            said: "session 0 clean taken 131 replies 6 wire whole\n",
-            sent: b"$-1\r\n-ERR unknown command\r\n-ERR wrong number of arguments\r\n-ERR syntax error\r\n+PONG\r\n$2\r\nhi\r\n",
-            parts: Some(&[(4, 0, 0)]),
-            ..SERVED
-        },
-        // the empty and the null array are skipped
-        Row {
-            input: b"*0\r\n*-1\r\n*1\r\n$4\r\nPING\r\n",
-            said: "session 0 clean taken 23 replies 1 wire whole\n",
-            sent: b"+PONG\r\n",
-            parts: Some(&[]),
-            ..SERVED
-        },
-    ];
-    check_all(&rt, rt.alloc(), &rows)
-}
-
-// Inputs that aren't whole requests: what came before is served.
-#[test]
-fn bad_inputs(rt: HostRuntime) -> Result<(), Fail> {
-    let bad = Row {
-        status: 3,
+/// What each command answers, and where its parts stand.
+static COMMANDS: [Row; 7] = [
+    Row {
+        input: b"",
+        said: "session 0 clean taken 0 replies 0 wire whole\n",
+        sent: b"",
         parts: Some(&[]),
         ..SERVED
-    };
-    let rows = [
-        Row {
-            input: b"*1\r\n$4\r\nPING\r\n*2\r\n$3\r\nGE",
-            said: "session 0 truncated at 14 taken 24 replies 1 wire whole\n",
-            sent: b"+PONG\r\n",
-            ..bad
-        },
-        Row {
-            input: b"*1\r\n$01\r\n",
-            said: "session 0 protocol 3 at 6 taken 7 replies 1 wire whole\n",
-            sent: b"-ERR Protocol error: invalid bulk length\r\n",
-            ..bad
-        },
-        Row {
-            input: b"*1025\r\n",
-            said: "session 0 protocol 1 at 4 taken 5 replies 1 wire whole\n",
-            sent: b"-ERR Protocol error: invalid multibulk length\r\n",
-            ..bad
-        },
-        Row {
-            input: b"*1\r\n+OK\r\n",
-            said: "session 0 protocol 2 at 4 taken 5 replies 1 wire whole\n",
-            sent: b"-ERR Protocol error: expected '$'\r\n",
-            ..bad
-        },
-        Row {
-            input: b"PING\r\n",
-            said: "session 0 protocol 4 at 0 taken 1 replies 1 wire whole\n",
-            sent: b"-ERR Protocol error: inline commands are not supported\r\n",
-            ..bad
-        },
-        Row {
-            input: b"*1\r\n$4\r\nPING\r\n*1\r\n$4\r\nPINGX",
-            said: "session 0 protocol 3 at 26 taken 27 replies 2 wire whole\n",
-            sent: b"+PONG\r\n-ERR Protocol error: invalid bulk length\r\n",
-            ..bad
-        },
-    ];
+    },
+    // SET e "", GET e, GET x
+    Row {
+        input: b"*3\r\n$3\r\nSET\r\n$1\r\ne\r\n$0\r\n\r\n*2\r\n$3\r\nGET\r\n$1\r\ne\r\n*2\r\n$3\r\nGET\r\n$1\r\nx\r\n",
+        said: "session 0 clean taken 66 replies 3 wire whole\n",
+        sent: b"+OK\r\n$0\r\n\r\n$-1\r\n",
+        parts: Some(&[(0, 0, 0), (0, 1, 0), (7, 2, 0)]),
+        ..SERVED
+    },
+    // SET a 1, DEL a a, SET b 1, EXISTS b b
+    Row {
+        input: b"*3\r\n$3\r\nSET\r\n$1\r\na\r\n$1\r\n1\r\n*3\r\n$3\r\nDEL\r\n$1\r\na\r\n$1\r\na\r\n*3\r\n$3\r\nSET\r\n$1\r\nb\r\n$1\r\n1\r\n*3\r\n$6\r\nEXISTS\r\n$1\r\nb\r\n$1\r\nb\r\n",
+        said: "session 0 clean taken 111 replies 4 wire whole\n",
+        sent: b"+OK\r\n:1\r\n+OK\r\n:2\r\n",
+        parts: Some(&[
+            (4, 0, 0),
+            (4, 1, 0),
+            (4, 1, 1),
+            (5, 2, 0),
+            (5, 3, 0),
+            (5, 3, 1),
+        ]),
+        ..SERVED
+    },
+    // APPEND k ab, append k cd, GET k
+    Row {
+        input: b"*3\r\n$6\r\nAPPEND\r\n$1\r\nk\r\n$2\r\nab\r\n*3\r\n$6\r\nappend\r\n$1\r\nk\r\n$2\r\ncd\r\n*2\r\n$3\r\nGET\r\n$1\r\nk\r\n",
+        said: "session 0 clean taken 82 replies 3 wire whole\n",
+        sent: b":2\r\n:4\r\n$4\r\nabcd\r\n",
+        parts: Some(&[(2, 0, 0), (2, 1, 0), (2, 2, 0)]),
+        ..SERVED
+    },
+    // SET a 1, mGet a x a, EXISTS a x a, DEL x a, GET a
+    Row {
+        input: b"*3\r\n$3\r\nSET\r\n$1\r\na\r\n$1\r\n1\r\n*4\r\n$4\r\nmGet\r\n$1\r\na\r\n$1\r\nx\r\n$1\r\na\r\n*4\r\n$6\r\nEXISTS\r\n$1\r\na\r\n$1\r\nx\r\n$1\r\na\r\n*3\r\n$3\r\nDEL\r\n$1\r\nx\r\n$1\r\na\r\n*2\r\n$3\r\nGET\r\n$1\r\na\r\n",
+        said: "session 0 clean taken 146 replies 5 wire whole\n",
+        sent: b"+OK\r\n*3\r\n$1\r\n1\r\n$-1\r\n$1\r\n1\r\n:2\r\n:1\r\n$-1\r\n",
+        parts: Some(&[
+            (4, 0, 0),
+            (4, 1, 0),
+            (4, 1, 2),
+            (4, 2, 0),
+            (4, 2, 2),
+            (4, 3, 1),
+            (4, 4, 0),
+            (7, 1, 1),
+            (7, 2, 1),
+            (7, 3, 0),
+        ]),
+        ..SERVED
+    },
+    // get a, FLY, SET a, SET a b EX 9, PING, PING hi
+    Row {
+        input: b"*2\r\n$3\r\nget\r\n$1\r\na\r\n*1\r\n$3\r\nFLY\r\n*2\r\n$3\r\nSET\r\n$1\r\na\r\n*5\r\n$3\r\nSET\r\n$1\r\na\r\n$1\r\nb\r\n$2\r\nEX\r\n$1\r\n9\r\n*1\r\n$4\r\nPING\r\n*2\r\n$4\r\nPING\r\n$2\r\nhi\r\n",
+        said: "session 0 clean taken 131 replies 6 wire whole\n",
+        sent: b"$-1\r\n-ERR unknown command\r\n-ERR wrong number of arguments\r\n-ERR syntax error\r\n+PONG\r\n$2\r\nhi\r\n",
+        parts: Some(&[(4, 0, 0)]),
+        ..SERVED
+    },
+    // the empty and the null array are skipped
+    Row {
+        input: b"*0\r\n*-1\r\n*1\r\n$4\r\nPING\r\n",
+        said: "session 0 clean taken 23 replies 1 wire whole\n",
+        sent: b"+PONG\r\n",
+        parts: Some(&[]),
+        ..SERVED
+    },
+];
+
+#[test]
+fn commands(rt: HostRuntime) -> Result<(), Fail> {
+    check_all(&rt, rt.alloc(), &COMMANDS)
+}
+
+const BAD_INPUT: Row = Row {
+    status: 3,
+    parts: Some(&[]),
+    ..SERVED
+};
+
+/// Inputs that aren't whole requests: what came before is served.
+static BAD_INPUTS: [Row; 6] = [
+    Row {
+        input: b"*1\r\n$4\r\nPING\r\n*2\r\n$3\r\nGE",
+        said: "session 0 truncated at 14 taken 24 replies 1 wire whole\n",
+        sent: b"+PONG\r\n",
+        ..BAD_INPUT
+    },
+    Row {
+        input: b"*1\r\n$01\r\n",
+        said: "session 0 protocol 3 at 6 taken 7 replies 1 wire whole\n",
+        sent: b"-ERR Protocol error: invalid bulk length\r\n",
+        ..BAD_INPUT
+    },
+    Row {
+        input: b"*1025\r\n",
+        said: "session 0 protocol 1 at 4 taken 5 replies 1 wire whole\n",
+        sent: b"-ERR Protocol error: invalid multibulk length\r\n",
+        ..BAD_INPUT
+    },
+    Row {
+        input: b"*1\r\n+OK\r\n",
+        said: "session 0 protocol 2 at 4 taken 5 replies 1 wire whole\n",
+        sent: b"-ERR Protocol error: expected '$'\r\n",
+        ..BAD_INPUT
+    },
+    Row {
+        input: b"PING\r\n",
+        said: "session 0 protocol 4 at 0 taken 1 replies 1 wire whole\n",
+        sent: b"-ERR Protocol error: inline commands are not supported\r\n",
+        ..BAD_INPUT
+    },
+    Row {
+        input: b"*1\r\n$4\r\nPING\r\n*1\r\n$4\r\nPINGX",
+        said: "session 0 protocol 3 at 26 taken 27 replies 2 wire whole\n",
+        sent: b"+PONG\r\n-ERR Protocol error: invalid bulk length\r\n",
+        ..BAD_INPUT
+    },
+];
+
+#[test]
+fn bad_inputs(rt: HostRuntime) -> Result<(), Fail> {
     for step in [1, 5, 4096] {
-        for row in &rows {
-            check(&rt, rt.alloc(), &Row { step, ..*row })?;
-        }
+        check_in_steps(&rt, rt.alloc(), &BAD_INPUTS, step)?;
     }
     Ok(())
 }
 
-// Put 1 keeps the first half of its seven bytes. The open has number 0 and the say number 1. Of the statuses 3, 4
-// and 5 the highest is answered.
+/// Put 1 keeps the first half of its seven bytes. The open has number 0 and the say number 1. Of the statuses 3, 4
+/// and 5 the highest is answered.
+static FAULTS: [Row; 6] = [
+    Row {
+        put_fails: Some(1),
+        status: 5,
+        said: "session 0 clean taken 47 replies 2 wire failed\n",
+        sent: b"+OK\r\n$1\r",
+        ..SERVED
+    },
+    Row {
+        host_fails: Some(1),
+        status: 5,
+        said: "session 0 clean taken 4",
+        ..SERVED
+    },
+    Row {
+        step: 27,
+        read_fails: Some(1),
+        status: 4,
+        said: "session 0 readfault taken 27 replies 1 wire whole\n",
+        sent: b"+OK\r\n",
+        parts: Some(&[(4, 0, 0)]),
+        ..SERVED
+    },
+    Row {
+        read_fails: Some(0),
+        status: 4,
+        said: "session 0 readfault taken 0 replies 0 wire whole\n",
+        sent: b"",
+        parts: Some(&[]),
+        ..SERVED
+    },
+    Row {
+        step: 27,
+        read_fails: Some(1),
+        put_fails: Some(0),
+        status: 5,
+        said: "session 0 readfault taken 27 replies 1 wire failed\n",
+        sent: b"+O",
+        parts: Some(&[(4, 0, 0)]),
+        ..SERVED
+    },
+    Row {
+        input: b"PING\r\n",
+        put_fails: Some(0),
+        status: 5,
+        said: "session 0 protocol 4 at 0 taken 1 replies 1 wire failed\n",
+        sent: b"-ERR Protocol error: inline ",
+        parts: Some(&[]),
+        ..SERVED
+    },
+];
+
 #[test]
 fn faults(rt: HostRuntime) -> Result<(), Fail> {
-    let rows = [
-        Row {
-            put_fails: Some(1),
-            status: 5,
-            said: "session 0 clean taken 47 replies 2 wire failed\n",
-            sent: b"+OK\r\n$1\r",
-            ..SERVED
-        },
-        Row {
-            host_fails: Some(1),
-            status: 5,
-            said: "session 0 clean taken 4",
-            ..SERVED
-        },
-        Row {
-            step: 27,
-            read_fails: Some(1),
-            status: 4,
-            said: "session 0 readfault taken 27 replies 1 wire whole\n",
-            sent: b"+OK\r\n",
-            parts: Some(&[(4, 0, 0)]),
-            ..SERVED
-        },
-        Row {
-            read_fails: Some(0),
-            status: 4,
-            said: "session 0 readfault taken 0 replies 0 wire whole\n",
-            sent: b"",
-            parts: Some(&[]),
-            ..SERVED
-        },
-        Row {
-            step: 27,
-            read_fails: Some(1),
-            put_fails: Some(0),
-            status: 5,
-            said: "session 0 readfault taken 27 replies 1 wire failed\n",
-            sent: b"+O",
-            parts: Some(&[(4, 0, 0)]),
-            ..SERVED
-        },
-        Row {
-            input: b"PING\r\n",
-            put_fails: Some(0),
-            status: 5,
-            said: "session 0 protocol 4 at 0 taken 1 replies 1 wire failed\n",
-            sent: b"-ERR Protocol error: inline ",
-            parts: Some(&[]),
-            ..SERVED
-        },
-    ];
-    check_all(&rt, rt.alloc(), &rows)
+    check_all(&rt, rt.alloc(), &FAULTS)
 }
+
+/// Files that do not open.
+static UNOPENED: [Row; 2] = [
+    Row {
+        words: &["serve", "missing"],
+        ..CANNOT_OPEN
+    },
+    Row {
+        host_fails: Some(0),
+        ..CANNOT_OPEN
+    },
+];
 
 #[test]
 fn files_that_do_not_open(rt: HostRuntime) -> Result<(), Fail> {
-    let rows = [
-        Row {
-            words: &["serve", "missing"],
-            ..CANNOT_OPEN
-        },
-        Row {
-            host_fails: Some(0),
-            ..CANNOT_OPEN
-        },
-    ];
-    check_all(&rt, rt.alloc(), &rows)
+    check_all(&rt, rt.alloc(), &UNOPENED)
+}
+
+/// Words that are no command.
+static NO_COMMANDS: [&[&str]; 6] = [
+    &[],
+    &["serve"],
+    &["FLY"],
+    &["FLY", "in.resp"],
+    &["Serve", "in.resp"],
+    &["serve", "in.resp", "in.resp"],
+];
+
+fn check_bad_words(
+    rt: &impl Abort,
+    alloc: Global,
+    words: &'static [&'static str],
+) -> Result<(), Fail> {
+    check(rt, alloc, &Row { words, ..BAD_WORDS })
 }
 
 #[test]
 fn bad_words(rt: HostRuntime) -> Result<(), Fail> {
-    let table: [&[&str]; 6] = [
-        &[],
-        &["serve"],
-        &["FLY"],
-        &["FLY", "in.resp"],
-        &["Serve", "in.resp"],
-        &["serve", "in.resp", "in.resp"],
-    ];
-    for words in table {
-        check(&rt, rt.alloc(), &Row { words, ..BAD_WORDS })?;
+    for words in NO_COMMANDS {
+        check_bad_words(&rt, rt.alloc(), words)?;
     }
     Ok(())
 }
@@ -365,12 +449,9 @@ fn bad_words(rt: HostRuntime) -> Result<(), Fail> {
 fn no_wire(rt: HostRuntime) -> Result<(), Fail> {
     let alloc = rt.alloc();
     let mut host = memory_host(alloc, &SERVED, Bytes::from_slice(alloc, PAIR)?)?;
-    let words = vec![in alloc;
-        String::from_str(alloc, "serve")?,
-        String::from_str(alloc, "in.resp")?,
-    ]?;
-    let outcome = run(&rt, alloc, words.as_slice(), &mut host, Vec::new(alloc));
-    assert_eq!(rt; outcome.status, 1);
+    let words = typed(alloc, SERVED.words)?;
+    let seen = ran(&rt, alloc, words.as_slice(), &mut host, Vec::new(alloc));
+    assert_eq!(rt; seen.status, 1);
     assert_eq!(rt; host.said(), b"bad words\n".as_slice());
     Ok(())
 }
@@ -385,93 +466,106 @@ fn add_word(input: &mut Bytes, head: &[u8], byte: u8, count: usize) -> Result<()
     Ok(())
 }
 
-const PING: &[u8] = b"*1\r\n$4\r\nPING\r\n";
-
-// What is too large is refused by its text, and the next request is served.
-#[test]
-fn limits(rt: HostRuntime) -> Result<(), Fail> {
-    let alloc = rt.alloc();
-    let mut many = Bytes::from_slice(alloc, b"*66\r\n$4\r\nMGET\r\n")?;
-    for _ in 0..65 {
-        many.append(b"$1\r\nk\r\n")?;
+// A text so many times.
+fn repeated(alloc: Global, text: &[u8], count: usize) -> Result<Bytes, Fail> {
+    let mut texts = Bytes::new(alloc);
+    for _ in 0..count {
+        texts.append(text)?;
     }
-    many.append(PING)?;
-    let too_many = Row {
-        said: "session 0 clean taken 484 replies 2 wire whole\n",
-        sent: b"-ERR too many keys\r\n+PONG\r\n",
-        parts: Some(&[]),
-        ..SERVED
-    };
-    check_input(&rt, alloc, &too_many, many)?;
-    let mut key = Bytes::from_slice(alloc, b"*2\r\n$3\r\nGET\r\n")?;
-    add_word(&mut key, b"$513\r\n", b'k', 513)?;
-    key.append(PING)?;
-    let long_key = Row {
-        said: "session 0 clean taken 548 replies 2 wire whole\n",
-        sent: b"-ERR key too long\r\n+PONG\r\n",
-        parts: Some(&[]),
-        ..SERVED
-    };
-    check_input(&rt, alloc, &long_key, key)?;
-    let mut value = Bytes::from_slice(alloc, b"*3\r\n$3\r\nSET\r\n$1\r\nk\r\n")?;
-    add_word(&mut value, b"$16385\r\n", b'v', 16_385)?;
-    value.append(PING)?;
-    let long_value = Row {
-        said: "session 0 clean taken 16429 replies 2 wire whole\n",
-        sent: b"-ERR value too long\r\n+PONG\r\n",
-        parts: Some(&[]),
-        ..SERVED
-    };
-    check_input(&rt, alloc, &long_value, value)
+    Ok(texts)
 }
 
-// A value as long as may be, and a byte more: both calls have their entry.
+const PING: &[u8] = b"*1\r\n$4\r\nPING\r\n";
+
+/// What is too large is refused by its text, and the next request is served.
+const TOO_MANY_KEYS: Row = Row {
+    said: "session 0 clean taken 484 replies 2 wire whole\n",
+    sent: b"-ERR too many keys\r\n+PONG\r\n",
+    parts: Some(&[]),
+    ..SERVED
+};
+
+const LONG_KEY: Row = Row {
+    said: "session 0 clean taken 548 replies 2 wire whole\n",
+    sent: b"-ERR key too long\r\n+PONG\r\n",
+    parts: Some(&[]),
+    ..SERVED
+};
+
+const LONG_VALUE: Row = Row {
+    said: "session 0 clean taken 16429 replies 2 wire whole\n",
+    sent: b"-ERR value too long\r\n+PONG\r\n",
+    parts: Some(&[]),
+    ..SERVED
+};
+
+#[test]
+fn too_many_keys(rt: HostRuntime) -> Result<(), Fail> {
+    let alloc = rt.alloc();
+    let mut input = Bytes::from_slice(alloc, b"*66\r\n$4\r\nMGET\r\n")?;
+    input.append(repeated(alloc, b"$1\r\nk\r\n", 65)?.as_slice())?;
+    input.append(PING)?;
+    check_input(&rt, alloc, &TOO_MANY_KEYS, input)
+}
+
+#[test]
+fn a_key_that_is_too_long(rt: HostRuntime) -> Result<(), Fail> {
+    let alloc = rt.alloc();
+    let mut input = Bytes::from_slice(alloc, b"*2\r\n$3\r\nGET\r\n")?;
+    add_word(&mut input, b"$513\r\n", b'k', 513)?;
+    input.append(PING)?;
+    check_input(&rt, alloc, &LONG_KEY, input)
+}
+
+#[test]
+fn a_value_that_is_too_long(rt: HostRuntime) -> Result<(), Fail> {
+    let alloc = rt.alloc();
+    let mut input = Bytes::from_slice(alloc, b"*3\r\n$3\r\nSET\r\n$1\r\nk\r\n")?;
+    add_word(&mut input, b"$16385\r\n", b'v', 16_385)?;
+    input.append(PING)?;
+    check_input(&rt, alloc, &LONG_VALUE, input)
+}
+
+/// A value as long as may be, and a byte more: both calls have their entry.
+const LONGEST_VALUE: Row = Row {
+    said: "session 0 clean taken 16444 replies 2 wire whole\n",
+    sent: b"+OK\r\n-ERR value too long\r\n",
+    parts: Some(&[(2, 0, 0), (2, 1, 0)]),
+    ..SERVED
+};
+
 #[test]
 fn the_longest_value(rt: HostRuntime) -> Result<(), Fail> {
     let alloc = rt.alloc();
     let mut input = Bytes::from_slice(alloc, b"*3\r\n$3\r\nSET\r\n$1\r\nk\r\n")?;
     add_word(&mut input, b"$16384\r\n", b'A', 16_384)?;
     input.append(b"*3\r\n$6\r\nAPPEND\r\n$1\r\nk\r\n$1\r\nB\r\n")?;
-    let row = Row {
-        said: "session 0 clean taken 16444 replies 2 wire whole\n",
-        sent: b"+OK\r\n-ERR value too long\r\n",
-        parts: Some(&[(2, 0, 0), (2, 1, 0)]),
-        ..SERVED
-    };
-    check_input(&rt, alloc, &row, input)
+    check_input(&rt, alloc, &LONGEST_VALUE, input)
 }
 
-// 64 PINGs with an argument of 1,048,576 bytes have 67,110,528 bytes, of which 67,108,864 are judged.
+// 64 PINGs with an argument of 1,048,576 bytes.
+fn long_pings(alloc: Global) -> Result<Bytes, Fail> {
+    let mut ping = Bytes::from_slice(alloc, b"*2\r\n$4\r\nPING\r\n")?;
+    add_word(&mut ping, b"$1048576\r\n", b'x', 1_048_576)?;
+    repeated(alloc, ping.as_slice(), 64)
+}
+
+// The input has 67,110,528 bytes, of which 67,108,864 are judged.
 #[test]
 fn an_input_that_is_too_long(rt: HostRuntime) -> Result<(), Fail> {
     let alloc = rt.alloc();
-    let mut ping = Bytes::from_slice(alloc, b"*2\r\n$4\r\nPING\r\n")?;
-    add_word(&mut ping, b"$1048576\r\n", b'x', 1_048_576)?;
-    let mut input = Bytes::with_room(alloc, 67_110_528)?;
-    for _ in 0..64 {
-        input.append(ping.as_slice())?;
-    }
+    let input = long_pings(alloc)?;
     assert_eq!(rt; input.len(), 67_110_528);
-    let mut sent = Bytes::new(alloc);
-    for _ in 0..63 {
-        sent.append(b"-ERR value too long\r\n")?;
-    }
+    let sent = repeated(alloc, b"-ERR value too long\r\n", 63)?;
     let mut host = memory_host(alloc, &SERVED, input)?;
-    let words = vec![in alloc;
-        String::from_str(alloc, "serve")?,
-        String::from_str(alloc, "in.resp")?,
-    ]?;
-    let mut wires: Vec<Box<dyn Wire>> = Vec::with_capacity(alloc, 1)?;
-    let wire = MemoryWire::new(alloc, 4096, Fails::new(alloc))?;
-    wires.push(Box::new(alloc, wire)?)?;
-    let outcome = run(&rt, alloc, words.as_slice(), &mut host, wires);
-    assert_eq!(rt; outcome.status, 3);
+    let words = typed(alloc, SERVED.words)?;
+    let wires = one_wire(alloc, 4096, None)?;
+    let seen = ran(&rt, alloc, words.as_slice(), &mut host, wires);
+    assert_eq!(rt; seen.status, 3);
     assert_eq!(rt;
         host.said(),
         b"session 0 toolong taken 67108864 replies 63 wire whole\n".as_slice()
     );
-    for wire in &outcome.wires {
-        assert_eq!(rt; wire.shown(), Some(sent.as_slice()));
-    }
+    expect_sent(&rt, seen.wires.as_slice(), sent.as_slice());
     Ok(())
 }

@@ -28,7 +28,7 @@ pub struct Parser {
 }
 
 /// How many bytes of an input are judged: 64 MiB.
-const JUDGED: u64 = 67_108_864;
+pub const JUDGED: u64 = 67_108_864;
 
 fn fault(kind: u8, place: u64) -> ReadError
     ensures { result ≡ error_at kind place }

@@ -1,14 +1,12 @@
-use Rattle.std.proofs.Common.{ℕ, List, Some, subst}
-use Rattle.std.specs.Global.{Vec}
-use Rattle.std.specs.HashMap.{UpdatesBy}
-use Rattle.flake_program.specs.Table.{HasChanged, same_bytes}
-use Rattle.flake_program.proofs.Bytes.{updated, key_eq}
+use Rattle.std.proofs.Common.{ℕ, List, Some, sym, subst}
+use Rattle.flake_program.specs.Table.{HasChanged}
+use Rattle.flake_program.proofs.Bytes.{through}
 use Rattle.flake_program.proofs.table.set.Goals as goal
 
-pub returns-in-Ok-clause-ok : goal.returns-in-Ok-clause-ok
-returns-in-Ok-clause-ok c =
+pub returns-in-Some-clause-ok : goal.returns-in-Some-clause-ok
+returns-in-Some-clause-ok c =
     let old = c.args.table.now in
-    let new = c.insert.new.self in
     let value = c.in_ok-value.value in
+    let new = c.get_mut.follows.lender value in
     subst (λ (bytes : List ℕ). HasChanged c.args.key.now (Some bytes) old.entries new.entries) c.in_ok-value.ensures.items
-    (updated c.args.key.now old new (Some value) (subst (λ (bytes : List ℕ). UpdatesBy key_eq (λ (name : Vec ℕ). same_bytes bytes name.items) old new (Some value)) c.in_ok-key.ensures.items c.in-Ok.ensures.updates))
+    (through c.args.key.now old new c.in-Some.place.now value (sym c.in-Some.ensures.value) (c.get_mut.follows.holds value))
