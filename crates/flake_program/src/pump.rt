@@ -35,6 +35,7 @@ pub struct Pump<S: Source> {
     reader: Reader,
     stage: Stage,
     taken: u64,
+    room: [u8; PIECE],
 }
 
 impl<S: Source> Model for Pump<S> {
@@ -108,6 +109,7 @@ impl<S: Source> Pump<S> {
             reader: Reader::new(alloc),
             stage: Stage::Reading,
             taken: 0,
+            room: [0; PIECE],
         }
     }
 
@@ -146,8 +148,7 @@ impl<S: Source> Pump<S> {
         ensures kept { (input : Option (List ℕ)) (before : ℕ) (given : List Meaning) → IsPump input before given self.old → IsPump input before given self.new }
         ensures further { self.new.stage ≡ Stage.Reading → self.old.taken < self.new.taken }
     {
-        let mut room = [0; PIECE];
-        let Ok(count) = self.source.read(&mut room) else {
+        let Ok(count) = self.source.read(&mut self.room) else {
             self.stage = Stage::Ended(End::ReadFault);
             return;
         };
@@ -156,7 +157,7 @@ impl<S: Source> Pump<S> {
             self.stage = Stage::Ended(input_end(reader));
             return;
         }
-        if let Err(error) = self.reader.feed(&room[..count]) {
+        if let Err(error) = self.reader.feed(&self.room[..count]) {
             self.stage = stopped(error);
         }
         self.taken += count as u64;
