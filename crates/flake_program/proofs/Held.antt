@@ -11,7 +11,7 @@ use Rattle.std.specs.FinMap as finite
 use Rattle.std.specs.Ordering.{nat_cmp, eq_by_cmp}
 use Rattle.std.specs.Cmp.Lexicographic.{bytes_decides, slice_cmp, nat_list_cmp_total, nat_list_eq_equiv, texts_ties}
 use Rattle.flake_model.specs.Store as model
-use Rattle.flake_model.specs.Store.{Store, Operation, answer, after, key_of, appended, value_limit}
+use Rattle.flake_model.specs.Store.{Store, Operation, answer, after, key_of, appended}
 use Rattle.flake_model.specs.Journal.{shard_of}
 use Rattle.flake_program.specs.Table.{Entries, bytes_at, same_bytes, HasChanged, HasKept, has_room, answer_on, value_after}
 use Rattle.flake_program.specs.Store.{Tables, Holds, entries_of_tables}

@@ -56,12 +56,12 @@ yes_next store operations j operation count one told is were counted said =
     ∙ ap (count_by is_yes) (map-append Some (answers_to store (take j operations)) (last ∷ []))
     ∙ sum_by_push (λ a. cond (is_yes a) 1 0) before (Some last))
 
-at_most_one : (test : Bool) → cond test 1 0 ≤ 1
-at_most_one true = omega arith
-at_most_one false = omega arith
+cond-le-one : (test : Bool) → cond test 1 0 ≤ 1
+cond-le-one true = omega arith
+cond-le-one false = omega arith
 
 pub few_next : (count j one : ℕ) (test : Bool) → count ≤ j → one ≡ cond test 1 0 → count + one ≤ j + 1
-few_next count j one test few is = let most = at_most_one test in omega (arith, few, is, most)
+few_next count j one test few is = let most = cond-le-one test in omega (arith, few, is, most)
 
 -- the only part
 pub only_part : (operations : List Operation) (operation : Operation) → length operations ≡ 1 → slice_get operations 0 ≡ Some operation → operations ≡ operation ∷ []

@@ -10,8 +10,8 @@ use Rattle.order_book.specs.declared.view.View.{View}
 use Rattle.order_book.specs.declared.place.Place.{Place}
 
 -- the name of no book
-abbrev pub no_table : TableId
-no_table = record { words = 0; slots = 0; views_name = 0; atom = 0; block = 0; offset = 0; slot_names = [] }
+abbrev pub unnamed_table : TableId
+unnamed_table = record { block = 0; offset = 0; words = 0; slots = 0; atom = 0; views_name = 0; slot_names = [] }
 
 abbrev pub no_sizes : Sizes
 no_sizes = record { shards = 0; sessions = 0 }

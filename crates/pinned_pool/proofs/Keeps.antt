@@ -37,9 +37,6 @@ same-no : (a b : ℕ) → a ≢ b → same a b ≡ 0
 same-no a b n = ap (λ t. cond t 1 0) (ne_eqb a b n)
 
 -- whether there is one
-any_bit : ℕ → ℕ
-any_bit n = cond (eqb n 0) 0 1
-
 pub any-some : (n : ℕ) → 0 < n → (let m : ℕ = cond (eqb n 0) 0 1 in m ≡ 1)
 any-some n more = ap (λ t. let m : ℕ = cond t 0 1 in m) (ne_eqb n 0 (λ e. omega arith))
 

@@ -19,7 +19,3 @@ passed_more b n found v u w p more e = record {
   count = length-append p.looks ((b + n, found) ∷ []) ∙ omega (arith, p.count);
   seat = e ∙ ap (lost (b + n) found) p.seat ∙ ap (λ (ls : List (ℕ × ℕ)). record v { looks = ls }) (append_assoc v.looks p.looks ((b + n, found) ∷ []));
 }
-
--- the seats between change nothing that a win asks about
-pub passed-holds : (b n : ℕ) (v u : View) → Passed b n v u → u.holds ≡ v.holds
-passed-holds b n v u p = ap (λ (w : View). w.holds) p.seat

@@ -15,7 +15,7 @@ use Rattle.pin_core.proofs.Weights.{sole-at, Fits}
 use Rattle.pin_core.proofs.Steps.{put_sound, steps_sound}
 use Rattle.pinned_pool.specs.Views.{nobody}
 use Rattle.pinned_pool.specs.Rule.{word_at, pins_of, IsSoundTable}
-use Rattle.pinned_pool.specs.Moves.{key_of, times, picked, front_of, kept, given, joined}
+use Rattle.pinned_pool.specs.Moves.{times, picked, front_of, kept, given, joined}
 use Rattle.pinned_pool.specs.Moves as to
 use Rattle.pinned_pool.specs.StepKinds.{Kind, wins, misses, puts, loads, pins, unpins, splits, joins, Makes, move_all, FallsByLast, WrittenByPut, IsItsEvents, StepsAreEvents}
 use Rattle.pinned_pool.specs.declared.view.View.{View}

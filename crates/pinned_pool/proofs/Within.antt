@@ -131,9 +131,6 @@ module _ (z : Sizes) (v : View) (s : IsSeat z v) where
   pub seat_joined : (w : View) → IsSeat z w → IsLoose (joined v w) → OneFront (joined v w) → IsSeat z (joined v w)
   seat_joined w other loose fronts = record { live = omega (arith, s.live); near = each-append (IsNearby z) v.holds w.holds s.near other.near; loose = loose; fronts = fronts }
 
-pub seat_along : (z : Sizes) (v w : View) → w ≡ v → IsSeat z v → IsSeat z w
-seat_along z v w e = subst (IsSeat z) (sym e)
-
 -- a seat after a step
 pub next_seat : {S : Type 0} (table : TableId) (z : Sizes) (id new : TableId) (me next : Me S View) (w : View) → IsSeatOf table z id me → new ≡ id → next ≡ (w, me.1) → IsSeat z w → IsSeatOf table z new next
 next_seat {S} table z id new me next w was same to kept_by = record {

@@ -13,8 +13,8 @@ use Rattle.pinned_pool.specs.declared.unpinned.Unpinned.TheVariants.{Last, NotLa
 use Rattle.pinned_pool.specs.declared.view.View.{View}
 
 -- the name of no pool
-abbrev pub no_table : TableId
-no_table = record { words = 0; slots = 0; views_name = 0; atom = 0; block = 0; offset = 0; slot_names = [] }
+abbrev pub unnamed_table : TableId
+unnamed_table = record { block = 0; offset = 0; words = 0; slots = 0; atom = 0; views_name = 0; slot_names = [] }
 
 abbrev pub no_sizes : Sizes
 no_sizes = record { small = 0; large = 0; credits = 0 }

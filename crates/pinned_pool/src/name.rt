@@ -11,9 +11,9 @@ pub trait PoolName {
 }
 
 impl PoolName for Brand {
-    ghost use Rattle.pinned_pool.specs.Named.{no_table, no_sizes};
+    ghost use Rattle.pinned_pool.specs.Named.{unnamed_table, no_sizes};
 
-    ghost table = { no_table };
+    ghost table = { unnamed_table };
 
     ghost sizes = { no_sizes };
 }
