@@ -15,7 +15,7 @@ mod taker;
 mod tests;
 mod text;
 
-pub use appending::append;
+pub use appending::{VALUE_LIMIT, append};
 pub use error::{AppendError, PlaceError};
 pub use filling::fill;
 pub use frag::{Frag, Value};

@@ -5,12 +5,16 @@ ghost use Rattle.frag_value.specs.Values.{HasValue, size_of};
 mod copier;
 
 use crate::read::read_frag;
-use crate::{AppendError, Frag, PlaceError, Value, append, fill, hand, read_into, release, write};
+use crate::{
+    AppendError, Frag, PlaceError, VALUE_LIMIT, Value, append, fill, hand, read_into, release,
+    write,
+};
 use copier::Copier;
 use flake_base::Memory;
 use pinned_pool::{Class, Held, Hold, NoBuffer, Pool, PoolBlank, PoolName, PoolSeat, Unpinned};
 use std::alloc::Global;
 use std::marker::Brand;
+use std::process::Abort;
 use std::test::Fail;
 
 const LENGTHS: [usize; 13] = [0, 1, 7, 8, 9, 511, 512, 513, 4095, 4096, 4097, 8192, 16384];
@@ -72,38 +76,43 @@ fn keep_both(alloc: Global, blank: PoolBlank, first: &[u8], more: &[u8]) -> Resu
     keep::<Brand>(alloc, blank, first, more)
 }
 
+// Writes so many bytes, and appends so many others.
+fn check_lengths(rt: &impl Abort, alloc: Global, first: usize, more: usize) -> Result<(), Fail> {
+    let old = sample(alloc, first.min(VALUE_LIMIT), 1)?;
+    let new = sample(alloc, more.min(VALUE_LIMIT), 100)?;
+    let blank = PoolBlank::open(alloc, 3, 8, 2)?;
+    let kept = keep_both(alloc, blank, &old, &new)?;
+    let sum = old.len() + new.len();
+    let refused = if sum > VALUE_LIMIT {
+        Some(AppendError::TooLong { length: sum as u64 })
+    } else {
+        None
+    };
+    assert!(rt; kept.refused == refused, "{first} and {more}");
+    let mut want = old;
+    if refused.is_none() {
+        want.extend_from_slice(&new)?;
+    }
+    assert!(rt;
+        kept.bytes.as_slice() == want.as_slice(),
+        "{first} and {more}"
+    );
+    assert!(rt;
+        kept.lasts == want.len().div_ceil(4096) as u64,
+        "{first} and {more}"
+    );
+    assert!(rt;
+        kept.held == Held { small: 0, large: 0 },
+        "{first} and {more}"
+    );
+    Ok(())
+}
+
 #[test]
 fn lengths_are_written_and_appended(rt: HostRuntime) -> Result<(), Fail> {
     for first in LENGTHS {
         for more in LENGTHS {
-            let old = sample(rt.alloc(), first.min(16384), 1)?;
-            let new = sample(rt.alloc(), more.min(16384), 100)?;
-            let blank = PoolBlank::open(rt.alloc(), 3, 8, 2)?;
-            let kept = keep_both(rt.alloc(), blank, &old, &new)?;
-            let sum = first.min(16384) + more.min(16384);
-            let long = sum > 16384;
-            let refused = if long {
-                Some(AppendError::TooLong { length: sum as u64 })
-            } else {
-                None
-            };
-            assert!(rt; kept.refused == refused, "{first} and {more}");
-            let mut want = old;
-            if !long {
-                want.extend_from_slice(&new)?;
-            }
-            assert!(rt;
-                kept.bytes.as_slice() == want.as_slice(),
-                "{first} and {more}"
-            );
-            assert!(rt;
-                kept.lasts == want.len().div_ceil(4096) as u64,
-                "{first} and {more}"
-            );
-            assert!(rt;
-                kept.held == Held { small: 0, large: 0 },
-                "{first} and {more}"
-            );
+            check_lengths(&rt, rt.alloc(), first, more)?;
         }
     }
     Ok(())

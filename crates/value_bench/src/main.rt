@@ -7,16 +7,13 @@ ghost use Rattle.frag_value.specs.Values.{HasValue, size_of};
 
 use anyhow::{Context, Result, bail};
 use flake_base::Memory;
-use frag_value::{Value, append, read_into, release, write};
+use frag_value::{VALUE_LIMIT, Value, append, read_into, release, write};
 use pinned_pool::{Pool, PoolBlank, PoolName, PoolSeat};
 use std::alloc::Global;
 use std::env;
 use std::marker::Brand;
 
-/// A value has at most so many bytes.
-const LIMIT: usize = 16_384;
-
-static BYTES: [u8; LIMIT] = [b'v'; LIMIT];
+static BYTES: [u8; VALUE_LIMIT] = [b'v'; VALUE_LIMIT];
 
 /// How much there is to do.
 #[derive(Clone, Copy)]
@@ -52,8 +49,8 @@ fn one_value<N: PoolName>(
     room: &mut [u8],
     work: Work,
 ) -> std::result::Result<u64, Memory> {
-    let first = &BYTES[..work.written.min(LIMIT)];
-    let more = &BYTES[..work.appended.min(LIMIT)];
+    let first = &BYTES[..work.written.min(VALUE_LIMIT)];
+    let more = &BYTES[..work.appended.min(VALUE_LIMIT)];
     let Ok(value) = write(alloc, pool, seat, first) else {
         return Err(Memory);
     };
@@ -77,7 +74,7 @@ fn work_named<N: PoolName>(
     requires { (blank.table ≡ N.table) × (blank.sizes ≡ N.sizes) }
 {
     let (pool, mut seat) = blank.name::<N>();
-    let mut room = vec![in alloc; 0u8; LIMIT]?;
+    let mut room = vec![in alloc; 0u8; VALUE_LIMIT]?;
     let mut bytes = 0u64;
     for _ in 0..work.values {
         let len = one_value(alloc, &pool, &mut seat, &mut room, work)?;
