@@ -17,28 +17,58 @@ struct Answers<'a> {
     argument: &'a [u8],
 }
 
-// A command without keys.
-fn keyless<'a>(op: Op, argument: &'a [u8]) -> Answers<'a> {
-    Answers {
-        op,
-        part: None,
-        keys: &[],
-        value: b"",
-        argument,
-    }
-}
+const KEYLESS: Answers<'_> = Answers {
+    op: Op::Ping,
+    part: None,
+    keys: &[],
+    value: b"",
+    argument: b"",
+};
+
+const GET: Answers<'_> = Answers {
+    op: Op::Get,
+    part: Some(PartOp::Get),
+    ..KEYLESS
+};
+
+const SET: Answers<'_> = Answers {
+    op: Op::Set,
+    part: Some(PartOp::Set),
+    ..KEYLESS
+};
+
+const MGET: Answers<'_> = Answers {
+    op: Op::MGet,
+    ..GET
+};
+
+const DEL: Answers<'_> = Answers {
+    op: Op::Del,
+    part: Some(PartOp::Del),
+    ..KEYLESS
+};
+
+const EXISTS: Answers<'_> = Answers {
+    op: Op::Exists,
+    part: Some(PartOp::Exists),
+    ..KEYLESS
+};
+
+const APPEND: Answers<'_> = Answers {
+    op: Op::Append,
+    part: Some(PartOp::Append),
+    ..KEYLESS
+};
+
+const PING_WITH: Answers<'_> = Answers {
+    op: Op::PingWith,
+    ..KEYLESS
+};
 
 fn fault<'a>(kind: ErrorKind) -> Answers<'a> {
-    keyless(Op::Fault(kind), b"")
-}
-
-fn on_keys<'a>(op: Op, part: PartOp, keys: &'a [&'a [u8]], value: &'a [u8]) -> Answers<'a> {
     Answers {
-        op,
-        part: Some(part),
-        keys,
-        value,
-        argument: b"",
+        op: Op::Fault(kind),
+        ..KEYLESS
     }
 }
 
@@ -78,148 +108,229 @@ fn check_command(rt: &impl Abort, command: &Command, answers: Answers<'_>) {
     }
 }
 
-#[test]
-fn commands(rt: HostRuntime) -> Result<(), Fail> {
-    let a: &[&[u8]] = &[b"a"];
-    let repeated: &[&[u8]] = &[b"k", b"k", b""];
-    let table: [(&[&[u8]], Answers<'_>); 15] = [
-        (&[b"get", b"a"], on_keys(Op::Get, PartOp::Get, a, b"")),
-        (&[b"GET", b""], on_keys(Op::Get, PartOp::Get, &[b""], b"")),
-        (
-            &[b"SeT", b"a", b"\r\n"],
-            on_keys(Op::Set, PartOp::Set, a, b"\r\n"),
-        ),
-        (&[b"SET", b"a", b""], on_keys(Op::Set, PartOp::Set, a, b"")),
-        (
-            &[b"mGet", b"k", b"k", b""],
-            on_keys(Op::MGet, PartOp::Get, repeated, b""),
-        ),
-        (&[b"MGET", b"a"], on_keys(Op::MGet, PartOp::Get, a, b"")),
-        (
-            &[b"dEL", b"k", b"k", b""],
-            on_keys(Op::Del, PartOp::Del, repeated, b""),
-        ),
-        (&[b"DEL", b"a"], on_keys(Op::Del, PartOp::Del, a, b"")),
-        (
-            &[b"eXiStS", b"k", b"k", b""],
-            on_keys(Op::Exists, PartOp::Exists, repeated, b""),
-        ),
-        (
-            &[b"EXISTS", b"a"],
-            on_keys(Op::Exists, PartOp::Exists, a, b""),
-        ),
-        (
-            &[b"aPPEND", b"a", b"b"],
-            on_keys(Op::Append, PartOp::Append, a, b"b"),
-        ),
-        (
-            &[b"APPEND", b"a", b""],
-            on_keys(Op::Append, PartOp::Append, a, b""),
-        ),
-        (&[b"PING"], keyless(Op::Ping, b"")),
-        (&[b"pInG", b"hi"], keyless(Op::PingWith, b"hi")),
-        (&[b"PING", b""], keyless(Op::PingWith, b"")),
-    ];
-    for (words, answers) in table {
-        check(&rt, rt.alloc(), words, answers)?;
+/// A request's words, and what its command answers.
+type Row = (&'static [&'static [u8]], Answers<'static>);
+
+fn check_all(rt: &impl Abort, alloc: Global, rows: &[Row]) -> Result<(), Fail> {
+    for (words, answers) in rows {
+        check(rt, alloc, words, *answers)?;
     }
     Ok(())
 }
+
+const A: &[&[u8]] = &[b"a"];
+
+const REPEATED: &[&[u8]] = &[b"k", b"k", b""];
+
+static COMMANDS: [Row; 15] = [
+    (&[b"get", b"a"], Answers { keys: A, ..GET }),
+    (
+        &[b"GET", b""],
+        Answers {
+            keys: &[b""],
+            ..GET
+        },
+    ),
+    (
+        &[b"SeT", b"a", b"\r\n"],
+        Answers {
+            keys: A,
+            value: b"\r\n",
+            ..SET
+        },
+    ),
+    (&[b"SET", b"a", b""], Answers { keys: A, ..SET }),
+    (
+        &[b"mGet", b"k", b"k", b""],
+        Answers {
+            keys: REPEATED,
+            ..MGET
+        },
+    ),
+    (&[b"MGET", b"a"], Answers { keys: A, ..MGET }),
+    (
+        &[b"dEL", b"k", b"k", b""],
+        Answers {
+            keys: REPEATED,
+            ..DEL
+        },
+    ),
+    (&[b"DEL", b"a"], Answers { keys: A, ..DEL }),
+    (
+        &[b"eXiStS", b"k", b"k", b""],
+        Answers {
+            keys: REPEATED,
+            ..EXISTS
+        },
+    ),
+    (&[b"EXISTS", b"a"], Answers { keys: A, ..EXISTS }),
+    (
+        &[b"aPPEND", b"a", b"b"],
+        Answers {
+            keys: A,
+            value: b"b",
+            ..APPEND
+        },
+    ),
+    (&[b"APPEND", b"a", b""], Answers { keys: A, ..APPEND }),
+    (&[b"PING"], KEYLESS),
+    (
+        &[b"pInG", b"hi"],
+        Answers {
+            argument: b"hi",
+            ..PING_WITH
+        },
+    ),
+    (&[b"PING", b""], PING_WITH),
+];
+
+#[test]
+fn commands(rt: HostRuntime) -> Result<(), Fail> {
+    check_all(&rt, rt.alloc(), &COMMANDS)
+}
+
+static FAULTS: [(&[&[u8]], ErrorKind); 25] = [
+    (&[b"FLY"], ErrorKind::UnknownCommand),
+    (&[b"FLY", b"a", b"b", b"c"], ErrorKind::UnknownCommand),
+    (&[b""], ErrorKind::UnknownCommand),
+    (&[b"GE", b"a"], ErrorKind::UnknownCommand),
+    (&[b"GETS", b"a"], ErrorKind::UnknownCommand),
+    (&[b"GET ", b"a"], ErrorKind::UnknownCommand),
+    (&[b"G\x05T", b"a"], ErrorKind::UnknownCommand),
+    (&[b"PING\0"], ErrorKind::UnknownCommand),
+    (&[b"GET"], ErrorKind::WrongCount),
+    (&[b"GET", b"a", b"b"], ErrorKind::WrongCount),
+    (&[b"SET"], ErrorKind::WrongCount),
+    (&[b"SET", b"a"], ErrorKind::WrongCount),
+    (&[b"MGET"], ErrorKind::WrongCount),
+    (&[b"DEL"], ErrorKind::WrongCount),
+    (&[b"EXISTS"], ErrorKind::WrongCount),
+    (&[b"APPEND"], ErrorKind::WrongCount),
+    (&[b"APPEND", b"a"], ErrorKind::WrongCount),
+    (&[b"APPEND", b"a", b"b", b"c"], ErrorKind::WrongCount),
+    (&[b"PING", b"a", b"b"], ErrorKind::WrongCount),
+    (&[b"SET", b"a", b"b", b"EX", b"9"], ErrorKind::Syntax),
+    (&[b"SET", b"a", b"b", b"NX"], ErrorKind::Syntax),
+    (&[b"SET", b"a", b"b", b"KEEPTTL"], ErrorKind::Syntax),
+    (&[b"set", b"a", b"b", b""], ErrorKind::Syntax),
+    (&[b"fly", b"a"], ErrorKind::UnknownCommand),
+    (&[b"ping", b"a", b"b"], ErrorKind::WrongCount),
+];
 
 #[test]
 fn faults(rt: HostRuntime) -> Result<(), Fail> {
-    let table: [(&[&[u8]], ErrorKind); 25] = [
-        (&[b"FLY"], ErrorKind::UnknownCommand),
-        (&[b"FLY", b"a", b"b", b"c"], ErrorKind::UnknownCommand),
-        (&[b""], ErrorKind::UnknownCommand),
-        (&[b"GE", b"a"], ErrorKind::UnknownCommand),
-        (&[b"GETS", b"a"], ErrorKind::UnknownCommand),
-        (&[b"GET ", b"a"], ErrorKind::UnknownCommand),
-        (&[b"G\x05T", b"a"], ErrorKind::UnknownCommand),
-        (&[b"PING\0"], ErrorKind::UnknownCommand),
-        (&[b"GET"], ErrorKind::WrongCount),
-        (&[b"GET", b"a", b"b"], ErrorKind::WrongCount),
-        (&[b"SET"], ErrorKind::WrongCount),
-        (&[b"SET", b"a"], ErrorKind::WrongCount),
-        (&[b"MGET"], ErrorKind::WrongCount),
-        (&[b"DEL"], ErrorKind::WrongCount),
-        (&[b"EXISTS"], ErrorKind::WrongCount),
-        (&[b"APPEND"], ErrorKind::WrongCount),
-        (&[b"APPEND", b"a"], ErrorKind::WrongCount),
-        (&[b"APPEND", b"a", b"b", b"c"], ErrorKind::WrongCount),
-        (&[b"PING", b"a", b"b"], ErrorKind::WrongCount),
-        (&[b"SET", b"a", b"b", b"EX", b"9"], ErrorKind::Syntax),
-        (&[b"SET", b"a", b"b", b"NX"], ErrorKind::Syntax),
-        (&[b"SET", b"a", b"b", b"KEEPTTL"], ErrorKind::Syntax),
-        (&[b"set", b"a", b"b", b""], ErrorKind::Syntax),
-        (&[b"fly", b"a"], ErrorKind::UnknownCommand),
-        (&[b"ping", b"a", b"b"], ErrorKind::WrongCount),
-    ];
-    for (words, kind) in table {
-        check(&rt, rt.alloc(), words, fault(kind))?;
+    for (words, kind) in &FAULTS {
+        check(&rt, rt.alloc(), words, fault(*kind))?;
     }
     Ok(())
 }
 
-// Keys of 512 and 513 bytes, values of 16,384 and 16,385, and which error comes where two tests fail.
+const KEY: &[u8] = &[b'k'; 512];
+
+const LONG_KEY: &[u8] = &[b'k'; 513];
+
+const VALUE: &[u8] = &[b'v'; 16_384];
+
+const LONG_VALUE: &[u8] = &[b'v'; 16_385];
+
+const KEY_TOO_LONG: Answers<'_> = Answers {
+    op: Op::Fault(ErrorKind::KeyTooLong),
+    ..KEYLESS
+};
+
+const VALUE_TOO_LONG: Answers<'_> = Answers {
+    op: Op::Fault(ErrorKind::ValueTooLong),
+    ..KEYLESS
+};
+
+const UNKNOWN: Answers<'_> = Answers {
+    op: Op::Fault(ErrorKind::UnknownCommand),
+    ..KEYLESS
+};
+
+const WRONG_COUNT: Answers<'_> = Answers {
+    op: Op::Fault(ErrorKind::WrongCount),
+    ..KEYLESS
+};
+
+const SYNTAX: Answers<'_> = Answers {
+    op: Op::Fault(ErrorKind::Syntax),
+    ..KEYLESS
+};
+
+/// Keys of 512 and 513 bytes, values of 16,384 and 16,385, and which error comes where two tests fail.
+static LIMITS: [Row; 22] = [
+    (
+        &[b"GET", KEY],
+        Answers {
+            keys: &[KEY],
+            ..GET
+        },
+    ),
+    (&[b"GET", LONG_KEY], KEY_TOO_LONG),
+    (
+        &[b"SET", KEY, VALUE],
+        Answers {
+            keys: &[KEY],
+            value: VALUE,
+            ..SET
+        },
+    ),
+    (&[b"SET", LONG_KEY, b"v"], KEY_TOO_LONG),
+    (&[b"SET", b"a", LONG_VALUE], VALUE_TOO_LONG),
+    (
+        &[b"APPEND", KEY, VALUE],
+        Answers {
+            keys: &[KEY],
+            value: VALUE,
+            ..APPEND
+        },
+    ),
+    (&[b"APPEND", LONG_KEY, b"v"], KEY_TOO_LONG),
+    (&[b"APPEND", b"a", LONG_VALUE], VALUE_TOO_LONG),
+    (
+        &[b"MGET", b"a", KEY],
+        Answers {
+            keys: &[b"a", KEY],
+            ..MGET
+        },
+    ),
+    (&[b"MGET", b"a", LONG_KEY], KEY_TOO_LONG),
+    (
+        &[b"DEL", b"a", KEY],
+        Answers {
+            keys: &[b"a", KEY],
+            ..DEL
+        },
+    ),
+    (&[b"DEL", LONG_KEY, b"a"], KEY_TOO_LONG),
+    (
+        &[b"EXISTS", b"a", KEY],
+        Answers {
+            keys: &[b"a", KEY],
+            ..EXISTS
+        },
+    ),
+    (&[b"EXISTS", b"a", LONG_KEY], KEY_TOO_LONG),
+    (
+        &[b"PING", VALUE],
+        Answers {
+            argument: VALUE,
+            ..PING_WITH
+        },
+    ),
+    (&[b"PING", LONG_VALUE], VALUE_TOO_LONG),
+    (&[b"FLY", LONG_KEY], UNKNOWN),
+    (&[b"GET", LONG_KEY, b"b"], WRONG_COUNT),
+    (&[b"PING", LONG_VALUE, b"b"], WRONG_COUNT),
+    (&[b"SET", LONG_KEY, b"b", b"XX"], SYNTAX),
+    (&[b"SET", b"a", LONG_VALUE, b"GET"], SYNTAX),
+    (&[b"SET", LONG_KEY, LONG_VALUE], KEY_TOO_LONG),
+];
+
 #[test]
 fn limits(rt: HostRuntime) -> Result<(), Fail> {
-    let (key, long_key) = (&[b'k'; 512], &[b'k'; 513]);
-    let (value, long_value) = (&[b'v'; 16_384], &[b'v'; 16_385]);
-    let one: &[&[u8]] = &[key];
-    let two: &[&[u8]] = &[b"a", key];
-    let table: [(&[&[u8]], Answers<'_>); 22] = [
-        (&[b"GET", key], on_keys(Op::Get, PartOp::Get, one, b"")),
-        (&[b"GET", long_key], fault(ErrorKind::KeyTooLong)),
-        (
-            &[b"SET", key, value],
-            on_keys(Op::Set, PartOp::Set, one, value),
-        ),
-        (&[b"SET", long_key, b"v"], fault(ErrorKind::KeyTooLong)),
-        (&[b"SET", b"a", long_value], fault(ErrorKind::ValueTooLong)),
-        (
-            &[b"APPEND", key, value],
-            on_keys(Op::Append, PartOp::Append, one, value),
-        ),
-        (&[b"APPEND", long_key, b"v"], fault(ErrorKind::KeyTooLong)),
-        (
-            &[b"APPEND", b"a", long_value],
-            fault(ErrorKind::ValueTooLong),
-        ),
-        (
-            &[b"MGET", b"a", key],
-            on_keys(Op::MGet, PartOp::Get, two, b""),
-        ),
-        (&[b"MGET", b"a", long_key], fault(ErrorKind::KeyTooLong)),
-        (
-            &[b"DEL", b"a", key],
-            on_keys(Op::Del, PartOp::Del, two, b""),
-        ),
-        (&[b"DEL", long_key, b"a"], fault(ErrorKind::KeyTooLong)),
-        (
-            &[b"EXISTS", b"a", key],
-            on_keys(Op::Exists, PartOp::Exists, two, b""),
-        ),
-        (&[b"EXISTS", b"a", long_key], fault(ErrorKind::KeyTooLong)),
-        (&[b"PING", value], keyless(Op::PingWith, value)),
-        (&[b"PING", long_value], fault(ErrorKind::ValueTooLong)),
-        (&[b"FLY", long_key], fault(ErrorKind::UnknownCommand)),
-        (&[b"GET", long_key, b"b"], fault(ErrorKind::WrongCount)),
-        (&[b"PING", long_value, b"b"], fault(ErrorKind::WrongCount)),
-        (&[b"SET", long_key, b"b", b"XX"], fault(ErrorKind::Syntax)),
-        (
-            &[b"SET", b"a", long_value, b"GET"],
-            fault(ErrorKind::Syntax),
-        ),
-        (
-            &[b"SET", long_key, long_value],
-            fault(ErrorKind::KeyTooLong),
-        ),
-    ];
-    for (words, answers) in table {
-        check(&rt, rt.alloc(), words, answers)?;
-    }
-    Ok(())
+    check_all(&rt, rt.alloc(), &LIMITS)
 }
 
 // A name with so many keys, of which the first may be long.
@@ -238,26 +349,35 @@ fn words<'a>(
     Ok(words)
 }
 
+/// A command with 64 keys, the most, and what each more or longer key makes of it.
+fn check_many(
+    rt: &impl Abort,
+    alloc: Global,
+    name: &[u8],
+    answers: Answers<'_>,
+) -> Result<(), Fail> {
+    let too_many = fault(ErrorKind::TooManyKeys);
+    let keys = words(alloc, name, b"", 64)?;
+    assert_eq!(rt; keys.len(), 65);
+    check(
+        rt,
+        alloc,
+        &keys,
+        Answers {
+            keys: &keys[1..],
+            ..answers
+        },
+    )?;
+    check(rt, alloc, &words(alloc, name, b"", 65)?, too_many)?;
+    check(rt, alloc, &words(alloc, name, LONG_KEY, 65)?, too_many)?;
+    check(rt, alloc, &words(alloc, name, LONG_KEY, 64)?, KEY_TOO_LONG)
+}
+
 #[test]
 fn many_keys(rt: HostRuntime) -> Result<(), Fail> {
-    let table: [(&[u8], Op, PartOp); 3] = [
-        (b"MGET", Op::MGet, PartOp::Get),
-        (b"DEL", Op::Del, PartOp::Del),
-        (b"EXISTS", Op::Exists, PartOp::Exists),
-    ];
-    let (alloc, long) = (rt.alloc(), &[b'k'; 513]);
-    let too_many = fault(ErrorKind::TooManyKeys);
-    for (name, op, part) in table {
-        let keys = words(alloc, name, b"", 64)?;
-        assert_eq!(rt; keys.len(), 65);
-        let answers = on_keys(op, part, &keys[1..], b"");
-        check(&rt, alloc, &keys, answers)?;
-        check(&rt, alloc, &words(alloc, name, b"", 65)?, too_many)?;
-        check(&rt, alloc, &words(alloc, name, long, 65)?, too_many)?;
-        let too_long = fault(ErrorKind::KeyTooLong);
-        check(&rt, alloc, &words(alloc, name, long, 64)?, too_long)?;
-    }
-    Ok(())
+    check_many(&rt, rt.alloc(), b"MGET", MGET)?;
+    check_many(&rt, rt.alloc(), b"DEL", DEL)?;
+    check_many(&rt, rt.alloc(), b"EXISTS", EXISTS)
 }
 
 #[test]
