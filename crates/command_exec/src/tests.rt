@@ -349,7 +349,7 @@ fn words<'a>(
     Ok(words)
 }
 
-/// A command with 64 keys, the most, and what each more or longer key makes of it.
+// A command takes 64 keys; with one more, or with one that is too long, it is an error.
 fn check_many(
     rt: &impl Abort,
     alloc: Global,
