@@ -61,7 +61,7 @@ nothing_missing session journal some sharded =
     ∙ none_missing answers finite.empty served (found_front answers finite.empty served behind (are_found commands session.end.replies session.begun journal some sharded))
 
 -- each shard has the parts of the session that belong there, in order
-in_order : (session : Session) (journal : List (List Entry)) → 0 < length journal → IsSharded (ran_by (session ∷ []) 0) journal → HasInOrder (ran_by (session ∷ [])) journal
+pub in_order : (session : Session) (journal : List (List Entry)) → 0 < length journal → IsSharded (ran_by (session ∷ []) 0) journal → HasInOrder (ran_by (session ∷ [])) journal
 in_order session journal some sharded zero shard history is =
     let here = in_shard (length journal) shard (ran_by (session ∷ []) 0) in
     let own = all_filter IsOwn _ (ran_by (session ∷ []) 0) (ran_own session.commands session.end.replies session.begun) in

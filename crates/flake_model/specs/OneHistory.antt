@@ -8,8 +8,8 @@ use Rattle.flake_model.specs.Journal.{Step, operation_at, answers_from, answers_
 use Rattle.flake_model.specs.OneThread.{entries_of, IsSharded}
 use Rattle.flake_model.specs.Order.{IsRising}
 
--- All parts that have an entry, in one order: each shard's history is what belongs there, each session's parts keep their
--- order, and the answer that the journal gives at each of them is that of a store of one thread at that point.
+-- All parts that have an entry, in one order: each shard's history is what belongs there, each session's parts keep
+-- their order, and the answer that the journal gives at each of them is that of a store of one thread at that point.
 pub record HasOneHistory (sessions : List (List Command)) (journal : List (List Entry)) : Type 0 where
   pub steps : List Step
   pub stand : AllByRecursion (λ (step : Step). operation_at sessions step.0 ≡ Some step.1) steps

@@ -15,9 +15,6 @@ nothing_done = [] ∷ [] ∷ [] ∷ [] ∷ [] ∷ [] ∷ [] ∷ [] ∷ []
 abbrev pub one_set : List ℕ
 one_set = codes "*3\r\n$3\r\nSET\r\n$1\r\na\r\n$1\r\n1\r\n"
 
-abbrev pub no_buffer : List ℕ
-no_buffer = codes "-OOM no free buffer\r\n"
-
 -- a length with a leading zero
 abbrev pub bad_length : List ℕ
 bad_length = codes "*1\r\n$01\r\n"

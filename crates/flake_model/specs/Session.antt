@@ -34,8 +34,8 @@ is_stopped end = false
 abbrev pub HasNoError : End → Type 0
 HasNoError shown = (shown ≡ Clean) ⊎ ((place : ℕ) × (shown ≡ Truncated place))
 
--- How the bytes that a source gave end: as the session does. Before a failed read there was no error, since it would have
--- been answered. Where memory was wanting, or a schedule ended, the bytes end as they may.
+-- How the bytes that a source gave end: as the session does. Before a failed read there was no error, since it would
+-- have been answered. Where memory was wanting, or a schedule ended, the bytes end as they may.
 abbrev pub EndsAs : End → End → Type 0
 EndsAs ReadFault shown = HasNoError shown
 EndsAs Memory shown = Unit {0}
@@ -54,20 +54,21 @@ taken_of (Protocol kind place) given = place + 1
 taken_of TooLong given = judged_bytes
 taken_of end given = given
 
--- How many commands have their reply: all, unless memory or the schedule ended first. Where memory was wanting, the error
--- behind the requests was not answered.
+-- How many commands have their reply: all, unless memory or the schedule ended first. Where memory was wanting, the
+-- error behind the requests was not answered.
 abbrev pub IsReplied : End → ℕ → ℕ → ℕ → Type 0
 IsReplied Memory replies requests commands = replies ≤ requests
 IsReplied Left replies requests commands = replies ≤ commands
 IsReplied end replies requests commands = replies ≡ commands
 
--- How many parts of the call behind its last reply a session ran: none, unless memory was wanting in that call, and then
--- not its last.
+-- How many parts of the call behind its last reply a session ran: none, unless memory was wanting in that call, and
+-- then not its last.
 abbrev pub IsBegun : End → ℕ → ℕ → Type 0
 IsBegun Memory begun parts = (begun ≡ 0) ⊎ (begun < parts)
 IsBegun end begun parts = begun ≡ 0
 
--- What a session has done with its input. Of an input that isn't told all stands that needs no bytes: some bytes are such.
+-- What a session has done with its input. Of an input that isn't told all stands that needs no bytes: some bytes are
+-- such.
 pub record IsSession (session : Session) : Type 0 where
   -- the bytes that its source gave, and those that it has left: the input, where it is told
   pub gave : List ℕ
