@@ -81,6 +81,13 @@ impl Reader {
         self.parser.ready.pop_front()
     }
 
+    /// Takes the room of a request back, for one that comes.
+    pub fn give_back(&mut self, request: Request)
+        ensures { self.new ≡ self.old }
+    {
+        self.parser.spare = Some(request.into_room());
+    }
+
     /// How the input ends that was fed, where no more comes.
     pub fn end(self) -> Ended
         requires { self.closed ≡ None }
