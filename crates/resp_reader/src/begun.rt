@@ -1,12 +1,13 @@
 // Elements in pieces of any length.
 ghost use Rattle.std.specs.Prelude.{◌≡◌, ◌≢◌, ◌<◌, ◌≤◌, ◌+◌, ◌++◌, ◌∷◌, [], List, ℕ, length, IfOk, IfErr, IfSome, IfNone, OnOk, Err};
 ghost use Rattle.resp_reader.specs.Head.{IsDigits, IsWhole};
-ghost use Rattle.resp_reader.specs.Begun.{IsState, IsOpen, Moves, Stops, IsSound, front_of, Breaks, Grows};
-ghost use Rattle.flake_model.specs.Resp.{Words};
+ghost use Rattle.resp_reader.specs.Begun.{IsArray, IsState, IsOpen, Moves, Stops, IsSound, front_of, Breaks, Grows};
+ghost use Rattle.flake_model.specs.Resp.{Words, IsWord, bulk_string};
+ghost use Rattle.flake_model.specs.Fronts.{array_front};
 ghost use Rattle.resp_reader.specs.WordRoom.{GrowsFrom};
 ghost use Rattle.resp_reader.specs.declared.begun.Stop.TheVariants.{Memory as OutOfMemory};
 
-use crate::head::{Digits, Head, line};
+use crate::head::{Digits, Head, line, line_end, whole_line};
 use crate::word_room::WordRoom;
 use flake_base::Memory;
 use std::alloc::{AllocError, Global};
@@ -95,7 +96,10 @@ fn start(bytes: &[u8]) -> Result<(State, &[u8]), Stop>
     ensures err { IfErr result (Stops State.Start bytes.now) }
 {
     match strip(bytes, b'*') {
-        Some(rest) => Ok((State::InCount(Digits::Nothing), rest)),
+        Some(rest) => Ok(match whole_line(Head::Count, rest) {
+            Some((count, behind)) => (array(count), behind),
+            None => (State::InCount(Digits::Nothing), rest),
+        }),
         None => Err(Stop::Fault { kind: 4, place: 0 }),
     }
 }
@@ -148,13 +152,13 @@ fn at_word(count: u32, bytes: &[u8]) -> Result<(State, &[u8]), Stop>
     ensures err { IfErr result (Stops (State.AtWord count) bytes.now) }
 {
     match strip(bytes, b'$') {
-        Some(rest) => Ok((
-            State::InLength {
-                count,
-                digits: Digits::Nothing,
-            },
-            rest,
-        )),
+        Some(rest) => Ok(match whole_line(Head::Length, rest) {
+            Some((len, behind)) => (State::InWord { count, len }, behind),
+            None => {
+                let digits = Digits::Nothing;
+                (State::InLength { count, digits }, rest)
+            }
+        }),
         None => Err(Stop::Fault { kind: 2, place: 0 }),
     }
 }
@@ -275,7 +279,13 @@ impl Begun {
         }
         let (now, rest) = bytes.split_at(left.min(bytes.len()));
         self.room.append(now, len as usize)?;
-        Ok(rest)
+        match line_end(rest) {
+            Some(behind) => {
+                self.end_word(count)?;
+                Ok(behind)
+            }
+            None => Ok(rest),
+        }
     }
 
     fn word_end<'a>(&mut self, count: u32, bytes: &'a [u8]) -> Result<&'a [u8], Stop>
@@ -291,12 +301,26 @@ impl Begun {
         let Some(rest) = strip(bytes, b'\n') else {
             return Err(Stop::Fault { kind: 3, place: 0 });
         };
+        self.end_word(count)?;
+        Ok(rest)
+    }
+
+    // The next word and its line end are whole.
+    fn end_word(&mut self, count: u32) -> Result<(), Stop>
+        requires array { IsArray count self.old.room.words }
+        requires word { IsWord self.old.room.word }
+        ensures sound { OnOk result (IsSound self.new) }
+        ensures ok { OnOk result (front_of self.new
+            ≡ array_front count self.old.room.words ++ bulk_string self.old.room.word) }
+        ensures err { IfErr result (λ e. e ≡ Stop.Memory) }
+        ensures grows { Grows self.old self.new }
+    {
         self.room.end_word()?;
         self.state = if self.room.count() == count as usize {
             State::Whole { count }
         } else {
             State::AtWord { count }
         };
-        Ok(rest)
+        Ok(())
     }
 }

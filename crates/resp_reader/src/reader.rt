@@ -4,6 +4,7 @@ ghost use Rattle.flake_model.specs.Resp.{Words, Parses, judged_bytes};
 ghost use Rattle.resp_reader.specs.Reader.{Reads, fed_to, input_end};
 
 use crate::parser::Parser;
+use crate::word_room::MOST;
 use crate::{Ended, ReadError, Request};
 use std::alloc::Global;
 use std::marker::Model;
@@ -81,11 +82,14 @@ impl Reader {
         self.parser.ready.pop_front()
     }
 
-    /// Takes the room of a request back, for one that comes.
+    /// Takes the room of a request back, for one that comes, where it is at most 64 KiB.
     pub fn give_back(&mut self, request: Request)
         ensures { self.new ≡ self.old }
     {
-        self.parser.spare = Some(request.into_room());
+        let room = request.into_room();
+        if room.capacity() <= MOST {
+            self.parser.spare = Some(room);
+        }
     }
 
     /// How the input ends that was fed, where no more comes.

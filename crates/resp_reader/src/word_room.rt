@@ -11,7 +11,7 @@ use std::marker::Model;
 const FIRST: usize = 128;
 
 /// The most room that is taken for what a head announced.
-const MOST: usize = 65_536;
+pub const MOST: usize = 65_536;
 
 /// How many bytes of a word come before room is taken for all of it.
 const SOME: usize = 4096;
@@ -86,6 +86,11 @@ impl WordRoom {
             bytes: Vec::new(alloc),
             ends: Vec::new(alloc),
         }
+    }
+
+    /// How many bytes fit without more memory.
+    pub fn capacity(&self) -> usize {
+        self.bytes.capacity()
     }
 
     /// How many words are whole.

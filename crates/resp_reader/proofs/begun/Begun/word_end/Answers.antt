@@ -1,5 +1,4 @@
-use Rattle.std.proofs.Common.{◌++◌, ◌∷◌, [], ◌+◌, ◌∙◌, ap, inr, length, subst, sym}
-use Rattle.std.proofs.lemmas.List.{append-nil}
+use Rattle.std.proofs.Common.{◌++◌, [], ◌+◌, length, subst, sym}
 use Rattle.flake_model.specs.Resp.{IsFaulty}
 use Rattle.resp_reader.specs.Begun.{state_front, IsState}
 use Rattle.resp_reader.proofs.Moves.{word_end_stops}
@@ -11,9 +10,3 @@ returns-in_default-clause-err c =
     let word = c.args.self.now.room.word in
     subst (λ s. IsFaulty (state_front s words word ++ c.args.bytes.now) [] 3 (length (state_front s words word) + 0)) (sym c.requires.state)
     (word_end_stops c.args.count words word c.args.bytes.now (subst (λ s. IsState s words word) c.requires.state c.requires.sound) c.requires.some c.in_default.ensures.none)
-
--- the word that was next is whole
-pub returns-clause-grows : goal.returns-clause-grows
-returns-clause-grows c =
-    let old = c.args.self.now.room in
-    inr ([], [], ap (λ r. r.words) c.in_ok-end_word.ensures.ok ∙ ap (λ w. old.words ++ w ∷ []) (sym (append-nil old.word)))
