@@ -4,7 +4,7 @@ use Rattle.std.proofs.Math.Seq.{drop-nil, take-add}
 use Rattle.std.specs.List.{flat_map, slice_index_or}
 use Rattle.std.proofs.lemmas.Bool.{cases_lt}
 use Rattle.std.proofs.lemmas.List.{drop-drop, drop-take, take-take}
-use Rattle.flake_model.specs.Deed.{cuts, fragments_of}
+use Rattle.flake_model.specs.Fragments.{cuts, fragments_of}
 use Rattle.range_pick.specs.Pieces.{piece_at, touched, pieces_over, pieces_of, bytes_in, IsPiece, ArePieces}
 use Rattle.range_pick.specs.declared.pieces.Piece.{Piece}
 use Rattle.range_pick.specs.declared.spans.Span.{Span}

@@ -6,7 +6,7 @@ use Rattle.std.specs.Str.{bytes_eq}
 use Rattle.std.proofs.lemmas.List.{take-append-drop}
 use Rattle.std.proofs.lemmas.List.Sums.{fold_more, fold-append}
 use Rattle.std.specs.Option.{option_and_then}
-use Rattle.std.specs.Prelude.{nat_le, ◌&&◌}
+use Rattle.std.specs.Prelude.{◌==◌}
 use Rattle.std.proofs.lemmas.Fmt.{decimal_digit}
 use Rattle.std.proofs.lemmas.Bool.Decides.{nat_tests}
 use Rattle.flake_model.specs.Range.{number_of, plain_of, positive_of, negative_of, signed_of}
@@ -44,7 +44,7 @@ too_large word i large number is = omega (arith, at_least word i, plain_number w
 pub no_more : (word : List ℕ) (i n : ℕ) → i < length word → n ≡ number_of (take i word) → 2 ^ 64 ≤ n * 10 + (get_or word i 0 - 48) → (number : ℕ) → plain_of word ≡ Some number → 2 ^ 64 ≤ number
 no_more word i n within is large = too_large word (i + 1) (omega (arith, number_more word i within))
 
-minus_test : (byte : ℕ) (begins : Bool) → bytes_eq (byte ∷ []) (45 ∷ []) ≡ begins → (nat_le byte 45 && nat_le 45 byte) ≡ begins
+minus_test : (byte : ℕ) (begins : Bool) → bytes_eq (byte ∷ []) (45 ∷ []) ≡ begins → (byte == 45) ≡ begins
 minus_test byte true is = grind (arith, nat_tests)
 minus_test byte false is = grind (arith, nat_tests)
 

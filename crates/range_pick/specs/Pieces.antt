@@ -1,7 +1,7 @@
 -- The parts of a value's fragments that bytes of it lie in.
 use Rattle.std.specs.Prelude.{◌≡◌, ℕ, zero, suc, ◌+◌, ◌-◌, ◌/◌, ◌%◌, ◌<◌, ◌≤◌, min, List, [], ◌∷◌, Some, take, drop, slice_get, slice_index_or}
 use Rattle.std.specs.List.{flat_map}
-use Rattle.flake_model.specs.Deed.{fragment_limit, fragments_of}
+use Rattle.flake_model.specs.Fragments.{fragment_limit, fragments_of}
 use Rattle.range_pick.specs.declared.pieces.Piece.{Piece}
 use Rattle.range_pick.specs.declared.spans.Span.{Span}
 

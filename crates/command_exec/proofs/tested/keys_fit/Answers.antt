@@ -1,6 +1,6 @@
 use Rattle.command_exec.proofs.Keys.{one_more, one_too_long}
 use Rattle.std.proofs.Common.{arith}
-use Rattle.command_exec.proofs.asked.keys_fit.Goals as goal
+use Rattle.command_exec.proofs.tested.keys_fit.Goals as goal
 
 pub returns-then-word-gt-KEY_LIMIT : goal.returns-then-word-gt-KEY_LIMIT
 returns-then-word-gt-KEY_LIMIT c =
