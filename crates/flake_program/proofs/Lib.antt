@@ -7,7 +7,6 @@ pub mod Replies
 pub mod Pumped
 pub mod Serving
 pub mod Served
-pub mod MOneServed
 pub mod Ran
 pub mod RanServed
 pub mod RanUntouched

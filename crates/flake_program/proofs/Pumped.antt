@@ -9,8 +9,8 @@ use Rattle.flake_base.specs.declared.session.End.TheVariants.{Clean, Protocol, T
 use Rattle.flake_model.specs.Resp.{Words, judged_bytes, IsClean, IsTruncated, Parses, stream}
 use Rattle.flake_model.specs.Command.{Command, fault, command_of}
 use Rattle.flake_model.specs.Journal.{next_parts}
-use Rattle.flake_program.specs.MInput.{protocol_error, commands_in}
-use Rattle.flake_program.specs.MSession.{IsSession, IsTold}
+use Rattle.flake_model.specs.Input.{protocol_error, commands_in}
+use Rattle.flake_model.specs.Session.{IsSession, IsTold}
 use Rattle.flake_base.specs.declared.session.SessionEnd.{SessionEnd}
 use Rattle.flake_model.proofs.OneParse.{goes_on}
 use Rattle.flake_model.proofs.SomeParse.{some_parse}

@@ -1,5 +1,5 @@
 -- What is known of a run that served its file, and the clauses that this gives.
-use Rattle.std.proofs.Common.{◌≡◌, ◌≢◌, ◌⊎◌, ℕ, ◌≤◌, inl, inr, false, true, List, [], ◌∷◌, Option, Some, None, IfSome, All, length, map, slice_index, arith, refl, ap, sym, ◌∙◌, subst, ⊎_elim}
+use Rattle.std.proofs.Common.{◌≡◌, ◌≢◌, ◌⊎◌, ℕ, false, true, List, [], ◌∷◌, Some, length, subst}
 use Rattle.flake_base.specs.Calls.{counted}
 use Rattle.flake_base.specs.Causes.{Rose}
 use Rattle.flake_base.specs.Growth.{Grew}
@@ -11,11 +11,14 @@ use Rattle.flake_model.specs.Said.{summary_from}
 use Rattle.flake_program.specs.declared.outcome.Detail.TheVariants.{Nothing}
 use Rattle.flake_program.specs.Pump.{EndFaults}
 use Rattle.flake_program.specs.Task.{Task}
-use Rattle.flake_program.specs.Outside.{Outside}
+use Rattle.flake_program.specs.Outside.{outside}
 use Rattle.flake_program.specs.Outcome.{Done, SourceTold}
 use Rattle.flake_program.specs.Serving.{IsRun}
-use Rattle.flake_program.specs.Causes.{status_by}
-use Rattle.flake_program.specs.Said.{Says}
+use Rattle.flake_program.specs.Served.{Served}
+use Rattle.flake_program.specs.Untouched.{Untouched}
+use Rattle.flake_program.specs.Causes.{Causes, status_by}
+use Rattle.flake_program.specs.Complete.{Complete}
+use Rattle.flake_program.specs.Said.{Said, Says}
 
 -- the statuses of what was served
 abbrev pub IsServedStatus : ℕ → Type 0
@@ -40,6 +43,14 @@ pub record Ran {W : Type 0} (tells : W → WireTold) (task : Task) (name : List 
   pub statuses : IsServedStatus done.status
   pub by_end : done.status ≢ 5 → done.status ≢ 6 → (done.status ≡ status_by end.end) × (end.failed ≡ false) × (now.say_faults ≡ host.say_faults)
   pub failed : done.status ≡ 5 → (status_by end.end ≢ 6) × ((end.failed ≡ true) ⊎ Rose host.say_faults now.say_faults)
+
+-- all clauses of a run
+pub record Clauses {W : Type 0} (tells : W → WireTold) (task : Task) (host now : HostTold) (wires after : List W) (done : Done) : Type 0 where
+  pub served : done.ends ≢ [] → Served task (outside host wires tells) (outside now after tells) done
+  pub untouched : Untouched task (outside host wires tells) (outside now after tells) done
+  pub causes : Causes task (outside host wires tells) (outside now after tells) done
+  pub complete : Complete task (outside host wires tells) (outside now after tells) done
+  pub said : Said task (outside host wires tells) (outside now after tells) done
 
 -- said behind a call that said nothing
 pub says_since : (text : List ℕ) (old mid new : HostTold) → mid.said ≡ old.said → mid.say_faults ≡ old.say_faults → Says text mid new → Says text old new

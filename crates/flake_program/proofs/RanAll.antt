@@ -3,31 +3,18 @@ use Rattle.std.proofs.Common.{ℕ, List}
 use Rattle.flake_base.specs.Told.{HostTold, WireTold}
 use Rattle.flake_base.specs.declared.session.SessionEnd.{SessionEnd}
 use Rattle.flake_program.specs.Task.{Task}
-use Rattle.flake_program.specs.Outside.{outside}
 use Rattle.flake_program.specs.Outcome.{Done, SourceTold}
-use Rattle.flake_program.specs.Served.{Served}
-use Rattle.flake_program.specs.Untouched.{Untouched}
-use Rattle.flake_program.specs.Causes.{Causes}
-use Rattle.flake_program.specs.Complete.{Complete}
-use Rattle.flake_program.specs.Said.{Said}
-use Rattle.flake_program.proofs.Ran.{Ran}
+use Rattle.flake_program.proofs.Ran.{Ran, Clauses}
 use Rattle.flake_program.proofs.RanServed.{ran_served}
 use Rattle.flake_program.proofs.RanUntouched.{ran_untouched}
 use Rattle.flake_program.proofs.RanCauses.{ran_causes}
 use Rattle.flake_program.proofs.RanComplete.{ran_complete}
 use Rattle.flake_program.proofs.RanSaid.{ran_said}
 
-pub record Clauses {W : Type 0} (tells : W → WireTold) (task : Task) (host now : HostTold) (wires after : List W) (done : Done) : Type 0 where
-  pub served : Served task (outside host wires tells) (outside now after tells) done
-  pub untouched : Untouched task (outside host wires tells) (outside now after tells) done
-  pub causes : Causes task (outside host wires tells) (outside now after tells) done
-  pub complete : Complete task (outside host wires tells) (outside now after tells) done
-  pub said : Said task (outside host wires tells) (outside now after tells) done
-
 pub ran_all : {W : Type 0} (tells : W → WireTold) (task : Task) (name : List ℕ) (host now : HostTold) (wires after : List W) (done : Done) (end : SessionEnd) (source : SourceTold)
     → Ran tells task name host now wires after done end source → Clauses tells task host now wires after done
 ran_all tells task name host now wires after done end source r = record {
-  served = ran_served tells task name host now wires after done end source r;
+  served = λ some. ran_served tells task name host now wires after done end source r;
   untouched = ran_untouched tells task name host now wires after done end source r;
   causes = ran_causes tells task name host now wires after done end source r;
   complete = ran_complete tells task name host now wires after done end source r;

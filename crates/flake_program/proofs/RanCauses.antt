@@ -5,7 +5,7 @@ use Rattle.flake_base.specs.Causes.{Rose}
 use Rattle.flake_base.specs.Told.{HostTold, WireTold}
 use Rattle.flake_base.specs.declared.session.End.{End}
 use Rattle.flake_base.specs.declared.session.SessionEnd.{SessionEnd}
-use Rattle.flake_program.specs.MWire.{FaultsAre}
+use Rattle.flake_model.specs.Wire.{FaultsAre}
 use Rattle.flake_program.specs.Task.{Task}
 use Rattle.flake_program.specs.Outside.{Outside, outside}
 use Rattle.flake_program.specs.Outcome.{Done, SourceTold, ways}

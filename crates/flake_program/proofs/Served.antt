@@ -5,10 +5,10 @@ use Rattle.flake_base.specs.declared.journal.Entry.{Entry}
 use Rattle.flake_base.specs.declared.session.SessionEnd.{SessionEnd}
 use Rattle.flake_model.specs.Journal.{wire_text}
 use Rattle.flake_model.proofs.ManyShards.{many_shards_wire}
-use Rattle.flake_program.proofs.MOneServed.{one_served}
-use Rattle.flake_program.specs.MRun.{wire_texts}
-use Rattle.flake_program.specs.MSession.{Session}
-use Rattle.flake_program.specs.MWire.{HasPut, BytesAre, KeptIs}
+use Rattle.flake_model.proofs.OneServed.{one_served}
+use Rattle.flake_model.specs.Run.{wire_texts}
+use Rattle.flake_model.specs.Session.{Session}
+use Rattle.flake_model.specs.Wire.{HasPut, BytesAre, KeptIs}
 use Rattle.flake_program.specs.Pump.{session_at}
 use Rattle.flake_program.specs.Serving.{texts_to, HasServed, IsRun}
 
@@ -33,3 +33,8 @@ was_run told (old ∷ wires) first new input left end journal some is shards ser
       flushed = (kept_is end.failed (told first).kept (told new).kept flushed, refl);
       others = refl;
     })
+
+-- the same, of the same input
+pub run_on : {W : Type 0} (told : W → WireTold) (wires after : List W) (input other left : Option (List ℕ)) (end : SessionEnd) (journal : List (List Entry)) → input ≡ other
+    → IsRun input left end journal wires after told → IsRun other left end journal wires after told
+run_on told wires after input other left end journal is run = subst (λ i. IsRun i left end journal wires after told) is run

@@ -16,8 +16,8 @@ use Rattle.flake_model.specs.Command.{Command, parts}
 use Rattle.flake_model.specs.Reply.{reply_text}
 use Rattle.flake_model.specs.OneThread.{after_all, reply_on, replies_on, store_on, IsSharded}
 use Rattle.flake_model.specs.Journal.{call_steps, session_steps, next_parts, ran_steps}
-use Rattle.flake_program.specs.MSession.{IsSession}
-use Rattle.flake_program.specs.MWire.{FaultIs}
+use Rattle.flake_model.specs.Session.{IsSession}
+use Rattle.flake_model.specs.Wire.{FaultIs}
 use Rattle.flake_model.proofs.OneThread.{replies_on-append, store_on-append, session_steps-more}
 use Rattle.flake_program.specs.Pump.{IsPump, PumpState, HasEnded, ended_at, session_at}
 use Rattle.flake_program.specs.Serving.{texts_to, WasSent, AreServing, HasReplied, HasStopped, HasServed}

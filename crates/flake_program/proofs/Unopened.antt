@@ -14,6 +14,8 @@ use Rattle.flake_program.specs.Refusals.{IsRefused}
 use Rattle.flake_program.specs.Untouched.{Untouched}
 use Rattle.flake_program.specs.Causes.{Causes, status_by}
 use Rattle.flake_program.specs.Complete.{Complete}
+use Rattle.flake_program.specs.Said.{Said, Says, text_of}
+use Rattle.flake_program.proofs.Ran.{Clauses, says_since}
 use Rattle.flake_program.specs.declared.outcome.Refusal.TheVariants.{OpenFault}
 
 -- the open of the file failed, and that was said
@@ -24,6 +26,8 @@ pub record Unopened {W : Type 0} (tells : W → WireTold) (task : Task) (name : 
   pub others : (other : List ℕ) → other ≢ name → mid.holds other ≡ host.holds other
   pub own : mid.holds name ≡ host.holds name
   pub opens : mid.opens ≡ counted host.opens
+  pub said : mid.said ≡ host.said
+  pub say_faults : mid.say_faults ≡ host.say_faults
   pub rose : Rose (host.open_faults name) (mid.open_faults name)
 
 -- what is so at one name and at the others is so at each
@@ -41,7 +45,7 @@ module _ {W : Type 0} (tells : W → WireTold) (task : Task) (name : List ℕ) (
   rose_since : Rose (host.open_faults name) (now.open_faults name)
   rose_since = subst (Rose (host.open_faults name)) (sym (u.refused.files.open_faults name)) u.rose
 
-  pub unopened_untouched : Untouched task (outside host wires tells) (outside now after tells) done
+  unopened_untouched : Untouched task (outside host wires tells) (outside now after tells) done
   unopened_untouched = record {
     wires = λ none. u.refused.wires;
     journal = λ none. u.refused.journal;
@@ -68,7 +72,7 @@ module _ {W : Type 0} (tells : W → WireTold) (task : Task) (name : List ℕ) (
   not_written (inr (inl is)) = absurd (omega (arith, is, two))
   not_written (inr (inr is)) = absurd (omega (arith, is, two))
 
-  pub unopened_causes : Causes task (outside host wires tells) (outside now after tells) done
+  unopened_causes : Causes task (outside host wires tells) (outside now after tells) done
   unopened_causes = subst (λ t. Causes t (outside host wires tells) (outside now after tells) done) (sym u.task_is) (record {
     statuses = inr (inr (inl two));
     served = λ status. not_served status;
@@ -86,9 +90,19 @@ module _ {W : Type 0} (tells : W → WireTold) (task : Task) (name : List ℕ) (
     first_file = subst (All (λ (s : SourceTold). s.file ≡ 0)) (sym u.refused.sources) (All-from_recursion (λ (s : SourceTold). s.file ≡ 0) [] tt);
   })
 
-  pub unopened_complete : Complete task (outside host wires tells) (outside now after tells) done
+  unopened_complete : Complete task (outside host wires tells) (outside now after tells) done
   unopened_complete = subst (λ t. Complete t (outside host wires tells) (outside now after tells) done) (sym u.task_is) (record { whole = λ some nothing. absurd (nothing.opens rose_since) })
 
-  pub unopened_all : Untouched task (outside host wires tells) (outside now after tells) done × Causes task (outside host wires tells) (outside now after tells) done
-      × Complete task (outside host wires tells) (outside now after tells) done
-  unopened_all = (unopened_untouched, unopened_causes, unopened_complete)
+  unopened_said : Said task (outside host wires tells) (outside now after tells) done
+  unopened_said = record {
+    text = λ other. subst (λ text. Says text host now) (sym (ap (λ status. text_of status done.ends) two)) (says_since _ host mid now u.said u.say_faults u.refused.said);
+  }
+
+  pub unopened_all : Clauses tells task host now wires after done
+  unopened_all = record {
+    served = λ some. absurd (some u.refused.ends);
+    untouched = unopened_untouched;
+    causes = unopened_causes;
+    complete = unopened_complete;
+    said = unopened_said;
+  }

@@ -14,8 +14,3 @@ pub mod Untouched
 pub mod Causes
 pub mod Complete
 pub mod Said
-pub mod MInput
-pub mod MSession
-pub mod MRun
-pub mod MOneHistory
-pub mod MWire

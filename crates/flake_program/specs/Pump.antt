@@ -6,8 +6,8 @@ use Rattle.flake_base.specs.declared.session.End.TheVariants.{Clean, Protocol, T
 use Rattle.flake_model.specs.Resp.{Words, Parses, judged_bytes}
 use Rattle.flake_model.specs.Command.{Command, fault, command_of}
 use Rattle.flake_base.specs.declared.session.SessionEnd.{SessionEnd}
-use Rattle.flake_program.specs.MInput.{protocol_error, commands_in}
-use Rattle.flake_program.specs.MSession.{Session, IsSession, HasNoError}
+use Rattle.flake_model.specs.Input.{protocol_error, commands_in}
+use Rattle.flake_model.specs.Session.{Session, IsSession, HasNoError}
 use Rattle.resp_reader.specs.declared.error.ReadError.{ReadError}
 use Rattle.resp_reader.specs.declared.error.ReadError.TheVariants as errors
 use Rattle.resp_reader.specs.Reader.{Progress, Reads, fed_to}

@@ -4,8 +4,8 @@ use Rattle.std.specs.Option.{option_to_list}
 use Rattle.flake_base.specs.Calls.{counted}
 use Rattle.flake_base.specs.Told.{HostTold}
 use Rattle.flake_base.specs.declared.session.End.TheVariants.{Left}
-use Rattle.flake_program.specs.MRun.{WasServed, missing_writes, wire_texts}
-use Rattle.flake_program.specs.MWire.{FaultsAre, BytesAre, KeptAre}
+use Rattle.flake_model.specs.Run.{WasServed, missing_writes, wire_texts}
+use Rattle.flake_model.specs.Wire.{FaultsAre, BytesAre, KeptAre}
 use Rattle.flake_program.specs.Task.{Task}
 use Rattle.flake_program.specs.Outside.{Outside, sent_by, bytes_of, kept_by, faults_of}
 use Rattle.flake_program.specs.Outcome.{Done, ways, files_of, lefts_of}

@@ -12,9 +12,9 @@ use Rattle.flake_model.specs.Command.{Command}
 use Rattle.flake_model.specs.Reply.{reply_text}
 use Rattle.flake_model.specs.Journal.{session_steps, ran_steps}
 use Rattle.flake_model.specs.OneThread.{reply_on, replies_on, store_on, IsSharded}
-use Rattle.flake_program.specs.MSession.{IsSession}
-use Rattle.flake_program.specs.MRun.{WasServed, missing_writes, wire_texts}
-use Rattle.flake_program.specs.MWire.{FaultIs, FaultsAre, HasPut, BytesAre, KeptAre}
+use Rattle.flake_model.specs.Session.{IsSession}
+use Rattle.flake_model.specs.Run.{WasServed, missing_writes, wire_texts}
+use Rattle.flake_model.specs.Wire.{FaultIs, FaultsAre, HasPut, BytesAre, KeptAre}
 use Rattle.flake_program.specs.Pump.{PumpState, IsPump, EndFaults, ended_at, session_at}
 use Rattle.flake_program.specs.Store.{Tables, Holds}
 

@@ -2,7 +2,7 @@
 ghost use Rattle.std.specs.Prelude.{◌≡◌, ◌<◌, ◌⊎◌, ◌++◌, ◌∷◌, [], List, ℕ, Option, None, IfOk, IfErr, Err};
 ghost use Rattle.flake_model.specs.Command.{Command as Meaning};
 ghost use Rattle.flake_model.specs.Resp.{Words, Parses};
-ghost use Rattle.flake_program.specs.MInput.{protocol_error};
+ghost use Rattle.flake_model.specs.Input.{protocol_error};
 ghost use Rattle.resp_reader.specs.Reader.{Reads};
 ghost use Rattle.flake_program.specs.Pump.{IsPump, HasEnded, IsOver, taken_by, stage_after};
 

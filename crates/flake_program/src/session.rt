@@ -4,7 +4,7 @@ ghost use Rattle.std.specs.FinMap as finite;
 ghost use Rattle.flake_base.specs.Told.{Took, Flushed};
 ghost use Rattle.flake_model.specs.Command.{Command};
 ghost use Rattle.flake_model.specs.OneThread.{IsSharded};
-ghost use Rattle.flake_program.specs.MWire.{FaultIs};
+ghost use Rattle.flake_model.specs.Wire.{FaultIs};
 ghost use Rattle.flake_program.specs.Store.{Holds};
 ghost use Rattle.flake_program.specs.Serving.{AreServing, HasReplied, HasStopped, HasServed};
 ghost use Rattle.flake_program.specs.Pump.{EndFaults};

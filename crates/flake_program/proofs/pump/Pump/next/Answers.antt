@@ -45,5 +45,5 @@ returns-in-Ended-clause-again g c end over =
     let at = subst (IsOver end) (sym same) over in (
       cc (c.in-Ended.is, at.stage),
       same_again end c.in-Ended.end _ c.next.new.self _ at c.in-Ended.is
-      (unchanged_reader _ c.next.new.self c.next.ensures.front c.next.ensures.closed c.in_default.ensures.request) c.taken_at-self-inside.ensures ∙ same,
+          (unchanged_reader _ c.next.new.self c.next.ensures.front c.next.ensures.closed c.in_default.ensures.request) c.taken_at-self-inside.ensures ∙ same,
     )
