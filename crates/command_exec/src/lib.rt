@@ -5,9 +5,11 @@ mod asked;
 mod command;
 mod name;
 mod op;
+mod options;
+mod tested;
 #[cfg(test)]
 mod tests;
 
-pub use asked::VALUE_LIMIT;
 pub use command::Command;
+pub use name::VALUE_LIMIT;
 pub use op::Op;

@@ -1,57 +1,47 @@
--- Requests, as words, with what they are answered in turn by a store of one thread.
-use Rattle.std.specs.Prelude.{ℕ, if◌then◌else◌, Option, Some, None, List, [], ◌∷◌, ◌++◌, codes, map}
-use Rattle.std.specs.Str.{bytes_eq}
+-- Requests with what a store of one thread sends for them, one table entry for a whole input.
+use Rattle.std.specs.Prelude.{ℕ, ◌==◌, if◌then◌else◌, List, [], ◌∷◌, ◌++◌, codes, map}
+use Rattle.std.specs.List.{flat_map}
+use Rattle.std.specs.FinMap as finite
 use Rattle.flake_model.specs.Resp.{Words}
-use Rattle.flake_model.specs.Command.{Command, command_of, parts}
-use Rattle.flake_model.specs.Store.{Operation, Answer, Change, keeps, puts, removes, key_of, answer_on, change_on}
-use Rattle.flake_model.specs.Reply.{reply_of, reply_text}
+use Rattle.flake_model.specs.Command.{command_of}
+use Rattle.flake_model.specs.Reply.{reply_text}
+use Rattle.flake_model.specs.OneThread.{replies_on}
+
+-- a byte in front of words: a space ends a word
+abbrev pub with_byte : ℕ → Words → Words
+with_byte byte [] = []
+with_byte byte (word ∷ words) = if byte == 32 then [] ∷ word ∷ words else (byte ∷ word) ∷ words
+
+-- the words between the spaces of a line
+abbrev pub line_words : List ℕ → Words
+line_words [] = [] ∷ []
+line_words (byte ∷ bytes) = with_byte byte (line_words bytes)
 
 pub record Row : Type 0 where
-  pub requests : List Words
+  -- a request a line
+  pub lines : List (List ℕ)
   pub sent : List ℕ
 
-abbrev pub row : List Words → List ℕ → Row
-row requests sent = record { requests = requests; sent = sent }
+abbrev pub row : List (List ℕ) → List ℕ → Row
+row lines sent = record { lines = lines; sent = sent }
 
--- what each key has, as a function, which computes
-abbrev pub Table : Type 0
-Table = List ℕ → Option (List ℕ)
-
-abbrev pub with_change : Table → List ℕ → Change → Table
-with_change table key keeps other = table other
-with_change table key (puts bytes) other = if bytes_eq other key then Some bytes else table other
-with_change table key removes other = if bytes_eq other key then None else table other
-
-abbrev pub table_after : Table → List Operation → Table
-table_after table [] = table
-table_after table (operation ∷ operations) = table_after (with_change table (key_of operation) (change_on (table (key_of operation)) operation)) operations
-
-abbrev pub answers_on : Table → List Operation → List (Option Answer)
-answers_on table [] = []
-answers_on table (operation ∷ operations) =
-    Some (answer_on (table (key_of operation)) operation) ∷ answers_on (with_change table (key_of operation) (change_on (table (key_of operation)) operation)) operations
-
-abbrev pub sent_from : Table → List Command → List ℕ
-sent_from table [] = []
-sent_from table (command ∷ commands) = reply_text (reply_of command (answers_on table (parts command))) ++ sent_from (table_after table (parts command)) commands
-
+-- what is sent for requests, from the empty store on
 abbrev pub sent_by : List Words → List ℕ
-sent_by requests = sent_from (λ key. None) (map command_of requests)
+sent_by requests = flat_map reply_text (replies_on finite.empty (map command_of requests))
 
 abbrev pub rows : List Row
 rows =
-    row ((codes "SET" ∷ codes "a" ∷ codes "1" ∷ codes "NX" ∷ []) ∷ (codes "SET" ∷ codes "a" ∷ codes "2" ∷ codes "NX" ∷ [])
-    ∷ (codes "SET" ∷ codes "a" ∷ codes "3" ∷ codes "XX" ∷ codes "GET" ∷ []) ∷ (codes "SET" ∷ codes "b" ∷ codes "4" ∷ codes "XX" ∷ [])
-    ∷ (codes "SET" ∷ codes "b" ∷ codes "5" ∷ codes "GET" ∷ []) ∷ (codes "SET" ∷ codes "a" ∷ codes "6" ∷ codes "nx" ∷ codes "get" ∷ [])
-    ∷ (codes "SET" ∷ codes "a" ∷ codes "7" ∷ codes "NX" ∷ codes "XX" ∷ []) ∷ [])
-    (codes "+OK\r\n$-1\r\n$1\r\n1\r\n$-1\r\n$-1\r\n$1\r\n3\r\n-ERR syntax error\r\n")
-    ∷ row ((codes "SET" ∷ codes "k" ∷ codes "abcdef" ∷ []) ∷ (codes "GETRANGE" ∷ codes "k" ∷ codes "1" ∷ codes "3" ∷ [])
-    ∷ (codes "GETRANGE" ∷ codes "k" ∷ codes "-3" ∷ codes "-1" ∷ []) ∷ (codes "GETRANGE" ∷ codes "k" ∷ codes "4" ∷ codes "99" ∷ [])
-    ∷ (codes "GETRANGE" ∷ codes "k" ∷ codes "3" ∷ codes "1" ∷ []) ∷ (codes "GETRANGE" ∷ codes "x" ∷ codes "0" ∷ codes "-1" ∷ [])
-    ∷ (codes "STRLEN" ∷ codes "k" ∷ []) ∷ (codes "STRLEN" ∷ codes "x" ∷ []) ∷ (codes "GETRANGE" ∷ codes "k" ∷ codes "0" ∷ codes "01" ∷ []) ∷ [])
-    (codes "+OK\r\n$3\r\nbcd\r\n$3\r\ndef\r\n$2\r\nef\r\n$0\r\n\r\n$0\r\n\r\n:6\r\n:0\r\n-ERR value is not an integer or out of range\r\n")
-    ∷ row ((codes "get" ∷ codes "a" ∷ []) ∷ (codes "FLY" ∷ []) ∷ (codes "SET" ∷ codes "a" ∷ []) ∷ (codes "SET" ∷ codes "a" ∷ codes "b" ∷ codes "EX" ∷ codes "9" ∷ []) ∷ (codes "PING" ∷ []) ∷ (codes "PING" ∷ codes "hi" ∷ []) ∷ [])
-    (codes "$-1\r\n-ERR unknown command\r\n-ERR wrong number of arguments\r\n-ERR syntax error\r\n+PONG\r\n$2\r\nhi\r\n")
-    ∷ row ((codes "SET" ∷ codes "a" ∷ codes "1" ∷ []) ∷ (codes "DEL" ∷ codes "a" ∷ codes "a" ∷ []) ∷ (codes "SET" ∷ codes "b" ∷ codes "1" ∷ []) ∷ (codes "EXISTS" ∷ codes "b" ∷ codes "b" ∷ []) ∷ [])
+    row (codes "SET a 1" ∷ codes "DEL a a" ∷ codes "SET b 1" ∷ codes "EXISTS b b" ∷ [])
     (codes "+OK\r\n:1\r\n+OK\r\n:2\r\n")
+    ∷ row (codes "get a" ∷ codes "FLY" ∷ codes "SET a" ∷ codes "SET a b EX 9" ∷ codes "PING" ∷ codes "PING hi" ∷ [])
+    (codes "$-1\r\n-ERR unknown command\r\n-ERR wrong number of arguments\r\n-ERR syntax error\r\n+PONG\r\n"
+    ++ codes "$2\r\nhi\r\n")
+    ∷ row (codes "SET a 1 NX" ∷ codes "SET a 2 NX" ∷ codes "SET a 3 XX GET" ∷ codes "SET b 4 XX" ∷ codes "SET b 5 GET"
+    ∷ codes "SET a 6 nx get" ∷ codes "SET a 7 NX XX" ∷ [])
+    (codes "+OK\r\n$-1\r\n$1\r\n1\r\n$-1\r\n$-1\r\n$1\r\n3\r\n-ERR syntax error\r\n")
+    ∷ row (codes "SET k abcdef" ∷ codes "GETRANGE k 1 3" ∷ codes "GETRANGE k -3 -1" ∷ codes "GETRANGE k 4 99"
+    ∷ codes "GETRANGE k 3 1" ∷ codes "GETRANGE x 0 -1" ∷ codes "STRLEN k" ∷ codes "STRLEN x" ∷ codes "GETRANGE k 0 01"
+    ∷ [])
+    (codes "+OK\r\n$3\r\nbcd\r\n$3\r\ndef\r\n$2\r\nef\r\n$0\r\n\r\n$0\r\n\r\n:6\r\n:0\r\n"
+    ++ codes "-ERR value is not an integer or out of range\r\n")
     ∷ []
