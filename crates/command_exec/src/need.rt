@@ -8,6 +8,7 @@ use crate::Command;
 use crate::asked::Asked;
 use reply_layout::Need;
 use resp_text::line_size;
+use shard_store::Setting;
 
 // One line, copied.
 const LINE: Need = Need {
@@ -55,8 +56,7 @@ impl Command {
         ensures modest { IsModest result }
     {
         match (self.asked, &self.request) {
-            (Asked::Get, _) => values_need(1, 0),
-            (Asked::Set(setting), _) => if setting.asks { values_need(1, 0) } else { LINE },
+            (Asked::Get | Asked::Set(Setting { asks: true, .. }), _) => values_need(1, 0),
             (Asked::MGet, Some(request)) => {
                 let keys = request.len() - 1;
                 values_need(keys, line_size(keys as u64))
