@@ -1,3 +1,4 @@
+pub mod Settings
 pub mod Names
 pub mod Asked
 pub mod Meaning

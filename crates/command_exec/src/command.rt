@@ -1,10 +1,11 @@
 ghost use Rattle.std.specs.Prelude.{◌≡◌, ◌<◌, ◌≤◌, length, slice_get, Some};
 ghost use Rattle.flake_model.specs.Command.{command_of, parts, fault};
-ghost use Rattle.shard_store.specs.Parts.{operation_of};
+ghost use Rattle.shard_store.specs.Parts.{operation_of, HasOwnValue};
 ghost use Rattle.command_exec.specs.Meaning.{op_of, argument_of};
 
 use crate::Op;
-use crate::asked::op_asked;
+use crate::asked::Asked;
+use crate::tested::asked;
 use flake_base::ErrorKind;
 use resp_reader::Request;
 use shard_store::{Part, PartOp};
@@ -13,8 +14,8 @@ use std::marker::Model;
 /// A command, with the words of its request, if it came from one.
 #[derive(Drop)]
 pub struct Command {
-    op: Op,
-    request: Option<Request>,
+    pub(crate) asked: Asked,
+    pub(crate) request: Option<Request>,
 }
 
 impl Model for Command {
@@ -23,9 +24,9 @@ impl Model for Command {
 
     ghost Value = { model.Command };
 
-    ghost view = { λ c. command_by c.op (words_of c.request) };
+    ghost view = { λ c. command_by c.asked (words_of c.request) };
 
-    ghost invariant = { λ c. FitsWords c.op (words_of c.request) };
+    ghost invariant = { λ c. FitsWords c.asked (words_of c.request) };
 }
 
 impl Command {
@@ -34,7 +35,7 @@ impl Command {
         ensures { result ≡ command_of request }
     {
         Command {
-            op: op_asked(&request),
+            asked: asked(&request),
             request: Some(request),
         }
     }
@@ -44,7 +45,7 @@ impl Command {
         ensures { result ≡ fault error }
     {
         Command {
-            op: Op::Fault(error),
+            asked: Asked::Fault(error),
             request: None,
         }
     }
@@ -52,7 +53,7 @@ impl Command {
     pub fn op(&self) -> Op
         ensures { result ≡ op_of self.now }
     {
-        self.op
+        self.asked.op()
     }
 
     /// The number of parts.
@@ -60,10 +61,10 @@ impl Command {
         ensures parts { result ≡ length (parts self.now) }
         ensures few { result ≤ 64 }
     {
-        match (self.op, &self.request) {
-            (Op::Get | Op::Set | Op::Append, _) => 1,
-            (Op::MGet | Op::Del | Op::Exists, Some(request)) => request.len() - 1,
-            _ => 0,
+        match (self.asked, &self.request) {
+            (Asked::MGet | Asked::Del | Asked::Exists, Some(request)) => request.len() - 1,
+            (Asked::Ping | Asked::PingWith | Asked::Fault(_), _) => 0,
+            _ => 1,
         }
     }
 
@@ -72,19 +73,22 @@ impl Command {
         requires { j < length (parts self.now) }
         ensures operation { slice_get (parts self.now) j ≡ Some (operation_of result) }
         ensures key { length result.key.now ≤ 512 }
-        ensures value { length result.value.now ≤ 16384 }
+        ensures value { length result.value.now ≤ 65536 }
+        ensures own_value { HasOwnValue result.op result.value.now }
     {
         let Some(request) = &self.request else {
             unreachable!()
         };
         let key = request.word(j + 1);
-        let (op, value): (PartOp, &[u8]) = match self.op {
-            Op::Get | Op::MGet => (PartOp::Get, &[]),
-            Op::Set => (PartOp::Set, request.word(2)),
-            Op::Append => (PartOp::Append, request.word(2)),
-            Op::Del => (PartOp::Del, &[]),
-            Op::Exists => (PartOp::Exists, &[]),
-            Op::Ping | Op::PingWith | Op::Fault(_) => unreachable!(),
+        let (op, value): (PartOp, &[u8]) = match self.asked {
+            Asked::Get | Asked::MGet => (PartOp::Get, &[]),
+            Asked::Set(setting) => (setting.part_op(), request.word(2)),
+            Asked::Append => (PartOp::Append, request.word(2)),
+            Asked::Del => (PartOp::Del, &[]),
+            Asked::Exists => (PartOp::Exists, &[]),
+            Asked::StrLen => (PartOp::StrLen, &[]),
+            Asked::GetRange { start, end } => (PartOp::GetRange { start, end }, &[]),
+            Asked::Ping | Asked::PingWith | Asked::Fault(_) => unreachable!(),
         };
         Part { op, key, value }
     }
@@ -94,8 +98,8 @@ impl Command {
         ensures argument { result.now ≡ argument_of self.now }
         ensures short { length result.now ≤ 16384 }
     {
-        match (self.op, &self.request) {
-            (Op::PingWith, Some(request)) => request.word(1),
+        match (self.asked, &self.request) {
+            (Asked::PingWith, Some(request)) => request.word(1),
             _ => &[],
         }
     }

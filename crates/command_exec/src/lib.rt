@@ -4,10 +4,13 @@
 mod asked;
 mod command;
 mod name;
+mod need;
 mod op;
+mod options;
+mod tested;
 #[cfg(test)]
 mod tests;
 
-pub use asked::VALUE_LIMIT;
 pub use command::Command;
+pub use name::VALUE_LIMIT;
 pub use op::Op;

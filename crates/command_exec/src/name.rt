@@ -1,10 +1,13 @@
-ghost use Rattle.std.specs.Prelude.{◌≡◌, ◌<◌, OnSome, length};
+ghost use Rattle.std.specs.Prelude.{◌≡◌, ◌<◌, true, OnSome, length};
+ghost use Rattle.std.specs.Option.{option_map};
 ghost use Rattle.flake_model.specs.Command.{command_of};
-ghost use Rattle.command_exec.specs.Names.{fits, is_plain, key_count, argument_place, op_by};
+ghost use Rattle.command_exec.specs.Names.{fits, options_by, key_count, argument_fits};
+ghost use Rattle.command_exec.specs.Settings.{options_of};
 ghost use Rattle.command_exec.specs.Asked.{asked};
 
-use crate::Op;
+use crate::options::{PLAIN, set_options};
 use resp_reader::Request;
+use shard_store::Setting;
 
 /// The names of commands.
 #[derive(Clone, Copy, Debug)]
@@ -16,7 +19,15 @@ pub(crate) enum Name {
     Del,
     Exists,
     Append,
+    StrLen,
+    GetRange,
 }
+
+/// The most bytes of a value, and of what is appended to one.
+pub const VALUE_LIMIT: usize = 65_536;
+
+/// The most bytes of PING's argument.
+const MESSAGE_LIMIT: usize = 16_384;
 
 impl Name {
     /// The name that a request begins with, without regard to ASCII case.
@@ -40,6 +51,10 @@ impl Name {
             Some(Name::Exists)
         } else if word.eq_ignore_ascii_case(b"APPEND") {
             Some(Name::Append)
+        } else if word.eq_ignore_ascii_case(b"STRLEN") {
+            Some(Name::StrLen)
+        } else if word.eq_ignore_ascii_case(b"GETRANGE") {
+            Some(Name::GetRange)
         } else if word.eq_ignore_ascii_case(b"PING") {
             Some(Name::Ping)
         } else {
@@ -53,20 +68,21 @@ impl Name {
     {
         match self {
             Name::Ping => count <= 2,
-            Name::Get => count == 2,
+            Name::Get | Name::StrLen => count == 2,
             Name::Set => count >= 3,
             Name::MGet | Name::Del | Name::Exists => count >= 2,
             Name::Append => count == 3,
+            Name::GetRange => count == 4,
         }
     }
 
-    /// Whether no word is an option.
-    pub(crate) fn is_plain(self, count: usize) -> bool
-        ensures { result ≡ is_plain self count }
+    /// The options of a request of this name, if the words that may only be options are ones. SET alone has some.
+    pub(crate) fn options(self, request: &Request) -> Option<Setting>
+        ensures { option_map options_of result ≡ options_by self request.now }
     {
         match self {
-            Name::Set => count == 3,
-            _ => true,
+            Name::Set => set_options(request),
+            _ => Some(PLAIN),
         }
     }
 
@@ -77,35 +93,20 @@ impl Name {
     {
         match self {
             Name::Ping => 0,
-            Name::Get | Name::Set | Name::Append => 1,
+            Name::Get | Name::Set | Name::Append | Name::StrLen | Name::GetRange => 1,
             Name::MGet | Name::Del | Name::Exists => count - 1,
         }
     }
 
-    /// The place of the word that may be as long as a value.
-    pub(crate) fn argument_place(self, count: usize) -> Option<usize>
-        ensures { result ≡ argument_place self count }
+    /// Whether the word that may be long is as short as it has to be.
+    pub(crate) fn argument_fits(self, request: &Request) -> bool
+        requires { fits self (length request.now) ≡ true }
+        ensures { result ≡ argument_fits self request.now }
     {
         match self {
-            Name::Ping if count > 1 => Some(1),
-            Name::Set | Name::Append => Some(2),
-            _ => None,
-        }
-    }
-
-    /// What a request of this name asks for, where its words pass all tests.
-    pub(crate) fn op(self, count: usize) -> Op
-        ensures { result ≡ op_by self count }
-    {
-        match self {
-            Name::Ping if count == 1 => Op::Ping,
-            Name::Ping => Op::PingWith,
-            Name::Get => Op::Get,
-            Name::Set => Op::Set,
-            Name::MGet => Op::MGet,
-            Name::Del => Op::Del,
-            Name::Exists => Op::Exists,
-            Name::Append => Op::Append,
+            Name::Ping => request.len() < 2 || request.word(1).len() <= MESSAGE_LIMIT,
+            Name::Set | Name::Append => request.word(2).len() <= VALUE_LIMIT,
+            _ => true,
         }
     }
 }

@@ -12,6 +12,8 @@ pub enum Op {
     Del,
     Exists,
     Append,
+    StrLen,
+    GetRange,
     /// It is answered by this error and asks for nothing.
     Fault(ErrorKind),
 }

@@ -2,7 +2,6 @@
 #![tactic(auto)]
 
 mod execute;
-mod files;
 mod journal;
 mod outcome;
 mod pump;
@@ -17,10 +16,10 @@ mod tell;
 mod tests;
 mod words;
 
-use crate::files::{FileHost, FileWire};
 use crate::outcome::{OUT_OF_MEMORY, Refusal};
 use crate::run::run;
-use flake_base::Wire;
+use file_outside::{FileHost, FileWire};
+use flake_base::{Memory, Wire};
 use std::alloc::AllocError;
 use std::env;
 use std::io::ErrorKind;
@@ -42,20 +41,21 @@ fn command_line(rt: &HostRuntime) -> Result<Vec<String>, AllocError> {
 }
 
 // Session 0 writes to `out0.resp` in the folder where the program runs.
-fn serve(rt: &HostRuntime) -> Result<u8, AllocError> {
+fn serve(rt: &HostRuntime) -> Result<u8, Memory> {
     let alloc = rt.alloc();
     let words = command_line(rt)?;
     let name = String::from_str(alloc, "out0.resp")?;
     let mut wires: Vec<Box<dyn Wire>> = Vec::with_capacity(alloc, 1)?;
-    wires.push(Box::new(alloc, FileWire::new(rt.clone()?, name))?)?;
-    let mut host = FileHost::new(rt.clone()?);
+    let wire = FileWire::new(rt.clone()?, alloc, name)?;
+    wires.push(Box::new(alloc, wire)?)?;
+    let mut host = FileHost::new(rt.clone()?, alloc)?;
     Ok(run(rt, alloc, words.as_slice(), &mut host, wires).status)
 }
 
 fn main(rt: HostRuntime) -> ExitCode {
     match serve(&rt) {
         Ok(status) => ExitCode::from(status),
-        Err(AllocError) => {
+        Err(Memory) => {
             let _ = rt.print(Refusal::Memory.text());
             ExitCode::from(OUT_OF_MEMORY)
         }

@@ -1,10 +1,10 @@
 // Commands from a source.
-ghost use Rattle.std.specs.Prelude.{◌≡◌, ◌≢◌, ◌<◌, ◌⊎◌, ◌++◌, ◌∷◌, [], List, ℕ, Option, None, IfOk, IfErr, Err};
+ghost use Rattle.std.specs.Prelude.{◌≡◌, ◌<◌, ◌⊎◌, ◌++◌, ◌∷◌, [], List, ℕ, Option, None, IfOk, IfErr, Err};
 ghost use Rattle.flake_model.specs.Command.{Command as Meaning};
 ghost use Rattle.flake_model.specs.Resp.{Words, Parses};
-ghost use Rattle.flake_model.specs.Run.{protocol_error};
+ghost use Rattle.flake_model.specs.Input.{protocol_error};
 ghost use Rattle.resp_reader.specs.Reader.{Reads};
-ghost use Rattle.flake_program.specs.Pump.{IsPump, HasEnded, taken_by, stage_after};
+ghost use Rattle.flake_program.specs.Pump.{IsPump, HasEnded, IsOver, taken_by, stage_after};
 
 use command_exec::Command;
 use flake_base::{End, ErrorKind, Failed, Source};
@@ -113,15 +113,15 @@ impl<S: Source> Pump<S> {
         }
     }
 
-    /// The next command, or how the input ended, which later calls answer again. A byte that no request has there
-    /// makes one command of its own.
+    /// The next command, or how the input ended, which later calls answer again and change nothing. A byte that no
+    /// request has there makes one command of its own.
     pub fn next(&mut self) -> Result<Command, End>
         ensures command { IfOk result (λ command. (input : Option (List ℕ)) (before : ℕ) (given : List Meaning) → IsPump input before given self.old
             → IsPump input before (given ++ command ∷ []) self.new × (self.new.faults ≡ before)) }
         ensures end { IfErr result (λ end. (input : Option (List ℕ)) (before : ℕ) (given : List Meaning) → IsPump input before given self.old
-            → HasEnded input before given end self.new × (end ≢ End.Left)) }
-        ensures ended { IfErr result (λ end. (self.new.stage ≡ Stage.Ended end) × (self.new.reader.requests ≡ [])) }
-        ensures again { (end : End) → self.old.stage ≡ Stage.Ended end → self.old.reader.requests ≡ [] → (result ≡ Err end) × (self.new.left ≡ self.old.left) × (self.new.faults ≡ self.old.faults) }
+            → HasEnded input before given end self.new) }
+        ensures over { IfErr result (λ end. IsOver end self.new) }
+        ensures again { (end : End) → IsOver end self.old → (result ≡ Err end) × (self.new ≡ self.old) }
     {
         loop {
             if let Some(request) = self.reader.next() {

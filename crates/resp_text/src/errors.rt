@@ -19,5 +19,6 @@ pub fn error_text(kind: ErrorKind) -> &'static str
         ErrorKind::ProtocolBulk => "ERR Protocol error: expected '$'",
         ErrorKind::ProtocolLength => "ERR Protocol error: invalid bulk length",
         ErrorKind::ProtocolInline => { "ERR Protocol error: inline commands are not supported" }
+        ErrorKind::NotInteger => "ERR value is not an integer or out of range",
     }
 }

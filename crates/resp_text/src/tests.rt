@@ -107,6 +107,10 @@ fn errors(rt: HostRuntime) -> Result<(), Fail> {
             ErrorKind::ProtocolInline,
             "-ERR Protocol error: inline commands are not supported\r\n",
         ),
+        (
+            ErrorKind::NotInteger,
+            "-ERR value is not an integer or out of range\r\n",
+        ),
     ];
     for (kind, want) in table {
         check(&rt, rt.alloc(), &Reply::Error(kind), want.as_bytes())?;

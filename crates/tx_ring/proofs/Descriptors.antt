@@ -1,10 +1,10 @@
 -- The two words of a descriptor are the halves of its bytes, and a frame has one descriptor for each segment.
-use Rattle.std.proofs.Common.{◌≡◌, ℕ, ◌+◌, ◌*◌, ◌/◌, ◌%◌, ◌<◌, ◌≤◌, List, [], ◌∷◌, map, refl, ◌++◌, Bool, true, false, ap, arith}
+use Rattle.std.proofs.Common.{◌≡◌, ℕ, ◌+◌, ◌*◌, ◌^◌, ◌/◌, ◌%◌, ◌<◌, ◌≤◌, List, [], ◌∷◌, map, refl, ◌++◌, Bool, true, false, ap, arith}
 use Rattle.std.specs.Int.{w64, to_le_bytes}
 use Rattle.tx_descriptor.specs.Bytes.{descriptor_bytes}
 use Rattle.flake_base.specs.declared.segment.Seg.{Seg}
 use Rattle.tx_ring.specs.Words.{IsShort, second, Each}
-use Rattle.tx_ring.specs.Rows.{row_bytes, frame_rows, frame_bytes}
+use Rattle.tx_ring.specs.Rows.{row_bytes, row_segment, frame_rows, frame_bytes}
 
 eight : (n len c d : ℕ) → len ≤ 4096 → c < 256 → d < 256 → n ≡ len + c * 16777216 + d * 4294967296 → to_le_bytes w64 n ≡ len % 256 ∷ len / 256 % 256 ∷ 0 ∷ c ∷ d ∷ 0 ∷ 0 ∷ 0 ∷ []
 eight n len c d h low small e =
@@ -29,3 +29,13 @@ pub bytes-of-rows : (ss : List Seg) → Each IsShort ss → map row_bytes (frame
 bytes-of-rows [] a = refl
 bytes-of-rows (s ∷ []) a = λ k. halves s.address s.len true false a.0.1 k ∷ []
 bytes-of-rows (s ∷ t ∷ ss) a = λ k. halves s.address s.len false false a.0.1 k ∷ bytes-of-rows (t ∷ ss) a.1 k
+
+len-of : (len : ℕ) (last : Bool) → len ≤ 4096 → second len last false % 2 ^ 16 ≡ len
+len-of len true h = omega arith
+len-of len false h = omega arith
+
+-- and its segments
+pub segments-of-rows : (ss : List Seg) → Each IsShort ss → map row_segment (frame_rows ss) ≡ ss
+segments-of-rows [] a = refl
+segments-of-rows (s ∷ []) a = λ k. (record { address = s.address; len = len-of s.len true a.0.1 k }) ∷ []
+segments-of-rows (s ∷ t ∷ ss) a = λ k. (record { address = s.address; len = len-of s.len false a.0.1 k }) ∷ segments-of-rows (t ∷ ss) a.1 k

@@ -3,7 +3,7 @@ use Rattle.std.proofs.Common.{◌≡◌, ℕ, ◌+◌, ◌-◌, ◌%◌, ◌≤�
 use Rattle.atomic_table.specs.Table.{Me, rest}
 use Rattle.flake_base.specs.declared.segment.Seg.{Seg}
 use Rattle.tx_ring.specs.Words.{second, last_len, IsFrame, size, extent}
-use Rattle.tx_ring.specs.Rows.{frame_rows, frame_bytes, row_bytes}
+use Rattle.tx_ring.specs.Rows.{frame_rows, frame_bytes, row_bytes, row_segment}
 use Rattle.tx_ring.specs.Ends.{gathering}
 use Rattle.tx_ring.specs.Moves.{fetching, holding}
 use Rattle.tx_ring.specs.Jobs.{TakesOut}
@@ -11,7 +11,7 @@ use Rattle.tx_ring.specs.declared.view.View.{View}
 use Rattle.tx_ring.specs.declared.view.DeviceStage.TheVariants.{Holding}
 use Rattle.tx_ring.specs.declared.job.Job.{Job}
 use Rattle.tx_ring.proofs.Reaping.{found}
-use Rattle.tx_ring.proofs.Descriptors.{bytes-of-rows}
+use Rattle.tx_ring.proofs.Descriptors.{bytes-of-rows, segments-of-rows}
 
 same_value : {P : Type 0} (f g : P) → Some g ≡ Some f → f ≡ g
 same_value f g e = cc
@@ -37,4 +37,5 @@ takes-job {P} segs n m looked fetched taken f job look framed fetch status place
       };
       frame = is_frame;
       descriptors = ap (map row_bytes) rows ∙ bytes-of-rows (segs f) framed.1 ∙ ap (λ (x : P). frame_bytes (segs x)) same;
+      segments = ap (map row_segment) rows ∙ segments-of-rows (segs f) framed.1 ∙ ap segs same;
     }

@@ -3,7 +3,7 @@ use Rattle.std.specs.Prelude.{◌≡◌, ℕ, ◌+◌, ◌-◌, ◌%◌, ◌≤�
 use Rattle.atomic_table.specs.Table.{Me}
 use Rattle.flake_base.specs.declared.segment.Seg.{Seg}
 use Rattle.tx_ring.specs.Words.{second, last_len, IsFrame, size, extent}
-use Rattle.tx_ring.specs.Rows.{frame_bytes, row_bytes}
+use Rattle.tx_ring.specs.Rows.{frame_bytes, row_bytes, row_segment}
 use Rattle.tx_ring.specs.Ends.{IsAtRest}
 use Rattle.tx_ring.specs.Moves.{holding, blanked, ending}
 use Rattle.tx_ring.specs.declared.view.View.{View}
@@ -19,6 +19,10 @@ module _ {P : Type 0} where
   -- the bytes of each descriptor that was fetched
   abbrev pub descriptors : Job P → List (List ℕ)
   descriptors job = map row_bytes job.rows.items
+
+  -- the address and the length of each, as they were fetched
+  abbrev pub segments : Job P → List Seg
+  segments job = map row_segment job.rows.items
 
   abbrev pub IfFrame : Next P → (Job P → Type 0) → Type 0
   IfFrame (Frame job) F = F job
@@ -51,6 +55,7 @@ module _ {P : Type 0} (segs : P → List Seg) where
     pub held : HasOut m' n job
     pub frame : IsFrame (segs job.frame)
     pub descriptors : map row_bytes job.rows.items ≡ frame_bytes (segs job.frame)
+    pub segments : map row_segment job.rows.items ≡ segs job.frame
 
   -- the tail was found at the head, which is a blank, and nothing is known of more frames than were completed
   pub record FindsEmpty (m m' : Me (Option P) (View P)) (n tail : ℕ) : Type 0 where

@@ -1,5 +1,6 @@
 //! What is known of both ends of a ring when both are at hand.
 ghost use Rattle.std.specs.Prelude.{◌≡◌, length, false};
+ghost use Rattle.tx_ring.specs.InDescriptors.{WordsAreDescriptors};
 ghost use Rattle.tx_ring.specs.Plays.{InOrder};
 ghost use Rattle.tx_ring.specs.Shown.{driver_ring, driver_view, posted, device_ring, device_view, completed, ended, IsResting};
 
@@ -25,3 +26,9 @@ pub fn both_ends<P: Framed>(driver: &mut Driver<P>, end: &mut DeviceEnd<P>)
         &mut end.cursor.seat,
     );
 }
+
+/// What stands in a ring's words between any two steps: the descriptors of the posted frames that were not reaped,
+/// each in its place, with DD in the last one of each frame that is completed and in no other.
+pub fn words_are_descriptors<P: Framed>()
+    ensures { WordsAreDescriptors P.segs }
+{}

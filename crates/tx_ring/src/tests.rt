@@ -82,7 +82,7 @@ fn shows(job: &Job<Frame>, number: u32) -> bool {
             rs: last,
             dd: false,
         };
-        if job.descriptor(i) != fields.to_bytes() {
+        if job.descriptor(i) != fields.to_bytes() || job.segment(i) != (Seg { address, len }) {
             return false;
         }
     }
@@ -188,11 +188,13 @@ fn a_ring_of_eight_holds_seven(rt: HostRuntime) -> Result<(), RingError> {
         Ok(()) => assert!(rt; false),
     }
     assert!(rt; driver.reap().is_none());
+    assert_eq!(rt; driver.pending(), 7);
     assert_eq!(rt; gather_one(&mut end, 0), Found::Right);
     match driver.reap() {
         Some(frame) => assert_eq!(rt; frame.number, 0),
         None => assert!(rt; false),
     }
+    assert_eq!(rt; driver.pending(), 6);
     assert!(rt; driver.post(frame_of(rt.alloc(), 7, 1)?).is_ok());
     assert_eq!(rt; driver.room(), 0);
     Ok(())

@@ -1,0 +1,15 @@
+//! The real outside: files and standard output. It tells no content; it counts its bytes and its failures.
+#![tactic(auto)]
+
+mod again;
+mod ahead;
+mod host;
+mod source;
+#[cfg(test)]
+mod tests;
+mod unwritten;
+mod wire;
+
+pub use host::FileHost;
+pub use source::FileSource;
+pub use wire::FileWire;
