@@ -45,7 +45,13 @@ impl<S: Source> Model for Pump<S> {
 
     ghost Value = { PumpState };
 
-    ghost view = { λ p. record { left = S.left p.source; faults = S.read_faults p.source; reader = p.reader; stage = p.stage; taken = p.taken } };
+    ghost view = { λ p. record {
+      left = S.left p.source;
+      faults = S.read_faults p.source;
+      reader = p.reader;
+      stage = p.stage;
+      taken = p.taken;
+    } };
 
     ghost invariant = { λ p. p.stage ≡ Stage.Reading → IsOpen p.reader p.taken };
 }
@@ -90,7 +96,8 @@ fn taken_at(end: End, given: u64) -> u64
 // How an input ended that was read whole.
 fn input_end(reader: Reader) -> End
     requires { reader.closed ≡ None }
-    ensures parsed { (bytes : List ℕ) (given : List Words) → Reads bytes given reader → Parses bytes (given ++ reader.requests) result }
+    ensures parsed { (bytes : List ℕ) (given : List Words) → Reads bytes given reader
+        → Parses bytes (given ++ reader.requests) result }
     ensures ends { (result ≡ End.Clean) ⊎ ((place : ℕ) × (result ≡ End.Truncated place)) }
 {
     match reader.end() {
@@ -116,9 +123,11 @@ impl<S: Source> Pump<S> {
     /// The next command, or how the input ended, which later calls answer again and change nothing. A byte that no
     /// request has there makes one command of its own.
     pub fn next(&mut self) -> Result<Command, End>
-        ensures command { IfOk result (λ command. (input : Option (List ℕ)) (before : ℕ) (given : List Meaning) → IsPump input before given self.old
+        ensures command { IfOk result (λ command. (input : Option (List ℕ)) (before : ℕ) (given : List Meaning)
+            → IsPump input before given self.old
             → IsPump input before (given ++ command ∷ []) self.new × (self.new.faults ≡ before)) }
-        ensures end { IfErr result (λ end. (input : Option (List ℕ)) (before : ℕ) (given : List Meaning) → IsPump input before given self.old
+        ensures end { IfErr result (λ end. (input : Option (List ℕ)) (before : ℕ) (given : List Meaning)
+            → IsPump input before given self.old
             → HasEnded input before given end self.new) }
         ensures over { IfErr result (λ end. IsOver end self.new) }
         ensures again { (end : End) → IsOver end self.old → (result ≡ Err end) × (self.new ≡ self.old) }
@@ -145,7 +154,8 @@ impl<S: Source> Pump<S> {
     fn read(&mut self)
         requires reading { self.old.stage ≡ Stage.Reading }
         requires none { self.old.reader.requests ≡ [] }
-        ensures kept { (input : Option (List ℕ)) (before : ℕ) (given : List Meaning) → IsPump input before given self.old → IsPump input before given self.new }
+        ensures kept { (input : Option (List ℕ)) (before : ℕ) (given : List Meaning)
+            → IsPump input before given self.old → IsPump input before given self.new }
         ensures further { self.new.stage ≡ Stage.Reading → self.old.taken < self.new.taken }
     {
         let Ok(count) = self.source.read(&mut self.room) else {
