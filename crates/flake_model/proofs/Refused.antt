@@ -1,5 +1,5 @@
 -- Outcomes that no run has, and why.
-use Rattle.std.proofs.Common.{◌≡◌, ◌≢◌, ℕ, ◌+◌, ◌<◌, ◌≤◌, ◌⊎◌, inl, inr, true, false, List, [], ◌∷◌, ◌++◌, Option, Some, None, length, map, arith, refl, ap, sym, ◌∙◌, subst, append-nil, lit≤}
+use Rattle.std.proofs.Common.{◌≡◌, ℕ, ◌+◌, ◌≤◌, ◌⊎◌, inl, inr, true, false, List, [], ◌∷◌, ◌++◌, Option, Some, length, map, arith, refl, ap, sym, ◌∙◌, subst, append-nil, lit≤}
 use Rattle.std.proofs.lemmas.List.{length-append}
 use Rattle.std.specs.Prelude.{codes}
 use Rattle.std.specs.Fmt.{digits}
@@ -8,7 +8,7 @@ use Rattle.flake_base.specs.declared.journal.Entry.{Entry}
 use Rattle.flake_base.specs.declared.session.SessionEnd.{SessionEnd}
 use Rattle.flake_base.specs.declared.session.End.{End}
 use Rattle.flake_base.specs.declared.session.End.TheVariants.{Clean, Protocol, Truncated, TooLong, ReadFault, Memory, Left}
-use Rattle.flake_model.specs.Resp.{Words, Parses, array, judged_bytes}
+use Rattle.flake_model.specs.Resp.{Words, Parses, array}
 use Rattle.flake_model.specs.Store.{always}
 use Rattle.flake_model.specs.Command.{Command, set}
 use Rattle.flake_model.specs.Input.{commands_in}

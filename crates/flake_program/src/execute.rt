@@ -31,7 +31,9 @@ fn reply(alloc: Global, store: &mut Store, command: &Command) -> Result<Reply, M
     match command.op() {
         Op::Ping => Ok(Reply::Pong),
         Op::PingWith => Ok(Reply::Bulk(Bytes::from_slice(alloc, command.argument())?)),
-        Op::Get | Op::Set | Op::Append => only_reply(alloc, store, command),
+        Op::Get | Op::Set | Op::Append | Op::StrLen | Op::GetRange => {
+            only_reply(alloc, store, command)
+        }
         Op::MGet => Ok(Reply::Array(values(alloc, store, command)?)),
         Op::Del | Op::Exists => Ok(Reply::Int(yes_count(alloc, store, command)?)),
         Op::Fault(kind) => Ok(Reply::Error(kind)),

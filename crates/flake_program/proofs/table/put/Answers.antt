@@ -1,7 +1,7 @@
 use Rattle.std.proofs.Common.{ℕ, List, Some, sym, subst}
 use Rattle.flake_program.specs.Table.{HasChanged}
 use Rattle.flake_program.proofs.Bytes.{through}
-use Rattle.flake_program.proofs.table.set.Goals as goal
+use Rattle.flake_program.proofs.table.put.Goals as goal
 
 pub returns-in-Some-clause-ok : goal.returns-in-Some-clause-ok
 returns-in-Some-clause-ok c =
