@@ -14,8 +14,8 @@ use std::marker::Model;
 /// A command, with the words of its request, if it came from one.
 #[derive(Drop)]
 pub struct Command {
-    asked: Asked,
-    request: Option<Request>,
+    pub(crate) asked: Asked,
+    pub(crate) request: Option<Request>,
 }
 
 impl Model for Command {

@@ -547,3 +547,37 @@ fn protocol_errors(rt: HostRuntime) {
         check_command(&rt, &Command::protocol(kind), fault(kind));
     }
 }
+
+// A command of 64 keys.
+const MOST_KEYS: &[&[u8]] = &[NAME; 65];
+
+const NAME: &[u8] = b"MGET";
+
+/// What a request's command can need: descriptors, and staging buffers.
+static NEEDS: [(&[&[u8]], u32, u32); 16] = [
+    (&[b"PING"], 1, 1),
+    (&[b"PING", b"hi"], 1, 1),
+    (&[b"PING", MESSAGE], 33, 33),
+    (&[b"GET", b"a"], 19, 2),
+    (&[b"SET", b"a", VALUE], 1, 1),
+    (&[b"SET", b"a", b"b", b"NX"], 1, 1),
+    (&[b"SET", b"a", b"b", b"GET"], 19, 2),
+    (&[b"MGET", b"a"], 19, 2),
+    (&[b"MGET", b"a", b"b"], 37, 3),
+    (MOST_KEYS, 1154, 66),
+    (&[b"DEL", b"a", b"b"], 1, 1),
+    (&[b"EXISTS", b"a"], 1, 1),
+    (&[b"APPEND", b"a", VALUE], 1, 1),
+    (&[b"STRLEN", b"a"], 1, 1),
+    (&[b"GETRANGE", b"a", b"0", b"-1"], 20, 3),
+    (&[b"FLY"], 1, 1),
+];
+
+#[test]
+fn needs(rt: HostRuntime) -> Result<(), Fail> {
+    for (words, descriptors, stage) in &NEEDS {
+        let need = Command::of(request(rt.alloc(), words)?).need();
+        assert_eq!(rt; (need.descriptors, need.stage), (*descriptors, *stage));
+    }
+    Ok(())
+}
