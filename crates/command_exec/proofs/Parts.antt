@@ -13,15 +13,15 @@ use Rattle.shard_store.specs.declared.part.PartOp.{PartOp}
 use Rattle.shard_store.specs.declared.part.PartOp.TheVariants as part
 use Rattle.command_exec.specs.declared.asked.Asked.{Asked}
 use Rattle.command_exec.specs.declared.asked.Asked.TheVariants.{Ping, PingWith, Get, Set, MGet, Del, Exists, Append, StrLen, GetRange, Fault}
-use Rattle.command_exec.specs.declared.options.When.{When}
-use Rattle.command_exec.specs.declared.options.When.TheVariants.{Always, IfMissing, IfPresent}
-use Rattle.command_exec.specs.Options.{when_of, set_part}
+use Rattle.shard_store.specs.declared.setting.When.{When}
+use Rattle.shard_store.specs.declared.setting.When.TheVariants.{Always, IfMissing, IfPresent}
+use Rattle.shard_store.specs.Settings.{when_of, set_part}
 use Rattle.command_exec.specs.Meaning.{command_by, words_of}
 use Rattle.resp_reader.specs.declared.request.Request.{Request}
 
 -- what is done to each key
 abbrev pub part_op : Asked → PartOp
-part_op (Set options) = set_part options.when options.asks
+part_op (Set setting) = set_part setting.when setting.asks
 part_op Append = part.Append
 part_op Del = part.Del
 part_op Exists = part.Exists
@@ -31,7 +31,7 @@ part_op _ = part.Get
 
 -- the value of the part, where it has one
 abbrev pub part_value : Asked → Words → List ℕ
-part_value (Set options) words = second words
+part_value (Set setting) words = second words
 part_value Append words = second words
 part_value _ words = []
 
@@ -58,9 +58,9 @@ pub part_at : (asked : Asked) (words : Words) (j : ℕ) → j < length (parts (c
 part_at Ping words j within = absurd (omega arith)
 part_at PingWith words j within = absurd (omega arith)
 part_at Get words j within = of_key (λ key. operation_by part.Get key []) words j within
-part_at (Set options) words j within =
-    of_key (λ key. store.set (when_of options.when) options.asks key (second words)) words j within
-    ∙ ap Some (sym (set_is options.when options.asks (get_or words (j + 1) []) (second words)))
+part_at (Set setting) words j within =
+    of_key (λ key. store.set (when_of setting.when) setting.asks key (second words)) words j within
+    ∙ ap Some (sym (set_is setting.when setting.asks (get_or words (j + 1) []) (second words)))
 part_at MGet words j within = of_keys (λ key. operation_by part.Get key []) words j within
 part_at Del words j within = of_keys (λ key. operation_by part.Del key []) words j within
 part_at Exists words j within = of_keys (λ key. operation_by part.Exists key []) words j within

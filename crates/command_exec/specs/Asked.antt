@@ -3,14 +3,16 @@ use Rattle.std.specs.Prelude.{◌≡◌, ℕ, ℤ, Bool, true, nat_le, Option, S
 use Rattle.std.specs.List.{list_all}
 use Rattle.flake_base.specs.declared.reply.ErrorKind.TheVariants.{UnknownCommand, NotInteger}
 use Rattle.flake_model.specs.Resp.{Words}
-use Rattle.flake_model.specs.Command.{Command, fault, ping_command, get_command, set_command, mget_command, del_command, exists_command, append_command, strlen_command, get_range_command}
+use Rattle.flake_model.specs.Command.{Command, fault, ping_command, get_command, set_command, mget_command}
+use Rattle.flake_model.specs.Command.{del_command, exists_command, append_command, strlen_command, get_range_command}
 use Rattle.command_exec.specs.declared.name.Name.{Name}
-use Rattle.command_exec.specs.declared.name.Name.TheVariants.{Ping, Get, Set, MGet, Del, Exists, Append, StrLen, GetRange}
+use Rattle.command_exec.specs.declared.name.Name.TheVariants.{Ping, Get, Set, MGet, Del, Exists, Append}
+use Rattle.command_exec.specs.declared.name.Name.TheVariants.{StrLen, GetRange}
 use Rattle.command_exec.specs.declared.asked.Asked.{Asked}
 use Rattle.command_exec.specs.declared.asked.Asked.TheVariants as asked_for
-use Rattle.command_exec.specs.declared.options.Options.{Options}
+use Rattle.shard_store.specs.declared.setting.Setting.{Setting}
 use Rattle.command_exec.specs.Names.{fits, options_by, keys_by, argument_fits}
-use Rattle.command_exec.specs.Options.{options_of}
+use Rattle.command_exec.specs.Settings.{options_of}
 
 abbrev pub asked_by : Name → Words → Command
 asked_by Ping words = ping_command words
@@ -33,9 +35,9 @@ abbrev pub are_keys : List (List ℕ) → Bool
 are_keys keys = list_all (λ key. nat_le (length key) 512) keys
 
 -- a request of a name passes the tests but the last, and has these options
-pub record Passes (name : Name) (options : Options) (words : Words) : Type 0 where
+pub record Passes (name : Name) (setting : Setting) (words : Words) : Type 0 where
   pub count : fits name (length words) ≡ true
-  pub options_are : options_by name words ≡ Some (options_of options)
+  pub options_are : options_by name words ≡ Some (options_of setting)
   pub few_keys : nat_le (length (keys_by name words)) 64 ≡ true
   pub short_keys : are_keys (keys_by name words) ≡ true
   pub argument : argument_fits name words ≡ true

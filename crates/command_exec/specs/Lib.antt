@@ -1,4 +1,4 @@
-pub mod Options
+pub mod Settings
 pub mod Names
 pub mod Asked
 pub mod Meaning

@@ -3,8 +3,8 @@ ghost use Rattle.std.specs.Prelude.{◌≡◌};
 ghost use Rattle.command_exec.specs.Meaning.{op_asked};
 
 use crate::Op;
-use crate::options::Options;
 use flake_base::ErrorKind;
+use shard_store::Setting;
 
 /// What a request asks for. Keys and values stay among its words.
 #[derive(Clone, Copy, Debug)]
@@ -12,7 +12,7 @@ pub(crate) enum Asked {
     Ping,
     PingWith,
     Get,
-    Set(Options),
+    Set(Setting),
     MGet,
     Del,
     Exists,

@@ -14,8 +14,8 @@ use std::marker::Model;
 /// A command, with the words of its request, if it came from one.
 #[derive(Drop)]
 pub struct Command {
-    asked: Asked,
-    request: Option<Request>,
+    pub(crate) asked: Asked,
+    pub(crate) request: Option<Request>,
 }
 
 impl Model for Command {
@@ -82,7 +82,7 @@ impl Command {
         let key = request.word(j + 1);
         let (op, value): (PartOp, &[u8]) = match self.asked {
             Asked::Get | Asked::MGet => (PartOp::Get, &[]),
-            Asked::Set(options) => (options.part_op(), request.word(2)),
+            Asked::Set(setting) => (setting.part_op(), request.word(2)),
             Asked::Append => (PartOp::Append, request.word(2)),
             Asked::Del => (PartOp::Del, &[]),
             Asked::Exists => (PartOp::Exists, &[]),

@@ -4,6 +4,7 @@
 mod asked;
 mod command;
 mod name;
+mod need;
 mod op;
 mod options;
 mod tested;

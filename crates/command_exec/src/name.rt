@@ -2,11 +2,12 @@ ghost use Rattle.std.specs.Prelude.{◌≡◌, ◌<◌, true, OnSome, length};
 ghost use Rattle.std.specs.Option.{option_map};
 ghost use Rattle.flake_model.specs.Command.{command_of};
 ghost use Rattle.command_exec.specs.Names.{fits, options_by, key_count, argument_fits};
-ghost use Rattle.command_exec.specs.Options.{options_of};
+ghost use Rattle.command_exec.specs.Settings.{options_of};
 ghost use Rattle.command_exec.specs.Asked.{asked};
 
-use crate::options::{Options, set_options};
+use crate::options::{PLAIN, set_options};
 use resp_reader::Request;
+use shard_store::Setting;
 
 /// The names of commands.
 #[derive(Clone, Copy, Debug)]
@@ -76,12 +77,12 @@ impl Name {
     }
 
     /// The options of a request of this name, if the words that may only be options are ones. SET alone has some.
-    pub(crate) fn options(self, request: &Request) -> Option<Options>
+    pub(crate) fn options(self, request: &Request) -> Option<Setting>
         ensures { option_map options_of result ≡ options_by self request.now }
     {
         match self {
             Name::Set => set_options(request),
-            _ => Some(Options::PLAIN),
+            _ => Some(PLAIN),
         }
     }
 

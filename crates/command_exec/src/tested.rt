@@ -8,10 +8,10 @@ ghost use Rattle.command_exec.specs.Meaning.{command_by, FitsWords};
 
 use crate::asked::Asked;
 use crate::name::Name;
-use crate::options::Options;
 use flake_base::ErrorKind;
 use range_pick::read_signed;
 use resp_reader::Request;
+use shard_store::Setting;
 
 /// The most keys of a command.
 const MOST_KEYS: usize = 64;
@@ -40,7 +40,7 @@ fn asked_by_name(name: Name, request: &Request) -> Asked
     if !name.fits(count) {
         return Asked::Fault(ErrorKind::WrongCount);
     }
-    let Some(options) = name.options(request) else {
+    let Some(setting) = name.options(request) else {
         return Asked::Fault(ErrorKind::Syntax);
     };
     let keys = name.key_count(count);
@@ -53,13 +53,13 @@ fn asked_by_name(name: Name, request: &Request) -> Asked
     if !name.argument_fits(request) {
         return Asked::Fault(ErrorKind::ValueTooLong);
     }
-    asked_at_last(name, options, request)
+    asked_at_last(name, setting, request)
 }
 
 // What a request that passed the tests before asks for: the last test is that GETRANGE's places are numbers.
-fn asked_at_last(name: Name, options: Options, request: &Request) -> Asked
+fn asked_at_last(name: Name, setting: Setting, request: &Request) -> Asked
     requires some { 0 < length request.now }
-    requires passed { Passes name options request.now }
+    requires passed { Passes name setting request.now }
     ensures command { command_by result request.now ≡ asked_by name request.now }
     ensures words { FitsWords result request.now }
 {
@@ -67,7 +67,7 @@ fn asked_at_last(name: Name, options: Options, request: &Request) -> Asked
         Name::Ping if request.len() == 1 => Asked::Ping,
         Name::Ping => Asked::PingWith,
         Name::Get => Asked::Get,
-        Name::Set => Asked::Set(options),
+        Name::Set => Asked::Set(setting),
         Name::MGet => Asked::MGet,
         Name::Del => Asked::Del,
         Name::Exists => Asked::Exists,

@@ -60,8 +60,20 @@ const APPEND: Answers<'_> = Answers {
     ..KEYLESS
 };
 
+const STRLEN: Answers<'_> = Answers {
+    op: Op::StrLen,
+    part: Some(PartOp::StrLen),
+    ..KEYLESS
+};
+
 const PING_WITH: Answers<'_> = Answers {
     op: Op::PingWith,
+    ..KEYLESS
+};
+
+const RANGE: Answers<'_> = Answers {
+    op: Op::GetRange,
+    part: Some(PartOp::GetRange { start: 0, end: 1 }),
     ..KEYLESS
 };
 
@@ -122,7 +134,7 @@ const A: &[&[u8]] = &[b"a"];
 
 const REPEATED: &[&[u8]] = &[b"k", b"k", b""];
 
-static COMMANDS: [Row; 15] = [
+static COMMANDS: [Row; 17] = [
     (&[b"get", b"a"], Answers { keys: A, ..GET }),
     (
         &[b"GET", b""],
@@ -182,6 +194,14 @@ static COMMANDS: [Row; 15] = [
         },
     ),
     (&[b"PING", b""], PING_WITH),
+    (&[b"STRLEN", b"a"], Answers { keys: A, ..STRLEN }),
+    (
+        &[b"strLen", b""],
+        Answers {
+            keys: &[b""],
+            ..STRLEN
+        },
+    ),
 ];
 
 #[test]
@@ -189,7 +209,76 @@ fn commands(rt: HostRuntime) -> Result<(), Fail> {
     check_all(&rt, rt.alloc(), &COMMANDS)
 }
 
-static FAULTS: [(&[&[u8]], ErrorKind); 25] = [
+/// SETs of the key `a` to `b`, and their parts.
+static SETS: [(&[&[u8]], PartOp); 10] = [
+    (&[b"SET", b"a", b"b", b"NX"], PartOp::SetNx),
+    (&[b"SET", b"a", b"b", b"xx"], PartOp::SetXx),
+    (&[b"SET", b"a", b"b", b"gEt"], PartOp::SetGet),
+    (&[b"SET", b"a", b"b", b"nx", b"get"], PartOp::SetNxGet),
+    (&[b"SET", b"a", b"b", b"GET", b"NX"], PartOp::SetNxGet),
+    (&[b"SET", b"a", b"b", b"GET", b"Xx"], PartOp::SetXxGet),
+    (&[b"SET", b"a", b"b", b"NX", b"nX"], PartOp::SetNx),
+    (&[b"SET", b"a", b"b", b"XX", b"XX", b"XX"], PartOp::SetXx),
+    (&[b"SET", b"a", b"b", b"GET", b"GET"], PartOp::SetGet),
+    (
+        &[b"SET", b"a", b"b", b"GET", b"XX", b"GET", b"XX"],
+        PartOp::SetXxGet,
+    ),
+];
+
+#[test]
+fn options(rt: HostRuntime) -> Result<(), Fail> {
+    for (words, part) in &SETS {
+        let answers = Answers {
+            part: Some(*part),
+            keys: A,
+            value: b"b",
+            ..SET
+        };
+        check(&rt, rt.alloc(), words, answers)?;
+    }
+    Ok(())
+}
+
+/// GETRANGEs of the key `a`, and their places.
+static RANGES: [(&[&[u8]], i64, i64); 5] = [
+    (&[b"GETRANGE", b"a", b"0", b"-1"], 0, -1),
+    (&[b"getrange", b"a", b"-1", b"0"], -1, 0),
+    (&[b"GETRANGE", b"a", b"10", b"1"], 10, 1),
+    (
+        &[
+            b"GETRANGE",
+            b"a",
+            b"9223372036854775807",
+            b"-9223372036854775808",
+        ],
+        9_223_372_036_854_775_807,
+        i64::MIN,
+    ),
+    (
+        &[b"GETRANGE", b"a", b"-9223372036854775807", b"65536"],
+        -9_223_372_036_854_775_807,
+        65_536,
+    ),
+];
+
+#[test]
+fn ranges(rt: HostRuntime) -> Result<(), Fail> {
+    for (words, start, end) in &RANGES {
+        let answers = Answers {
+            part: Some(PartOp::GetRange {
+                start: *start,
+                end: *end,
+            }),
+            keys: A,
+            ..RANGE
+        };
+        check(&rt, rt.alloc(), words, answers)?;
+    }
+    Ok(())
+}
+
+static FAULTS: [(&[&[u8]], ErrorKind); 50] = [
     (&[b"FLY"], ErrorKind::UnknownCommand),
     (&[b"FLY", b"a", b"b", b"c"], ErrorKind::UnknownCommand),
     (&[b""], ErrorKind::UnknownCommand),
@@ -210,7 +299,50 @@ static FAULTS: [(&[&[u8]], ErrorKind); 25] = [
     (&[b"APPEND", b"a", b"b", b"c"], ErrorKind::WrongCount),
     (&[b"PING", b"a", b"b"], ErrorKind::WrongCount),
     (&[b"SET", b"a", b"b", b"EX", b"9"], ErrorKind::Syntax),
-    (&[b"SET", b"a", b"b", b"NX"], ErrorKind::Syntax),
+    (&[b"SET", b"a", b"b", b"PX", b"9"], ErrorKind::Syntax),
+    (&[b"SET", b"a", b"b", b"NX", b"XX"], ErrorKind::Syntax),
+    (&[b"SET", b"a", b"b", b"xx", b"nx"], ErrorKind::Syntax),
+    (
+        &[b"SET", b"a", b"b", b"NX", b"GET", b"XX"],
+        ErrorKind::Syntax,
+    ),
+    (&[b"SET", b"a", b"b", b"GET", b"EX"], ErrorKind::Syntax),
+    (&[b"SET", b"a", b"b", b"NX ", b"GET"], ErrorKind::Syntax),
+    (&[b"SET", b"a", b"b", b"GET", b""], ErrorKind::Syntax),
+    (&[b"STRLEN"], ErrorKind::WrongCount),
+    (&[b"STRLEN", b"a", b"b"], ErrorKind::WrongCount),
+    (&[b"GETRANGE", b"a", b"0"], ErrorKind::WrongCount),
+    (&[b"GETRANGE", b"a", b"01"], ErrorKind::WrongCount),
+    (
+        &[b"GETRANGE", b"a", b"0", b"1", b"2"],
+        ErrorKind::WrongCount,
+    ),
+    (&[b"SUBSTR", b"a", b"0", b"1"], ErrorKind::UnknownCommand),
+    (&[b"GETRANGE", b"a", b"01", b"1"], ErrorKind::NotInteger),
+    (&[b"GETRANGE", b"a", b"0", b"01"], ErrorKind::NotInteger),
+    (&[b"GETRANGE", b"a", b"-0", b"1"], ErrorKind::NotInteger),
+    (&[b"GETRANGE", b"a", b"0", b"-0"], ErrorKind::NotInteger),
+    (&[b"GETRANGE", b"a", b"", b"1"], ErrorKind::NotInteger),
+    (&[b"GETRANGE", b"a", b"0", b""], ErrorKind::NotInteger),
+    (&[b"GETRANGE", b"a", b"+1", b"1"], ErrorKind::NotInteger),
+    (&[b"GETRANGE", b"a", b"-", b"1"], ErrorKind::NotInteger),
+    (
+        &[b"GETRANGE", b"a", b"9223372036854775808", b"1"],
+        ErrorKind::NotInteger,
+    ),
+    (
+        &[b"GETRANGE", b"a", b"0", b"9223372036854775808"],
+        ErrorKind::NotInteger,
+    ),
+    (
+        &[b"GETRANGE", b"a", b"0", b"-9223372036854775809"],
+        ErrorKind::NotInteger,
+    ),
+    (
+        &[b"GETRANGE", b"a", b"18446744073709551616", b"1"],
+        ErrorKind::NotInteger,
+    ),
+    (&[b"GETRANGE", b"a", b"x", b"y"], ErrorKind::NotInteger),
     (&[b"SET", b"a", b"b", b"KEEPTTL"], ErrorKind::Syntax),
     (&[b"set", b"a", b"b", b""], ErrorKind::Syntax),
     (&[b"fly", b"a"], ErrorKind::UnknownCommand),
@@ -229,9 +361,13 @@ const KEY: &[u8] = &[b'k'; 512];
 
 const LONG_KEY: &[u8] = &[b'k'; 513];
 
-const VALUE: &[u8] = &[b'v'; 16_384];
+const VALUE: &[u8] = &[b'v'; 65_536];
 
-const LONG_VALUE: &[u8] = &[b'v'; 16_385];
+const LONG_VALUE: &[u8] = &[b'v'; 65_537];
+
+const MESSAGE: &[u8] = &[b'm'; 16_384];
+
+const LONG_MESSAGE: &[u8] = &[b'm'; 16_385];
 
 const KEY_TOO_LONG: Answers<'_> = Answers {
     op: Op::Fault(ErrorKind::KeyTooLong),
@@ -258,8 +394,9 @@ const SYNTAX: Answers<'_> = Answers {
     ..KEYLESS
 };
 
-/// Keys of 512 and 513 bytes, values of 16,384 and 16,385, and which error comes where two tests fail.
-static LIMITS: [Row; 22] = [
+/// Keys of 512 and 513 bytes, values of 65,536 and 65,537, messages of 16,384 and 16,385, and which error comes where
+/// two tests fail.
+static LIMITS: [Row; 28] = [
     (
         &[b"GET", KEY],
         Answers {
@@ -313,19 +450,37 @@ static LIMITS: [Row; 22] = [
     ),
     (&[b"EXISTS", b"a", LONG_KEY], KEY_TOO_LONG),
     (
-        &[b"PING", VALUE],
+        &[b"PING", MESSAGE],
         Answers {
-            argument: VALUE,
+            argument: MESSAGE,
             ..PING_WITH
         },
     ),
-    (&[b"PING", LONG_VALUE], VALUE_TOO_LONG),
+    (&[b"PING", LONG_MESSAGE], VALUE_TOO_LONG),
     (&[b"FLY", LONG_KEY], UNKNOWN),
     (&[b"GET", LONG_KEY, b"b"], WRONG_COUNT),
-    (&[b"PING", LONG_VALUE, b"b"], WRONG_COUNT),
-    (&[b"SET", LONG_KEY, b"b", b"XX"], SYNTAX),
-    (&[b"SET", b"a", LONG_VALUE, b"GET"], SYNTAX),
+    (&[b"PING", LONG_MESSAGE, b"b"], WRONG_COUNT),
+    (&[b"SET", LONG_KEY, b"b", b"EX"], SYNTAX),
+    (&[b"SET", b"a", LONG_VALUE, b"KEEPTTL"], SYNTAX),
     (&[b"SET", LONG_KEY, LONG_VALUE], KEY_TOO_LONG),
+    (&[b"SET", LONG_KEY, b"b", b"XX"], KEY_TOO_LONG),
+    (&[b"SET", b"a", LONG_VALUE, b"GET"], VALUE_TOO_LONG),
+    (
+        &[b"STRLEN", KEY],
+        Answers {
+            keys: &[KEY],
+            ..STRLEN
+        },
+    ),
+    (&[b"STRLEN", LONG_KEY], KEY_TOO_LONG),
+    (&[b"GETRANGE", LONG_KEY, b"01", b"1"], KEY_TOO_LONG),
+    (
+        &[b"GETRANGE", KEY, b"0", b"1"],
+        Answers {
+            keys: &[KEY],
+            ..RANGE
+        },
+    ),
 ];
 
 #[test]
@@ -391,4 +546,38 @@ fn protocol_errors(rt: HostRuntime) {
     for kind in table {
         check_command(&rt, &Command::protocol(kind), fault(kind));
     }
+}
+
+// A command of 64 keys.
+const MOST_KEYS: &[&[u8]] = &[NAME; 65];
+
+const NAME: &[u8] = b"MGET";
+
+/// What a request's command can need: descriptors, and staging buffers.
+static NEEDS: [(&[&[u8]], u32, u32); 16] = [
+    (&[b"PING"], 1, 1),
+    (&[b"PING", b"hi"], 1, 1),
+    (&[b"PING", MESSAGE], 33, 33),
+    (&[b"GET", b"a"], 19, 2),
+    (&[b"SET", b"a", VALUE], 1, 1),
+    (&[b"SET", b"a", b"b", b"NX"], 1, 1),
+    (&[b"SET", b"a", b"b", b"GET"], 19, 2),
+    (&[b"MGET", b"a"], 19, 2),
+    (&[b"MGET", b"a", b"b"], 37, 3),
+    (MOST_KEYS, 1154, 66),
+    (&[b"DEL", b"a", b"b"], 1, 1),
+    (&[b"EXISTS", b"a"], 1, 1),
+    (&[b"APPEND", b"a", VALUE], 1, 1),
+    (&[b"STRLEN", b"a"], 1, 1),
+    (&[b"GETRANGE", b"a", b"0", b"-1"], 20, 3),
+    (&[b"FLY"], 1, 1),
+];
+
+#[test]
+fn needs(rt: HostRuntime) -> Result<(), Fail> {
+    for (words, descriptors, stage) in &NEEDS {
+        let need = Command::of(request(rt.alloc(), words)?).need();
+        assert_eq!(rt; (need.descriptors, need.stage), (*descriptors, *stage));
+    }
+    Ok(())
 }

@@ -1,10 +1,9 @@
 -- One session that ran by itself was served: nothing is missing, and the store of one thread is its history.
-use Rattle.std.proofs.Common.{◌≡◌, ℕ, ◌<◌, inl, inr, zero, suc, List, [], ◌∷◌, ◌++◌, Option, Some, is_none, length, map, take, slice_get, arith, refl, ap, sym, ◌∙◌, subst, append-nil}
+use Rattle.std.proofs.Common.{◌≡◌, ℕ, ◌<◌, inl, inr, zero, suc, List, [], ◌∷◌, Option, Some, is_none, length, take, refl, ap, sym, ◌∙◌, subst, append-nil}
 use Rattle.std.specs.List.{AllByRecursion, count_by, flat_map}
 use Rattle.std.specs.FinMap as finite
 use Rattle.flake_base.specs.Growth.{Grew}
 use Rattle.flake_base.specs.declared.journal.Entry.{Entry}
-use Rattle.flake_base.specs.declared.session.SessionEnd.{SessionEnd}
 use Rattle.flake_model.specs.Store.{Store, Answer, answer, after}
 use Rattle.flake_model.specs.Command.{Command}
 use Rattle.flake_model.specs.Reply.{reply_text}
@@ -14,7 +13,6 @@ use Rattle.flake_model.specs.OneThread.{replies_on, entries_of, IsSharded}
 use Rattle.flake_model.specs.OneHistory.{HasOneHistory}
 use Rattle.flake_model.specs.Session.{Session, IsSession}
 use Rattle.flake_model.specs.Run.{ran_by, WasServed, missing_writes}
-use Rattle.flake_model.specs.Wire.{WiresGrew}
 use Rattle.flake_model.proofs.OneSession.{IsOwn, ran_own, ran_stands, all_filter, each_once}
 use Rattle.flake_model.proofs.OneOrder.{Among, ran_rising, many_shards_one_order}
 use Rattle.flake_model.proofs.ManyShards.{journal_answers, AreFound, found_front, all_own, none_of_others, many_shards_wire}

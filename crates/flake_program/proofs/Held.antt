@@ -10,10 +10,9 @@ use Rattle.std.specs.Option.{option_map}
 use Rattle.std.specs.FinMap as finite
 use Rattle.std.specs.Ordering.{nat_cmp, eq_by_cmp}
 use Rattle.std.specs.Cmp.Lexicographic.{bytes_decides, slice_cmp, nat_list_cmp_total, nat_list_eq_equiv, texts_ties}
-use Rattle.flake_model.specs.Store as model
-use Rattle.flake_model.specs.Store.{Store, Operation, answer, after, key_of, appended}
+use Rattle.flake_model.specs.Store.{Store, Operation, Change, keeps, puts, removes, answer, answer_on, after, change_by, changed, key_of}
 use Rattle.flake_model.specs.Journal.{shard_of}
-use Rattle.flake_program.specs.Table.{Entries, bytes_at, same_bytes, HasChanged, HasKept, has_room, answer_on, value_after}
+use Rattle.flake_program.specs.Table.{Entries, bytes_at, same_bytes, HasChanged, HasKept, left_by, value_after}
 use Rattle.flake_program.specs.Store.{Tables, Holds, entries_of_tables}
 use Rattle.flake_program.proofs.Bytes.{unchanged}
 use Rattle.flake_program.proofs.Entered.{read_set}
@@ -38,25 +37,11 @@ kept store key other =
     (λ differs. sym (cond-false (same_bytes key other) (finite.get store key) (finite.get store other) differs))
     (cases_Bool (same_bytes key other))
 
-appended_if : (store : Store) (key whole : List ℕ) (fits : Bool) → IsChanged key (cond fits (Some whole) (finite.get store key)) store (cond fits (finite.insert store key whole) store)
-appended_if store key whole true = inserted store key whole
-appended_if store key whole false = kept store key
-
--- an operation answers by the value of its key alone
-pub answer_is : (store : Store) (operation : Operation) → answer_on (finite.get store (key_of operation)) operation ≡ answer store operation
-answer_is store (model.get key) = refl
-answer_is store (model.set key bytes) = refl
-answer_is store (model.append key bytes) = refl
-answer_is store (model.del key) = refl
-answer_is store (model.exists key) = refl
-
--- and changes no other value
-pub after_is : (store : Store) (operation : Operation) → IsChanged (key_of operation) (value_after (finite.get store (key_of operation)) operation) store (after store operation)
-after_is store (model.get key) = kept store key
-after_is store (model.set key bytes) = inserted store key bytes
-after_is store (model.append key bytes) = appended_if store key (appended (finite.get store key) bytes) (has_room (finite.get store key) bytes)
-after_is store (model.del key) = removed store key
-after_is store (model.exists key) = kept store key
+-- a change of a store is one at its key alone
+changed_is : (store : Store) (key : List ℕ) (change : Change) → IsChanged key (left_by change (finite.get store key)) store (changed store key change)
+changed_is store key keeps = kept store key
+changed_is store key (puts bytes) = inserted store key bytes
+changed_is store key removes = removed store key
 
 -- a change in a key's table is one of the store at the same key
 pub held : (tables : Tables) (store now : Store) (place : ℕ) (key : List ℕ) (value : Option (List ℕ)) (old new : Entries) → Holds tables store → slice_get tables place ≡ Some old → place ≡ shard_of 8 key
@@ -88,7 +73,7 @@ module _ {S : Type 0} (tables : List (HashMap (Vec ℕ) (Vec ℕ) S)) (store : S
 
   -- the table answers as the store does
   pub run_answers : answer_on (bytes_at key old.entries) operation ≡ answer store operation
-  run_answers = ap (λ value. answer_on value operation) was ∙ ap (λ k. answer_on (finite.get store k) operation) (sym named) ∙ answer_is store operation
+  run_answers = ap (λ value. answer_on value operation) was ∙ ap (λ k. answer_on (finite.get store k) operation) (sym named)
 
   put_back : (now : Store) (value : Option (List ℕ)) → HasChanged key value old.entries new.entries → IsChanged key value store now → Holds (entries_of_tables (set tables place new)) now
   put_back now value table_changed store_changed =
@@ -99,7 +84,7 @@ module _ {S : Type 0} (tables : List (HashMap (Vec ℕ) (Vec ℕ) S)) (store : S
   pub run_holds : HasChanged key (value_after (bytes_at key old.entries) operation) old.entries new.entries → Holds (entries_of_tables (set tables place new)) (after store operation)
   run_holds changed =
       put_back (after store operation) (value_after (finite.get store key) operation) (subst (λ value. HasChanged key (value_after value operation) old.entries new.entries) was changed)
-      (subst (λ k. IsChanged k (value_after (finite.get store k) operation) store (after store operation)) named (after_is store operation))
+      (subst (λ k. IsChanged k (value_after (finite.get store k) operation) store (after store operation)) named (changed_is store (key_of operation) (change_by store operation)))
 
   -- or both are as they were
   pub run_keeps : HasKept old.entries new.entries → Holds (entries_of_tables (set tables place new)) store

@@ -5,7 +5,13 @@ pub mod Parts
 pub mod Results
 pub mod Replies
 pub mod Pumped
-pub mod Sessions
+pub mod Serving
 pub mod Served
-pub mod Ended
-pub mod Refusals
+pub mod Ran
+pub mod RanServed
+pub mod RanUntouched
+pub mod RanCauses
+pub mod RanSaid
+pub mod RanComplete
+pub mod Unopened
+pub mod RanAll

@@ -3,11 +3,18 @@ use Rattle.std.proofs.Common.{◌≡◌, ℕ, List, refl}
 use Rattle.flake_model.specs.Store.{key_of}
 use Rattle.shard_store.specs.Parts.{operation_by}
 use Rattle.shard_store.specs.declared.part.PartOp.{PartOp}
-use Rattle.shard_store.specs.declared.part.PartOp.TheVariants.{Get, Set, Append, Del, Exists}
+use Rattle.shard_store.specs.declared.part.PartOp.TheVariants.{Get, Set, SetNx, SetXx, SetGet, SetNxGet, SetXxGet, Append, Del, Exists, StrLen, GetRange}
 
 pub key_is : (op : PartOp) (key value : List ℕ) → key_of (operation_by op key value) ≡ key
 key_is Get key value = refl
 key_is Set key value = refl
+key_is SetNx key value = refl
+key_is SetXx key value = refl
+key_is SetGet key value = refl
+key_is SetNxGet key value = refl
+key_is SetXxGet key value = refl
 key_is Append key value = refl
 key_is Del key value = refl
 key_is Exists key value = refl
+key_is StrLen key value = refl
+key_is (GetRange start end) key value = refl

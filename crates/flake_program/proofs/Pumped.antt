@@ -1,5 +1,5 @@
 -- What a pump comes to, step by step.
-use Rattle.std.proofs.Common.{◌≡◌, ◌≢◌, ℕ, ◌+◌, ◌-◌, ◌<◌, ◌≤◌, inl, inr, Bool, List, [], ◌∷◌, ◌++◌, Option, Some, None, IfSome, MatchOption, length, map, take, drop, arith, refl, ap, sym, ◌∙◌, subst, append_assoc, append-nil}
+use Rattle.std.proofs.Common.{◌≡◌, ◌≢◌, ◌⊎◌, ℕ, ◌+◌, ◌-◌, ◌<◌, ◌≤◌, inl, inr, Bool, List, [], ◌∷◌, ◌++◌, Option, Some, None, MatchOption, length, map, take, drop, arith, refl, ap, sym, ◌∙◌, subst, append_assoc, append-nil}
 use Rattle.std.proofs.lemmas.List.{map-append, length-append, length-map, length-take, take-append-drop}
 use Rattle.std.proofs.Math.Seq.{take-append_seam}
 use Rattle.flake_base.specs.Causes.{Rose}
@@ -8,9 +8,10 @@ use Rattle.flake_base.specs.declared.session.End.{End}
 use Rattle.flake_base.specs.declared.session.End.TheVariants.{Clean, Protocol, Truncated, TooLong, ReadFault, Memory, Left}
 use Rattle.flake_model.specs.Resp.{Words, judged_bytes, IsClean, IsTruncated, Parses, stream}
 use Rattle.flake_model.specs.Command.{Command, fault, command_of}
-use Rattle.flake_model.specs.Run.{protocol_error, commands_in, IsSession}
+use Rattle.flake_model.specs.Journal.{next_parts}
+use Rattle.flake_model.specs.Input.{protocol_error, commands_in}
+use Rattle.flake_model.specs.Session.{IsSession, IsTold}
 use Rattle.flake_base.specs.declared.session.SessionEnd.{SessionEnd}
-use Rattle.flake_model.proofs.Faults.{error_stays, long_stays}
 use Rattle.flake_model.proofs.OneParse.{goes_on}
 use Rattle.flake_model.proofs.SomeParse.{some_parse}
 use Rattle.flake_model.proofs.Streams.{requests_fit}
@@ -20,7 +21,7 @@ use Rattle.resp_reader.specs.declared.error.ReadError.TheVariants as errors
 use Rattle.resp_reader.specs.Reader.{Progress, Reads, IsReadTo, IsTaken as IsJudged, end_of}
 use Rattle.resp_reader.proofs.Fed.{read_ends}
 use Rattle.flake_program.specs.Given.{Gave}
-use Rattle.flake_program.specs.Pump.{BeginsWith, IsWhole, AreRead, AreFirst, IsEnded, IsAt, IsPump, PumpState, HasEnded, FaultsSo, ended_at, taken_by, stage_after}
+use Rattle.flake_program.specs.Pump.{IsDone, AreRead, AreFirst, IsEnded, IsAt, IsPump, IsOver, PumpState, HasEnded, FaultsSo, ended_at, session_at, taken_by, stage_after}
 use Rattle.flake_program.specs.declared.pump.Stage.{Stage}
 use Rattle.flake_program.specs.declared.pump.Stage.TheVariants.{Reading, Refused, Ended}
 
@@ -42,10 +43,19 @@ read_so_far bytes requests place front read = elim (read_ends bytes requests pla
 pub open_are_read : (bytes : List ℕ) (requests : List Words) (reader : Progress) → reader.closed ≡ None → Reads bytes requests reader → AreRead bytes (requests ++ reader.requests)
 open_are_read bytes requests reader is reads = read_so_far bytes (requests ++ reader.requests) reader.place reader.front (opened bytes requests reader is reads)
 
--- the bytes that came are in front of an input that is told
-begins : (input left : Option (List ℕ)) (bytes : List ℕ) → Gave input left bytes → BeginsWith input bytes
-begins None left bytes gave = tt
-begins (Some all) left bytes gave = (gave.0, gave.2)
+-- what a source gave, and what it has left, is the input
+told_rest : (input left : Option (List ℕ)) (bytes : List ℕ) → Gave input left bytes → (rest : List ℕ) × IsTold input (bytes ++ rest) × IsTold left rest
+told_rest None None bytes gave = ([], tt, tt)
+told_rest None (Some l) bytes gave = absurd (cc gave)
+told_rest (Some all) None bytes gave = absurd (cc (gave.1))
+told_rest (Some all) (Some l) bytes gave = let is : l ≡ gave.0 = cc (gave.1) in (gave.0, gave.2, is)
+
+-- and where nothing is left it gave the whole input
+told_none : (input left : Option (List ℕ)) (bytes : List ℕ) → Gave input left bytes → IsDone left → IsTold input (bytes ++ []) × IsTold left []
+told_none None None bytes gave done = (tt, tt)
+told_none None (Some l) bytes gave done = absurd (cc gave)
+told_none (Some all) None bytes gave done = absurd (cc (gave.1))
+told_none (Some all) (Some l) bytes gave done = let is : gave.0 ≡ l = cc (gave.1) in (gave.2 ∙ ap (λ r. bytes ++ r) (is ∙ done), done)
 
 -- a source that gave a piece more
 gave_more : (input left new : Option (List ℕ)) (bytes piece room : List ℕ) (n : ℕ) → Gave input left bytes → Takes left new n room → piece ≡ take n room → Gave input new (bytes ++ piece)
@@ -71,29 +81,30 @@ record WhileReading (input : Option (List ℕ)) (before : ℕ) (given : List Com
 
 while_reading : (input : Option (List ℕ)) (before : ℕ) (given : List Command) (pump : PumpState) → pump.stage ≡ Reading → IsPump input before given pump → WhileReading input before given pump
 while_reading input before given pump is p =
-    let at = subst (λ s. IsAt s input pump.left p.bytes p.requests given pump.reader) is p.at in
+    let at = subst (λ s. IsAt s pump.left p.bytes p.requests given pump.reader) is p.at in
     record {
       bytes = p.bytes;
       requests = p.requests;
       taken_is = p.taken_is;
       faults_are = subst (λ s. FaultsSo s before pump.faults) is p.faults_are;
-      gave = at.0;
-      reads = at.1;
-      closed = at.2;
-      given_is = at.3;
+      gave = p.gave;
+      reads = at.0;
+      closed = at.1;
+      given_is = at.2;
     }
 
 -- a read fault
-pub at_fault : (input : Option (List ℕ)) (before : ℕ) (given : List Command) (pump : PumpState) (left : Option (List ℕ)) (faults : ℕ) → pump.stage ≡ Reading → pump.reader.requests ≡ [] → Rose pump.faults faults
-    → IsPump input before given pump → IsPump input before given (record { left = left; faults = faults; reader = pump.reader; stage = Ended ReadFault; taken = pump.taken })
-at_fault input before given pump left faults is none rose p =
+pub at_fault : (input : Option (List ℕ)) (before : ℕ) (given : List Command) (pump : PumpState) (left : Option (List ℕ)) (faults : ℕ) → pump.stage ≡ Reading → pump.reader.requests ≡ [] → left ≡ pump.left
+    → Rose pump.faults faults → IsPump input before given pump → IsPump input before given (record { left = left; faults = faults; reader = pump.reader; stage = Ended ReadFault; taken = pump.taken })
+at_fault input before given pump left faults is none same rose p =
     let r = while_reading input before given pump is p in
     record {
       bytes = r.bytes;
       requests = r.requests;
       taken_is = r.taken_is;
+      gave = subst (λ l. Gave input l r.bytes) (sym same) r.gave;
       faults_are = subst (λ n. Rose n faults) r.faults_are rose;
-      at = (begins input pump.left r.bytes r.gave, open_are_read r.bytes r.requests pump.reader r.closed r.reads, none, r.given_is);
+      at = (open_are_read r.bytes r.requests pump.reader r.closed r.reads, none, r.given_is);
     }
 
 -- a piece that was taken
@@ -107,8 +118,9 @@ at_piece input before given pump left faults n reader room piece is same takes i
       bytes = r.bytes ++ piece;
       requests = r.requests;
       taken_is = omega (arith, r.taken_is, length-append r.bytes piece, count);
+      gave = gave_more input pump.left left r.bytes piece room n r.gave takes is_piece;
       faults_are = same ∙ r.faults_are;
-      at = (gave_more input pump.left left r.bytes piece room n r.gave takes is_piece, fed r.bytes r.requests r.reads, still, r.given_is);
+      at = (fed r.bytes r.requests r.reads, still, r.given_is);
     }
 
 -- what a piece more means, of which the reader holds nothing
@@ -128,24 +140,24 @@ at_memory input before given pump left faults n reader room piece is quiet takes
       bytes = r.bytes ++ piece;
       requests = r.requests;
       taken_is = omega (arith, r.taken_is, length-append r.bytes piece, count);
+      gave = gave_more input pump.left left r.bytes piece room n r.gave takes is_piece;
       faults_are = quiet ∙ r.faults_are;
       at = (
-        begins input left (r.bytes ++ piece) (gave_more input pump.left left r.bytes piece room n r.gave takes is_piece),
         first_of r.bytes piece (r.requests ++ reader.requests)
             (subst (λ (n : Progress). AreRead r.bytes (r.requests ++ n.requests)) (sym same) (open_are_read r.bytes r.requests pump.reader r.closed r.reads)),
         r.given_is,
       );
     }
 
-stops_so : (error : ReadError) (input left : Option (List ℕ)) (bytes : List ℕ) (requests : List Words) (given : List Command) (reader : Progress) (before : ℕ) → BeginsWith input bytes
+stops_so : (error : ReadError) (left : Option (List ℕ)) (bytes : List ℕ) (requests : List Words) (given : List Command) (reader : Progress) (before : ℕ)
     → IsJudged error × Parses bytes (requests ++ reader.requests) (end_of error) → given ≡ map command_of requests
-    → FaultsSo (stage_after error) before before × IsAt (stage_after error) input left bytes requests given reader
-stops_so (BadCount place) input left bytes requests given reader before front parsed is = (refl, (front, parsed.1, is))
-stops_so (ExpectedBulk place) input left bytes requests given reader before front parsed is = (refl, (front, parsed.1, is))
-stops_so (BadLength place) input left bytes requests given reader before front parsed is = (refl, (front, parsed.1, is))
-stops_so (Inline place) input left bytes requests given reader before front parsed is = (refl, (front, parsed.1, is))
-stops_so (errors.TooLong taken) input left bytes requests given reader before front parsed is = (refl, (front, parsed.1, is))
-stops_so errors.Memory input left bytes requests given reader before front parsed is = absurd parsed.0
+    → FaultsSo (stage_after error) before before × IsAt (stage_after error) left bytes requests given reader
+stops_so (BadCount place) left bytes requests given reader before parsed is = (refl, (parsed.1, is))
+stops_so (ExpectedBulk place) left bytes requests given reader before parsed is = (refl, (parsed.1, is))
+stops_so (BadLength place) left bytes requests given reader before parsed is = (refl, (parsed.1, is))
+stops_so (Inline place) left bytes requests given reader before parsed is = (refl, (parsed.1, is))
+stops_so (errors.TooLong taken) left bytes requests given reader before parsed is = (refl, (parsed.1, is))
+stops_so errors.Memory left bytes requests given reader before parsed is = absurd parsed.0
 
 -- a piece that the reader refused
 at_error : (input : Option (List ℕ)) (before : ℕ) (given : List Command) (pump : PumpState) (left : Option (List ℕ)) (faults n : ℕ) (reader : Progress) (error : ReadError) (room piece : List ℕ) → pump.stage ≡ Reading
@@ -154,12 +166,12 @@ at_error : (input : Option (List ℕ)) (before : ℕ) (given : List Command) (pu
     → IsPump input before given (record { left = left; faults = faults; reader = reader; stage = stage_after error; taken = pump.taken + n })
 at_error input before given pump left faults n reader error room piece is same takes is_piece count closed fed p =
     let r = while_reading input before given pump is p in
-    let front = begins input left (r.bytes ++ piece) (gave_more input pump.left left r.bytes piece room n r.gave takes is_piece) in
-    let so = stops_so error input left (r.bytes ++ piece) r.requests given reader before front (closed_by (r.bytes ++ piece) r.requests reader error closed (fed r.bytes r.requests r.reads)) r.given_is in
+    let so = stops_so error left (r.bytes ++ piece) r.requests given reader before (closed_by (r.bytes ++ piece) r.requests reader error closed (fed r.bytes r.requests r.reads)) r.given_is in
     record {
       bytes = r.bytes ++ piece;
       requests = r.requests;
       taken_is = omega (arith, r.taken_is, length-append r.bytes piece, count);
+      gave = gave_more input pump.left left r.bytes piece room n r.gave takes is_piece;
       faults_are = subst (λ m. FaultsSo (stage_after error) before m) (sym (same ∙ r.faults_are)) so.0;
       at = so.1;
     }
@@ -197,44 +209,44 @@ one_more requests more rest request is = ap (λ m. requests ++ m) is ∙ sym (ap
 given_more : (given : List Command) (requests : List Words) (request : Words) → given ≡ map command_of requests → given ++ command_of request ∷ [] ≡ map command_of (requests ++ request ∷ [])
 given_more given requests request is = ap (λ g. g ++ command_of request ∷ []) is ∙ sym (map-append command_of requests (request ∷ []))
 
-took_last : (end : End) (input : Option (List ℕ)) (bytes : List ℕ) (requests : List Words) (given : List Command) (reader new : Progress) (request : Words) → reader.requests ≡ request ∷ new.requests
-    → IsEnded end input bytes requests given reader → IsEnded end input bytes (requests ++ request ∷ []) (given ++ command_of request ∷ []) new
-took_last Clean input bytes requests given reader new request is at =
+took_last : (end : End) (left : Option (List ℕ)) (bytes : List ℕ) (requests : List Words) (given : List Command) (reader new : Progress) (request : Words) → reader.requests ≡ request ∷ new.requests
+    → IsEnded end left bytes requests given reader → IsEnded end left bytes (requests ++ request ∷ []) (given ++ command_of request ∷ []) new
+took_last Clean left bytes requests given reader new request is at =
     (at.0, subst (λ r. Parses bytes r Clean) (one_more requests reader.requests new.requests request is) at.1, given_more given requests request at.2)
-took_last (Protocol kind place) input bytes requests given reader new request is at = absurd (cc (is, at.2))
-took_last (Truncated place) input bytes requests given reader new request is at =
+took_last (Protocol kind place) left bytes requests given reader new request is at = absurd (cc (is, at.1))
+took_last (Truncated place) left bytes requests given reader new request is at =
     (at.0, subst (λ r. Parses bytes r (Truncated place)) (one_more requests reader.requests new.requests request is) at.1, given_more given requests request at.2)
-took_last TooLong input bytes requests given reader new request is at =
-    (at.0, subst (λ r. Parses bytes r TooLong) (one_more requests reader.requests new.requests request is) at.1, given_more given requests request at.2)
-took_last ReadFault input bytes requests given reader new request is at = absurd (cc (is, at.2))
-took_last Memory input bytes requests given reader new request is at =
-    (at.0, subst (AreFirst bytes) (one_more requests reader.requests new.requests request is) at.1, given_more given requests request at.2)
-took_last Left input bytes requests given reader new request is at = absurd at
+took_last TooLong left bytes requests given reader new request is at =
+    (subst (λ r. Parses bytes r TooLong) (one_more requests reader.requests new.requests request is) at.0, given_more given requests request at.1)
+took_last ReadFault left bytes requests given reader new request is at = absurd (cc (is, at.1))
+took_last Memory left bytes requests given reader new request is at =
+    (subst (AreFirst bytes) (one_more requests reader.requests new.requests request is) at.0, given_more given requests request at.1)
+took_last Left left bytes requests given reader new request is at = absurd at
 
-took : (stage : Stage) (input left : Option (List ℕ)) (bytes : List ℕ) (requests : List Words) (given : List Command) (reader new : Progress) (request : Words) → reader.requests ≡ request ∷ new.requests
+took : (stage : Stage) (left : Option (List ℕ)) (bytes : List ℕ) (requests : List Words) (given : List Command) (reader new : Progress) (request : Words) → reader.requests ≡ request ∷ new.requests
     → new.closed ≡ reader.closed → ((bytes : List ℕ) (given : List Words) → Reads bytes given reader → Reads bytes (given ++ request ∷ []) new)
-    → IsAt stage input left bytes requests given reader → IsAt stage input left bytes (requests ++ request ∷ []) (given ++ command_of request ∷ []) new
-took Reading input left bytes requests given reader new request is closed fed at = (at.0, fed bytes requests at.1, closed ∙ at.2, given_more given requests request at.3)
-took (Refused kind place) input left bytes requests given reader new request is closed fed at =
-    (at.0, subst (λ r. Parses bytes r (Protocol kind place)) (one_more requests reader.requests new.requests request is) at.1, given_more given requests request at.2)
-took (Ended end) input left bytes requests given reader new request is closed fed at = took_last end input bytes requests given reader new request is at
+    → IsAt stage left bytes requests given reader → IsAt stage left bytes (requests ++ request ∷ []) (given ++ command_of request ∷ []) new
+took Reading left bytes requests given reader new request is closed fed at = (fed bytes requests at.0, closed ∙ at.1, given_more given requests request at.2)
+took (Refused kind place) left bytes requests given reader new request is closed fed at =
+    (subst (λ r. Parses bytes r (Protocol kind place)) (one_more requests reader.requests new.requests request is) at.0, given_more given requests request at.1)
+took (Ended end) left bytes requests given reader new request is closed fed at = took_last end left bytes requests given reader new request is at
 
 -- no read failed before the last command was given
-no_fault : (stage : Stage) (input left : Option (List ℕ)) (bytes : List ℕ) (requests : List Words) (given : List Command) (reader new : Progress) (request : Words) (before now : ℕ) → reader.requests ≡ request ∷ new.requests
-    → IsAt stage input left bytes requests given reader → FaultsSo stage before now → now ≡ before
-no_fault Reading input left bytes requests given reader new request before now is at faults = faults
-no_fault (Refused kind place) input left bytes requests given reader new request before now is at faults = faults
-no_fault (Ended Clean) input left bytes requests given reader new request before now is at faults = faults
-no_fault (Ended (Protocol kind place)) input left bytes requests given reader new request before now is at faults = faults
-no_fault (Ended (Truncated place)) input left bytes requests given reader new request before now is at faults = faults
-no_fault (Ended TooLong) input left bytes requests given reader new request before now is at faults = faults
-no_fault (Ended ReadFault) input left bytes requests given reader new request before now is at faults = absurd (cc (is, at.2))
-no_fault (Ended Memory) input left bytes requests given reader new request before now is at faults = faults
-no_fault (Ended Left) input left bytes requests given reader new request before now is at faults = faults
+no_fault : (stage : Stage) (left : Option (List ℕ)) (bytes : List ℕ) (requests : List Words) (given : List Command) (reader new : Progress) (request : Words) (before now : ℕ) → reader.requests ≡ request ∷ new.requests
+    → IsAt stage left bytes requests given reader → FaultsSo stage before now → now ≡ before
+no_fault Reading left bytes requests given reader new request before now is at faults = faults
+no_fault (Refused kind place) left bytes requests given reader new request before now is at faults = faults
+no_fault (Ended Clean) left bytes requests given reader new request before now is at faults = faults
+no_fault (Ended (Protocol kind place)) left bytes requests given reader new request before now is at faults = faults
+no_fault (Ended (Truncated place)) left bytes requests given reader new request before now is at faults = faults
+no_fault (Ended TooLong) left bytes requests given reader new request before now is at faults = faults
+no_fault (Ended ReadFault) left bytes requests given reader new request before now is at faults = absurd (cc (is, at.1))
+no_fault (Ended Memory) left bytes requests given reader new request before now is at faults = faults
+no_fault (Ended Left) left bytes requests given reader new request before now is at faults = faults
 
 pub quiet_request : (input : Option (List ℕ)) (before : ℕ) (given : List Command) (pump : PumpState) (reader : Progress) (request : Words) → pump.reader.requests ≡ request ∷ reader.requests → IsPump input before given pump
     → pump.faults ≡ before
-quiet_request input before given pump reader request is p = no_fault pump.stage input pump.left p.bytes p.requests given pump.reader reader request before pump.faults is p.at p.faults_are
+quiet_request input before given pump reader request is p = no_fault pump.stage pump.left p.bytes p.requests given pump.reader reader request before pump.faults is p.at p.faults_are
 
 pub quiet_refusal : (input : Option (List ℕ)) (before : ℕ) (given : List Command) (pump : PumpState) (kind place : ℕ) → pump.stage ≡ Refused kind place → IsPump input before given pump → pump.faults ≡ before
 quiet_refusal input before given pump kind place is p = subst (λ s. FaultsSo s before pump.faults) is p.faults_are
@@ -247,9 +259,10 @@ at_request input before given pump reader request command is closed fed is_comma
   bytes = p.bytes;
   requests = p.requests ++ request ∷ [];
   taken_is = p.taken_is;
+  gave = p.gave;
   faults_are = p.faults_are;
-  at = subst (λ c. IsAt pump.stage input pump.left p.bytes (p.requests ++ request ∷ []) (given ++ c ∷ []) reader) (sym is_command)
-      (took pump.stage input pump.left p.bytes p.requests given pump.reader reader request is closed fed p.at);
+  at = subst (λ c. IsAt pump.stage pump.left p.bytes (p.requests ++ request ∷ []) (given ++ c ∷ []) reader) (sym is_command)
+      (took pump.stage pump.left p.bytes p.requests given pump.reader reader request is closed fed p.at);
 }
 
 -- the command of an error
@@ -257,17 +270,17 @@ pub at_refusal : (input : Option (List ℕ)) (before : ℕ) (given : List Comman
     → reader.requests ≡ [] → command ≡ fault (protocol_error kind) → IsPump input before given pump
     → IsPump input before (given ++ command ∷ []) (record { left = pump.left; faults = pump.faults; reader = reader; stage = Ended (Protocol kind place); taken = pump.taken })
 at_refusal input before given pump kind place command reader is none still is_command p =
-    let at = subst (λ s. IsAt s input pump.left p.bytes p.requests given pump.reader) is p.at in
+    let at = subst (λ s. IsAt s pump.left p.bytes p.requests given pump.reader) is p.at in
     record {
       bytes = p.bytes;
       requests = p.requests;
       taken_is = p.taken_is;
+      gave = p.gave;
       faults_are = subst (λ s. FaultsSo s before pump.faults) is p.faults_are;
       at = (
-        at.0,
-        subst (λ r. Parses p.bytes r (Protocol kind place)) (ap (λ m. p.requests ++ m) none ∙ append-nil p.requests) at.1,
+        subst (λ r. Parses p.bytes r (Protocol kind place)) (ap (λ m. p.requests ++ m) none ∙ append-nil p.requests) at.0,
         still,
-        ap (λ g. g ++ command ∷ []) at.2 ∙ ap (λ c. map command_of p.requests ++ c ∷ []) is_command,
+        ap (λ g. g ++ command ∷ []) at.1 ∙ ap (λ c. map command_of p.requests ++ c ∷ []) is_command,
       );
     }
 
@@ -281,9 +294,6 @@ error_place bytes requests kind place faulty =
       length-append (stream faulty.elements ++ faulty.front) (faulty.byte ∷ faulty.more),
       length-take judged_bytes bytes,
     )
-
-front_of_all : (all bytes : List ℕ) (taken : ℕ) (rest : List ℕ) → taken ≡ length bytes → all ≡ bytes ++ rest → take taken all ≡ bytes
-front_of_all all bytes taken rest count is = ap (λ n. take n all) count ∙ ap (take (length bytes)) is ∙ take-append_seam bytes rest
 
 -- the first requests of an input make its first commands
 commands_first : (all requests rest : List Words) (shown : End) → all ≡ requests ++ rest → (more : List Command) × (commands_in all shown ≡ map command_of requests ++ more)
@@ -300,201 +310,250 @@ commands_first all requests rest Memory is = (map command_of rest, ap (map comma
 commands_first all requests rest Left is = (map command_of rest, ap (map command_of) is ∙ map-append command_of requests rest)
 
 -- no command is behind those that were given
-alone : (all : List ℕ) (given : List Command) (end : Bool → SessionEnd) → ((failed : Bool) → IsSession all given (end failed)) → (more : List Command) × ((failed : Bool) → IsSession all (given ++ more) (end failed))
-alone all given end session = ([], λ failed. subst (λ c. IsSession all c (end failed)) (sym (append-nil given)) (session failed))
+alone : (input left : Option (List ℕ)) (given : List Command) (end : Bool → SessionEnd) → ((failed : Bool) → IsSession (session_at input left given (end failed) 0))
+    → (more : List Command) × ((failed : Bool) → IsSession (session_at input left (given ++ more) (end failed) 0))
+alone input left given end session = ([], λ failed. subst (λ c. IsSession (session_at input left c (end failed) 0)) (sym (append-nil given)) (session failed))
 
--- the session of an input that is told, by its end
-session_of : (end : End) (all bytes : List ℕ) (requests : List Words) (given : List Command) (reader : Progress) (taken : ℕ) → taken ≡ length bytes → reader.requests ≡ []
-    → IsEnded end (Some all) bytes requests given reader → (more : List Command) × ((failed : Bool) → IsSession all (given ++ more) (ended_at end (taken_by end taken) (length given) failed))
-session_of Clean all bytes requests given reader taken count none at = alone all given _ (λ failed. record {
-  requests = requests;
-  shown = Clean;
-  parsed = subst (λ b. Parses b requests Clean) (sym at.0) (subst (λ r. Parses bytes r Clean) (ap (λ m. requests ++ m) none ∙ append-nil requests) at.1);
-  shown_is = refl;
-  commands_are = at.2;
-  taken_is = count ∙ ap length (sym at.0);
-  served_is = refl;
-})
-session_of (Truncated place) all bytes requests given reader taken count none at = alone all given _ (λ failed. record {
-  requests = requests;
-  shown = Truncated place;
-  parsed = subst (λ b. Parses b requests (Truncated place)) (sym at.0) (subst (λ r. Parses bytes r (Truncated place)) (ap (λ m. requests ++ m) none ∙ append-nil requests) at.1);
-  shown_is = refl;
-  commands_are = at.2;
-  taken_is = count ∙ ap length (sym at.0);
-  served_is = refl;
-})
-session_of (Protocol kind place) all bytes requests given reader taken count none at = alone all given _ (λ failed. record {
-  requests = requests;
-  shown = Protocol kind place;
-  parsed = subst (λ b. Parses b requests (Protocol kind place)) (sym at.0.1) (error_stays bytes at.0.0 requests kind place at.1);
-  shown_is = refl;
-  commands_are = at.3;
-  taken_is = omega (arith, error_place bytes requests kind place at.1);
-  served_is = refl;
-})
-session_of TooLong all bytes requests given reader taken count none at = alone all given _ (λ failed. record {
-  requests = requests;
-  shown = TooLong;
-  parsed = subst (λ b. Parses b requests TooLong) (sym at.0.1) (long_stays bytes at.0.0 requests (subst (λ r. Parses bytes r TooLong) (ap (λ m. requests ++ m) none ∙ append-nil requests) at.1));
-  shown_is = refl;
-  commands_are = at.2;
-  taken_is = refl;
-  served_is = refl;
-})
-session_of ReadFault all bytes requests given reader taken count none at =
-    let read = subst (AreRead bytes) (ap (λ m. requests ++ m) none ∙ append-nil requests) at.1 in
-    alone all given _ (λ failed. record {
+none_held : (P : List Words → Type 0) (requests held : List Words) → held ≡ [] → P (requests ++ held) → P requests
+none_held P requests held none p = subst P (ap (λ m. requests ++ m) none ∙ append-nil requests) p
+
+-- the session, by its end
+session_of : (end : End) (input left : Option (List ℕ)) (bytes : List ℕ) (requests : List Words) (given : List Command) (reader : Progress) (taken : ℕ) → taken ≡ length bytes → reader.requests ≡ []
+    → Gave input left bytes → IsEnded end left bytes requests given reader
+    → (more : List Command) × ((failed : Bool) → IsSession (session_at input left (given ++ more) (ended_at end (taken_by end taken) (length given) failed) 0))
+session_of Clean input left bytes requests given reader taken count none gave at =
+    let told = told_none input left bytes gave at.0 in
+    alone input left given _ (λ failed. record {
+      gave = bytes;
+      left = [];
+      input_is = told.0;
+      left_is = told.1;
+      requests = requests;
+      shown = Clean;
+      parsed = none_held (λ r. Parses bytes r Clean) requests reader.requests none at.1;
+      commands_are = at.2;
+      shown_is = refl;
+      read_out = refl;
+      taken_is = count;
+      replied = refl;
+      begun_is = refl;
+    })
+session_of (Truncated place) input left bytes requests given reader taken count none gave at =
+    let told = told_none input left bytes gave at.0 in
+    alone input left given _ (λ failed. record {
+      gave = bytes;
+      left = [];
+      input_is = told.0;
+      left_is = told.1;
+      requests = requests;
+      shown = Truncated place;
+      parsed = none_held (λ r. Parses bytes r (Truncated place)) requests reader.requests none at.1;
+      commands_are = at.2;
+      shown_is = refl;
+      read_out = refl;
+      taken_is = count;
+      replied = refl;
+      begun_is = refl;
+    })
+session_of (Protocol kind place) input left bytes requests given reader taken count none gave at =
+    let told = told_rest input left bytes gave in
+    alone input left given _ (λ failed. record {
+      gave = bytes;
+      left = told.0;
+      input_is = told.1;
+      left_is = told.2;
+      requests = requests;
+      shown = Protocol kind place;
+      parsed = at.0;
+      commands_are = at.2;
+      shown_is = refl;
+      read_out = tt;
+      taken_is = omega (arith, error_place bytes requests kind place at.0);
+      replied = refl;
+      begun_is = refl;
+    })
+session_of TooLong input left bytes requests given reader taken count none gave at =
+    let told = told_rest input left bytes gave in
+    alone input left given _ (λ failed. record {
+      gave = bytes;
+      left = told.0;
+      input_is = told.1;
+      left_is = told.2;
+      requests = requests;
+      shown = TooLong;
+      parsed = none_held (λ r. Parses bytes r TooLong) requests reader.requests none at.0;
+      commands_are = at.1;
+      shown_is = refl;
+      read_out = tt;
+      taken_is = refl;
+      replied = refl;
+      begun_is = refl;
+    })
+session_of ReadFault input left bytes requests given reader taken count none gave at =
+    let told = told_rest input left bytes gave in
+    let read = none_held (AreRead bytes) requests reader.requests none at.0 in
+    alone input left given _ (λ failed. record {
+      gave = bytes;
+      left = told.0;
+      input_is = told.1;
+      left_is = told.2;
       requests = requests;
       shown = read.shown;
-      parsed = subst (λ b. Parses b requests read.shown) (sym (front_of_all all bytes taken at.0.0 count at.0.1)) read.parsed;
-      shown_is = tt;
-      commands_are = at.3 ∙ sym (read.no_error requests);
-      taken_is = omega (arith, count, ap length at.0.1, length-append bytes at.0.0);
-      served_is = refl;
+      parsed = read.parsed;
+      commands_are = at.2 ∙ sym (read.no_error requests);
+      shown_is = read.whole;
+      read_out = tt;
+      taken_is = count;
+      replied = refl;
+      begun_is = refl;
     })
-session_of Memory all bytes requests given reader taken count none at =
-    let first = subst (AreFirst bytes) (ap (λ m. requests ++ m) none ∙ append-nil requests) at.1 in
-    let more = commands_first first.all requests first.rest first.shown first.all_are in
-    let commands_are : given ++ more.0 ≡ commands_in first.all first.shown = ap (λ g. g ++ more.0) at.2 ∙ sym more.1 in (
+session_of Memory input left bytes requests given reader taken count none gave at =
+    let told = told_rest input left bytes gave in
+    let first = none_held (AreFirst bytes) requests reader.requests none at.0 in
+    let more = commands_first first.all requests first.rest first.shown first.all_are in (
       more.0,
       λ failed. record {
+        gave = bytes;
+        left = told.0;
+        input_is = told.1;
+        left_is = told.2;
         requests = first.all;
         shown = first.shown;
-        parsed = subst (λ b. Parses b first.all first.shown) (sym (front_of_all all bytes taken at.0.0 count at.0.1)) first.parsed;
+        parsed = first.parsed;
+        commands_are = ap (λ g. g ++ more.0) at.1 ∙ sym more.1;
         shown_is = tt;
-        commands_are = commands_are;
-        taken_is = omega (arith, count, ap length at.0.1, length-append bytes at.0.0);
-        served_is = omega (arith, length-append given more.0);
+        read_out = tt;
+        taken_is = count;
+        replied = omega (arith, ap length at.1, length-map requests command_of, ap length first.all_are, length-append requests first.rest);
+        begun_is = inl refl;
       },
     )
-session_of Left all bytes requests given reader taken count none at = absurd at
-
-on_input : (input : Option (List ℕ)) (end : End) (bytes : List ℕ) (requests : List Words) (given : List Command) (reader : Progress) (taken : ℕ) → taken ≡ length bytes → reader.requests ≡ []
-    → IsEnded end input bytes requests given reader → IfSome input (λ all. (more : List Command) × ((failed : Bool) → IsSession all (given ++ more) (ended_at end (taken_by end taken) (length given) failed)))
-on_input None end bytes requests given reader taken count none at = tt
-on_input (Some all) end bytes requests given reader taken count none at = session_of end all bytes requests given reader taken count none at
+session_of Left input left bytes requests given reader taken count none gave at = absurd at
 
 -- all commands were given
-pub in_order : (input : Option (List ℕ)) (before : ℕ) (given : List Command) (pump : PumpState) (end : End) → pump.stage ≡ Ended end → IsPump input before given pump → end ≢ Left
-in_order input before given pump end is p left = subst (λ s. IsAt s input pump.left p.bytes p.requests given pump.reader) (is ∙ ap Ended left) p.at
+to_the_end : (end : End) (left : Option (List ℕ)) (bytes : List ℕ) (requests : List Words) (given : List Command) (reader : Progress) → IsEnded end left bytes requests given reader → end ≢ Left
+to_the_end end left bytes requests given reader at is = subst (λ e. IsEnded e left bytes requests given reader) is at
 
 pub at_last : (input : Option (List ℕ)) (before : ℕ) (given : List Command) (pump : PumpState) (end : End) (taken : ℕ) (reader : Progress) → pump.stage ≡ Ended end → pump.reader.requests ≡ [] → taken ≡ taken_by end pump.taken
     → IsPump input before given pump → HasEnded input before given end (record { left = pump.left; faults = pump.faults; reader = reader; stage = pump.stage; taken = taken })
 at_last input before given pump end taken reader is none by p =
-    let at = subst (λ s. IsAt s input pump.left p.bytes p.requests given pump.reader) is p.at in
+    let at = subst (λ s. IsAt s pump.left p.bytes p.requests given pump.reader) is p.at in
+    let session = session_of end input pump.left p.bytes p.requests given pump.reader pump.taken p.taken_is none p.gave at in
     record {
       faults_are = subst (λ s. FaultsSo s before pump.faults) is p.faults_are;
-      on_input = subst (λ t. IfSome input (λ all. (more : List Command) × ((failed : Bool) → IsSession all (given ++ more) (ended_at end t (length given) failed)))) (sym by)
-          (on_input input end p.bytes p.requests given pump.reader pump.taken p.taken_is none at);
+      to_the_end = to_the_end end pump.left p.bytes p.requests given pump.reader at;
+      more = session.0;
+      session = subst (λ t. (failed : Bool) → IsSession (session_at input pump.left (given ++ session.0) (ended_at end t (length given) failed) 0)) (sym by) session.1;
     }
 
+-- the count of what was taken at an end stays so
+pub taken_again : (end : End) (taken : ℕ) → taken_by end (taken_by end taken) ≡ taken_by end taken
+taken_again Clean taken = refl
+taken_again (Protocol kind place) taken = refl
+taken_again (Truncated place) taken = refl
+taken_again TooLong taken = refl
+taken_again ReadFault taken = refl
+taken_again Memory taken = refl
+taken_again Left taken = refl
+
+pub unchanged_reader : (old new : Progress) → (new.front ≡ old.front) × (new.place ≡ old.place) → new.closed ≡ old.closed → old.requests ≡ new.requests → new ≡ old
+unchanged_reader old new front closed requests = λ i. record { requests = sym requests i; front = front.0 i; place = front.1 i; closed = closed i }
+
+-- a pump whose end was answered is as it was
+pub same_again : (end other : End) (pump : PumpState) (reader : Progress) (taken : ℕ) → IsOver end pump → pump.stage ≡ Ended other → reader ≡ pump.reader → taken ≡ taken_by other pump.taken
+    → record { left = pump.left; faults = pump.faults; reader = reader; stage = pump.stage; taken = taken } ≡ pump
+same_again end other pump reader taken over at same by =
+    let is : other ≡ end = cc (at, over.stage) in
+    let stays : taken ≡ pump.taken = by ∙ ap (λ e. taken_by e pump.taken) is ∙ sym over.taken in
+    λ i. record { left = pump.left; faults = pump.faults; reader = same i; stage = pump.stage; taken = stays i }
+
 -- what the bytes that came mean, and that the commands which were given are the first of it
-pub record Meant (input : Option (List ℕ)) (given : List Command) (taken : ℕ) : Type 0 where
+pub record Meant (input left : Option (List ℕ)) (given : List Command) (taken : ℕ) : Type 0 where
   pub bytes : List ℕ
   pub requests : List Words
   pub shown : End
   pub more : List Command
   pub taken_is : taken ≡ length bytes
-  pub begun : BeginsWith input bytes
+  pub gave : Gave input left bytes
   pub parsed : Parses bytes requests shown
   pub commands_are : commands_in requests shown ≡ given ++ more
-
--- what is whole begins so
-begins_whole : (input : Option (List ℕ)) (bytes : List ℕ) → IsWhole input bytes → BeginsWith input bytes
-begins_whole None bytes is = tt
-begins_whole (Some all) bytes is = ([], is ∙ sym (append-nil bytes))
 
 -- the commands that were given, and those of the requests that are held
 all_of : (given : List Command) (requests pending : List Words) → given ≡ map command_of requests → map command_of (requests ++ pending) ≡ given ++ map command_of pending
 all_of given requests pending is = map-append command_of requests pending ∙ ap (λ g. g ++ map command_of pending) (sym is)
 
-meant_read : (input : Option (List ℕ)) (given : List Command) (taken : ℕ) (bytes : List ℕ) (requests pending : List Words) → taken ≡ length bytes → BeginsWith input bytes → AreRead bytes (requests ++ pending)
-    → given ≡ map command_of requests → Meant input given taken
-meant_read input given taken bytes requests pending count begun read is = record {
-  bytes = bytes;
+-- what bytes mean of which these commands are the first
+record IsMeant (bytes : List ℕ) (given : List Command) : Type 0 where
+  requests : List Words
+  shown : End
+  more : List Command
+  parsed : Parses bytes requests shown
+  commands_are : commands_in requests shown ≡ given ++ more
+
+meant_read : (given : List Command) (bytes : List ℕ) (requests pending : List Words) → AreRead bytes (requests ++ pending) → given ≡ map command_of requests → IsMeant bytes given
+meant_read given bytes requests pending read is = record {
   requests = requests ++ pending;
   shown = read.shown;
   more = map command_of pending;
-  taken_is = count;
-  begun = begun;
   parsed = read.parsed;
   commands_are = read.no_error (requests ++ pending) ∙ all_of given requests pending is;
 }
 
-meant_at : (stage : Stage) (input left : Option (List ℕ)) (bytes : List ℕ) (requests : List Words) (given : List Command) (reader : Progress) (taken : ℕ) → taken ≡ length bytes
-    → IsAt stage input left bytes requests given reader → Meant input given taken
-meant_at Reading input left bytes requests given reader taken count at =
-    meant_read input given taken bytes requests reader.requests count (begins input left bytes at.0) (open_are_read bytes requests reader at.2 at.1) at.3
-meant_at (Refused kind place) input left bytes requests given reader taken count at = record {
-  bytes = bytes;
+meant_at : (stage : Stage) (left : Option (List ℕ)) (bytes : List ℕ) (requests : List Words) (given : List Command) (reader : Progress) → IsAt stage left bytes requests given reader → IsMeant bytes given
+meant_at Reading left bytes requests given reader at = meant_read given bytes requests reader.requests (open_are_read bytes requests reader at.1 at.0) at.2
+meant_at (Refused kind place) left bytes requests given reader at = record {
   requests = requests ++ reader.requests;
   shown = Protocol kind place;
   more = map command_of reader.requests ++ fault (protocol_error kind) ∷ [];
-  taken_is = count;
-  begun = at.0;
-  parsed = at.1;
-  commands_are = ap (λ c. c ++ fault (protocol_error kind) ∷ []) (all_of given requests reader.requests at.2) ∙ append_assoc given (map command_of reader.requests) (fault (protocol_error kind) ∷ []);
+  parsed = at.0;
+  commands_are = ap (λ c. c ++ fault (protocol_error kind) ∷ []) (all_of given requests reader.requests at.1) ∙ append_assoc given (map command_of reader.requests) (fault (protocol_error kind) ∷ []);
 }
-meant_at (Ended Clean) input left bytes requests given reader taken count at = record {
-  bytes = bytes;
+meant_at (Ended Clean) left bytes requests given reader at = record {
   requests = requests ++ reader.requests;
   shown = Clean;
   more = map command_of reader.requests;
-  taken_is = count;
-  begun = begins_whole input bytes at.0;
   parsed = at.1;
   commands_are = all_of given requests reader.requests at.2;
 }
-meant_at (Ended (Protocol kind place)) input left bytes requests given reader taken count at = record {
-  bytes = bytes;
+meant_at (Ended (Protocol kind place)) left bytes requests given reader at = record {
   requests = requests;
   shown = Protocol kind place;
   more = [];
-  taken_is = count;
-  begun = at.0;
-  parsed = at.1;
-  commands_are = sym at.3 ∙ sym (append-nil given);
+  parsed = at.0;
+  commands_are = sym at.2 ∙ sym (append-nil given);
 }
-meant_at (Ended (Truncated place)) input left bytes requests given reader taken count at = record {
-  bytes = bytes;
+meant_at (Ended (Truncated place)) left bytes requests given reader at = record {
   requests = requests ++ reader.requests;
   shown = Truncated place;
   more = map command_of reader.requests;
-  taken_is = count;
-  begun = begins_whole input bytes at.0;
   parsed = at.1;
   commands_are = all_of given requests reader.requests at.2;
 }
-meant_at (Ended TooLong) input left bytes requests given reader taken count at = record {
-  bytes = bytes;
+meant_at (Ended TooLong) left bytes requests given reader at = record {
   requests = requests ++ reader.requests;
   shown = TooLong;
   more = map command_of reader.requests;
-  taken_is = count;
-  begun = at.0;
-  parsed = at.1;
-  commands_are = all_of given requests reader.requests at.2;
+  parsed = at.0;
+  commands_are = all_of given requests reader.requests at.1;
 }
-meant_at (Ended ReadFault) input left bytes requests given reader taken count at = meant_read input given taken bytes requests reader.requests count at.0 at.1 at.3
-meant_at (Ended Memory) input left bytes requests given reader taken count at =
-    let first = at.1 in
+meant_at (Ended ReadFault) left bytes requests given reader at = meant_read given bytes requests reader.requests at.0 at.2
+meant_at (Ended Memory) left bytes requests given reader at =
+    let first = at.0 in
     let all_are : first.all ≡ requests ++ (reader.requests ++ first.rest) = first.all_are ∙ append_assoc requests reader.requests first.rest in
     let more = commands_first first.all requests (reader.requests ++ first.rest) first.shown all_are in
     record {
-      bytes = bytes;
       requests = first.all;
       shown = first.shown;
       more = more.0;
-      taken_is = count;
-      begun = at.0;
       parsed = first.parsed;
-      commands_are = more.1 ∙ ap (λ g. g ++ more.0) (sym at.2);
+      commands_are = more.1 ∙ ap (λ g. g ++ more.0) (sym at.1);
     }
-meant_at (Ended Left) input left bytes requests given reader taken count at = absurd at
+meant_at (Ended Left) left bytes requests given reader at = absurd at
 
-pub meant : (input : Option (List ℕ)) (before : ℕ) (given : List Command) (pump : PumpState) → IsPump input before given pump → Meant input given pump.taken
-meant input before given pump p = meant_at pump.stage input pump.left p.bytes p.requests given pump.reader pump.taken p.taken_is p.at
+pub meant : (input : Option (List ℕ)) (before : ℕ) (given : List Command) (pump : PumpState) → IsPump input before given pump → Meant input pump.left given pump.taken
+meant input before given pump p =
+    let m = meant_at pump.stage pump.left p.bytes p.requests given pump.reader p.at in
+    record { bytes = p.bytes; requests = m.requests; shown = m.shown; more = m.more; taken_is = p.taken_is; gave = p.gave; parsed = m.parsed; commands_are = m.commands_are }
 
 -- an input has at most as many requests as bytes that are judged
 clean_fits : (bytes : List ℕ) (requests : List Words) → IsClean bytes requests → length requests ≤ length bytes
@@ -537,14 +596,23 @@ bounded input before given pump p =
     let m = meant input before given pump p in
     omega (arith, ap length m.commands_are, length-append given m.more, one_error_more m.requests m.shown, so_many m.bytes m.requests m.shown m.parsed)
 
--- a session that memory stopped behind so many replies
-pub stopped_at : (all : List ℕ) (given : List Command) (taken replies : ℕ) (failed : Bool) → (m : Meant (Some all) given taken) → replies ≤ length given → IsSession all (given ++ m.more) (ended_at Memory taken replies failed)
-stopped_at all given taken replies failed m some = record {
-  requests = m.requests;
-  shown = m.shown;
-  parsed = subst (λ b. Parses b m.requests m.shown) (sym (front_of_all all m.bytes taken m.begun.0 m.taken_is m.begun.1)) m.parsed;
-  shown_is = tt;
-  commands_are = sym m.commands_are;
-  taken_is = omega (arith, m.taken_is, ap length m.begun.1, length-append m.bytes m.begun.0);
-  served_is = omega (arith, some, length-append given m.more);
-}
+-- a session that memory stopped behind so many replies, in a call that was given
+pub stopped_at : (input left : Option (List ℕ)) (given : List Command) (taken replies begun : ℕ) (failed : Bool) → (m : Meant input left given taken) → replies < length given
+    → (begun ≡ 0) ⊎ (begun < length (next_parts replies (given ++ m.more))) → IsSession (session_at input left (given ++ m.more) (ended_at Memory taken replies failed) begun)
+stopped_at input left given taken replies begun failed m some is_begun =
+    let told = told_rest input left m.bytes m.gave in
+    record {
+      gave = m.bytes;
+      left = told.0;
+      input_is = told.1;
+      left_is = told.2;
+      requests = m.requests;
+      shown = m.shown;
+      parsed = m.parsed;
+      commands_are = sym m.commands_are;
+      shown_is = tt;
+      read_out = tt;
+      taken_is = m.taken_is;
+      replied = omega (arith, some, ap length m.commands_are, length-append given m.more, one_error_more m.requests m.shown);
+      begun_is = is_begun;
+    }

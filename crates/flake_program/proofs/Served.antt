@@ -1,36 +1,40 @@
 -- A served source is a served run of one session.
-use Rattle.std.proofs.Common.{◌≡◌, ℕ, ◌<◌, Bool, List, [], ◌∷◌, Option, Some, None, IfSome, length, get_or, set, map, take, arith, refl, sym, subst}
-use Rattle.flake_base.specs.Growth.{Grew}
+use Rattle.std.proofs.Common.{◌≡◌, ◌<◌, ℕ, Bool, true, false, List, [], ◌∷◌, Option, length, get_or, set, map, take, arith, refl, ap, sym, ◌∙◌, subst}
+use Rattle.flake_base.specs.Told.{WireTold}
 use Rattle.flake_base.specs.declared.journal.Entry.{Entry}
 use Rattle.flake_base.specs.declared.session.SessionEnd.{SessionEnd}
-use Rattle.flake_model.specs.Run.{WasServed}
-use Rattle.flake_model.specs.Wire.{WiresGrew}
-use Rattle.flake_model.proofs.ManyShards.{many_shards_wire, many_shards_in_order}
-use Rattle.flake_model.proofs.OneOrder.{many_shards_one_order}
-use Rattle.flake_program.specs.Session.{texts_to, HasServed, HasRun}
+use Rattle.flake_model.specs.Journal.{wire_text}
+use Rattle.flake_model.proofs.ManyShards.{many_shards_wire}
+use Rattle.flake_model.proofs.OneServed.{one_served}
+use Rattle.flake_model.specs.Run.{wire_texts}
+use Rattle.flake_model.specs.Session.{Session}
+use Rattle.flake_model.specs.Wire.{HasPut, BytesAre, KeptIs}
+use Rattle.flake_program.specs.Pump.{session_at}
+use Rattle.flake_program.specs.Serving.{texts_to, HasServed, IsRun}
 
--- the first wire grew, and the others are as they were
-first_grew : {A : Type 0} (sent : A → Option (List ℕ)) (olds : List A) (first new : A) (failed : Bool) (text : List ℕ) → 0 < length olds → first ≡ get_or olds 0 first
-    → Grew failed text (sent first) (sent new) → WiresGrew ((failed, text) ∷ []) (map sent olds) (map sent (set olds 0 new))
-first_grew sent [] first new failed text some is grew = absurd (omega arith)
-first_grew sent (old ∷ olds) first new failed text some is grew = (subst (λ w. Grew failed text (sent w) (sent new)) is grew, refl)
+kept_is : (failed : Bool) (old new : ℕ) → (failed ≡ false → new ≡ 0) → KeptIs failed old new
+kept_is true old new none = tt
+kept_is false old new none = none refl
 
-was_served : {A : Type 0} (sent : A → Option (List ℕ)) (wires : List A) (first new : A) (bytes : List ℕ) (end : SessionEnd) (journal : List (List Entry)) → 0 < length wires → first ≡ get_or wires 0 first
-    → 0 < length journal → HasServed bytes end journal (sent first) (sent new) → WasServed (bytes ∷ []) (end ∷ []) journal (map sent wires) (map sent (set wires 0 new))
-was_served sent wires first new bytes end journal some is shards ran = record {
-  sessions = ran.commands ∷ [];
-  cuts = ran.cut ∷ [];
-  inputs_are = (ran.session, tt);
-  cuts_are = (ran.cut_is, tt);
-  orderly = many_shards_in_order ran.commands end.replies ran.cut journal shards ran.sharded;
-  one_order = many_shards_one_order ran.commands end.replies ran.cut journal shards ran.sharded;
-  wires = subst (λ t. WiresGrew ((end.failed, t) ∷ []) (map sent wires) (map sent (set wires 0 new))) (sym (many_shards_wire ran.commands end.replies ran.cut journal shards ran.sharded))
-      (first_grew sent wires first new end.failed (texts_to (take end.replies ran.commands)) some is ran.sent);
-}
+pub was_run : {W : Type 0} (told : W → WireTold) (wires : List W) (first new : W) (input left : Option (List ℕ)) (end : SessionEnd) (journal : List (List Entry)) → 0 < length wires
+    → first ≡ get_or wires 0 first → 0 < length journal → HasServed input left end journal (told first) (told new) → (end.failed ≡ false → (told new).kept ≡ 0)
+    → IsRun input left end journal wires (set wires 0 new) told
+was_run told [] first new input left end journal some is shards served flushed = absurd (omega arith)
+was_run told (old ∷ wires) first new input left end journal some is shards served flushed =
+    let session : Session = session_at input left served.commands end served.begun in
+    let text : wire_text (served.commands ∷ []) journal 0 end.replies ≡ texts_to (take end.replies served.commands) = many_shards_wire served.commands end.replies served.begun journal shards served.sharded in
+    let all = one_served session journal (told first).sent (told new).sent (map (λ w. (told w).sent) wires) served.session shards served.sharded served.wire.sent in
+    subst (λ w. IsRun input left end journal (w ∷ wires) (new ∷ wires) told) is (record {
+      run = all.0;
+      none_missing = all.2;
+      bytes = subst (λ sessions. BytesAre (wire_texts sessions journal) (map (λ w. (told w).bytes) (first ∷ wires)) (map (λ w. (told w).bytes) (new ∷ wires))) (sym all.1)
+          (subst (λ t. HasPut end.failed (length t) (told first).bytes (told new).bytes) (sym text) served.wire.bytes, refl);
+      faults = (served.wire.faults, refl);
+      flushed = (kept_is end.failed (told first).kept (told new).kept flushed, refl);
+      others = refl;
+    })
 
--- what the input is, where it is told, was served
-pub input_served : {A : Type 0} (sent : A → Option (List ℕ)) (wires : List A) (first new : A) (input : Option (List ℕ)) (end : SessionEnd) (journal : List (List Entry)) → 0 < length wires
-    → first ≡ get_or wires 0 first → 0 < length journal → HasRun input end journal (sent first) (sent new)
-    → IfSome input (λ bytes. WasServed (bytes ∷ []) (end ∷ []) journal (map sent wires) (map sent (set wires 0 new)))
-input_served sent wires first new None end journal some is shards ran = tt
-input_served sent wires first new (Some bytes) end journal some is shards ran = was_served sent wires first new bytes end journal some is shards ran
+-- the same, of the same input
+pub run_on : {W : Type 0} (told : W → WireTold) (wires after : List W) (input other left : Option (List ℕ)) (end : SessionEnd) (journal : List (List Entry)) → input ≡ other
+    → IsRun input left end journal wires after told → IsRun other left end journal wires after told
+run_on told wires after input other left end journal is run = subst (λ i. IsRun i left end journal wires after told) is run

@@ -1,12 +1,15 @@
 -- A pump: what its source gave, and which commands it has given of that.
-use Rattle.std.specs.Prelude.{◌≡◌, ◌⊎◌, ℕ, ◌+◌, ◌-◌, ◌^◌, ◌≤◌, min, Bool, List, [], ◌∷◌, ◌++◌, Option, None, IfSome, length, map}
+use Rattle.std.specs.Prelude.{◌≡◌, ◌≢◌, ℕ, ◌+◌, ◌-◌, ◌^◌, ◌≤◌, min, Bool, List, [], ◌∷◌, ◌++◌, length, map}
+use Rattle.std.specs.Prelude.{Option, None, IfSome}
 use Rattle.flake_base.specs.Causes.{Rose}
 use Rattle.flake_base.specs.declared.session.End.{End}
-use Rattle.flake_base.specs.declared.session.End.TheVariants.{Clean, Protocol, Truncated, TooLong, ReadFault, Memory, Left}
+use Rattle.flake_base.specs.declared.session.End.TheVariants.{Clean, Protocol, Truncated, TooLong, ReadFault, Memory}
+use Rattle.flake_base.specs.declared.session.End.TheVariants.{Left}
 use Rattle.flake_model.specs.Resp.{Words, Parses, judged_bytes}
 use Rattle.flake_model.specs.Command.{Command, fault, command_of}
 use Rattle.flake_base.specs.declared.session.SessionEnd.{SessionEnd}
-use Rattle.flake_model.specs.Run.{protocol_error, commands_in, IsSession}
+use Rattle.flake_model.specs.Input.{protocol_error, commands_in}
+use Rattle.flake_model.specs.Session.{Session, IsSession, HasNoError}
 use Rattle.resp_reader.specs.declared.error.ReadError.{ReadError}
 use Rattle.resp_reader.specs.declared.error.ReadError.TheVariants as errors
 use Rattle.resp_reader.specs.Reader.{Progress, Reads, fed_to}
@@ -61,19 +64,16 @@ FaultsSo Reading before now = now ≡ before
 FaultsSo (Refused kind place) before now = now ≡ before
 FaultsSo (Ended end) before now = EndFaults end before now
 
--- an input that is told begins with the bytes, or is these
-abbrev pub BeginsWith : Option (List ℕ) → List ℕ → Type 0
-BeginsWith input bytes = IfSome input (λ all. (rest : List ℕ) × (all ≡ bytes ++ rest))
-
-abbrev pub IsWhole : Option (List ℕ) → List ℕ → Type 0
-IsWhole input bytes = IfSome input (λ all. all ≡ bytes)
+-- nothing is left, where that is told
+abbrev pub IsDone : Option (List ℕ) → Type 0
+IsDone left = IfSome left (λ rest. rest ≡ [])
 
 -- whole requests, and perhaps the front of one
 pub record AreRead (bytes : List ℕ) (requests : List Words) : Type 0 where
   pub shown : End
   pub parsed : Parses bytes requests shown
   pub no_error : (all : List Words) → commands_in all shown ≡ map command_of all
-  pub whole : (shown ≡ Clean) ⊎ ((place : ℕ) × (shown ≡ Truncated place))
+  pub whole : HasNoError shown
 
 -- the bytes mean something, and these are the first of their requests
 pub record AreFirst (bytes : List ℕ) (requests : List Words) : Type 0 where
@@ -85,36 +85,57 @@ pub record AreFirst (bytes : List ℕ) (requests : List Words) : Type 0 where
 
 -- What the bytes of an ended input mean: the requests that were given and those that are still to be given are theirs.
 abbrev pub IsEnded : End → Option (List ℕ) → List ℕ → List Words → List Command → Progress → Type 0
-IsEnded Clean input bytes requests given reader = IsWhole input bytes × Parses bytes (requests ++ reader.requests) Clean × (given ≡ map command_of requests)
-IsEnded (Protocol kind place) input bytes requests given reader =
-    BeginsWith input bytes × Parses bytes requests (Protocol kind place) × (reader.requests ≡ []) × (given ≡ map command_of requests ++ fault (protocol_error kind) ∷ [])
-IsEnded (Truncated place) input bytes requests given reader =
-    IsWhole input bytes × Parses bytes (requests ++ reader.requests) (Truncated place) × (given ≡ map command_of requests)
-IsEnded TooLong input bytes requests given reader = BeginsWith input bytes × Parses bytes (requests ++ reader.requests) TooLong × (given ≡ map command_of requests)
-IsEnded ReadFault input bytes requests given reader =
-    BeginsWith input bytes × AreRead bytes (requests ++ reader.requests) × (reader.requests ≡ []) × (given ≡ map command_of requests)
-IsEnded Memory input bytes requests given reader = BeginsWith input bytes × AreFirst bytes (requests ++ reader.requests) × (given ≡ map command_of requests)
-IsEnded Left input bytes requests given reader = ⊥
+IsEnded Clean left bytes requests given reader =
+    IsDone left × Parses bytes (requests ++ reader.requests) Clean × (given ≡ map command_of requests)
+IsEnded (Protocol kind place) left bytes requests given reader =
+    Parses bytes requests (Protocol kind place) × (reader.requests ≡ [])
+    × (given ≡ map command_of requests ++ fault (protocol_error kind) ∷ [])
+IsEnded (Truncated place) left bytes requests given reader =
+    IsDone left × Parses bytes (requests ++ reader.requests) (Truncated place) × (given ≡ map command_of requests)
+IsEnded TooLong left bytes requests given reader =
+    Parses bytes (requests ++ reader.requests) TooLong × (given ≡ map command_of requests)
+IsEnded ReadFault left bytes requests given reader =
+    AreRead bytes (requests ++ reader.requests) × (reader.requests ≡ []) × (given ≡ map command_of requests)
+IsEnded Memory left bytes requests given reader =
+    AreFirst bytes (requests ++ reader.requests) × (given ≡ map command_of requests)
+IsEnded Left left bytes requests given reader = ⊥
 
-abbrev pub IsAt : Stage → Option (List ℕ) → Option (List ℕ) → List ℕ → List Words → List Command → Progress → Type 0
-IsAt Reading input left bytes requests given reader = Gave input left bytes × Reads bytes requests reader × (reader.closed ≡ None) × (given ≡ map command_of requests)
-IsAt (Refused kind place) input left bytes requests given reader =
-    BeginsWith input bytes × Parses bytes (requests ++ reader.requests) (Protocol kind place) × (given ≡ map command_of requests)
-IsAt (Ended end) input left bytes requests given reader = IsEnded end input bytes requests given reader
+abbrev pub IsAt : Stage → Option (List ℕ) → List ℕ → List Words → List Command → Progress → Type 0
+IsAt Reading left bytes requests given reader =
+    Reads bytes requests reader × (reader.closed ≡ None) × (given ≡ map command_of requests)
+IsAt (Refused kind place) left bytes requests given reader =
+    Parses bytes (requests ++ reader.requests) (Protocol kind place) × (given ≡ map command_of requests)
+IsAt (Ended end) left bytes requests given reader = IsEnded end left bytes requests given reader
 
 -- Of an input, and from a count of faults on, these commands were given.
 pub record IsPump (input : Option (List ℕ)) (before : ℕ) (given : List Command) (pump : PumpState) : Type 0 where
+  -- all that the source gave, which is what was taken
   pub bytes : List ℕ
   pub requests : List Words
   pub taken_is : pump.taken ≡ length bytes
+  pub gave : Gave input pump.left bytes
   pub faults_are : FaultsSo pump.stage before pump.faults
-  pub at : IsAt pump.stage input pump.left bytes requests given pump.reader
+  pub at : IsAt pump.stage pump.left bytes requests given pump.reader
+
+-- An end was answered: it is answered again, and nothing changes.
+pub record IsOver (end : End) (pump : PumpState) : Type 0 where
+  pub stage : pump.stage ≡ Ended end
+  pub none : pump.reader.requests ≡ []
+  pub taken : pump.taken ≡ taken_by end pump.taken
 
 -- a session that ended so
 abbrev pub ended_at : End → ℕ → ℕ → Bool → SessionEnd
 ended_at end taken replies failed = record { end = end; taken = taken; replies = replies; failed = failed }
 
+abbrev pub session_at : Option (List ℕ) → Option (List ℕ) → List Command → SessionEnd → ℕ → Session
+session_at input left commands end begun =
+    record { input = input; left = left; commands = commands; end = end; begun = begun }
+
 -- Of an input, these commands were given, and it ended so; where memory was wanting there may be more.
-pub record HasEnded (input : Option (List ℕ)) (before : ℕ) (given : List Command) (end : End) (pump : PumpState) : Type 0 where
+pub record HasEnded (input : Option (List ℕ)) (before : ℕ) (given : List Command) (end : End)
+    (pump : PumpState) : Type 0 where
   pub faults_are : EndFaults end before pump.faults
-  pub on_input : IfSome input (λ all. (more : List Command) × ((failed : Bool) → IsSession all (given ++ more) (ended_at end pump.taken (length given) failed)))
+  pub to_the_end : end ≢ Left
+  pub more : List Command
+  pub session : (failed : Bool)
+      → IsSession (session_at input pump.left (given ++ more) (ended_at end pump.taken (length given) failed) 0)

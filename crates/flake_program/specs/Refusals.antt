@@ -1,6 +1,9 @@
--- Why nothing was served, as a status.
-use Rattle.std.specs.Prelude.{ℕ, List, codes}
+-- Why nothing was served, and what a run that served nothing has done.
+use Rattle.std.specs.Prelude.{◌≡◌, ℕ, List, [], codes}
 use Rattle.flake_model.specs.Said.{said_line}
+use Rattle.flake_program.specs.Outside.{Outside, LeavesFiles}
+use Rattle.flake_program.specs.Outcome.{Done}
+use Rattle.flake_program.specs.Said.{Says}
 use Rattle.flake_program.specs.declared.outcome.Detail.{Detail}
 use Rattle.flake_program.specs.declared.outcome.Detail.TheVariants.{Nothing, File}
 use Rattle.flake_program.specs.declared.outcome.Refusal.{Refusal}
@@ -21,3 +24,14 @@ abbrev pub refusal_text : Refusal → List ℕ
 refusal_text BadWords = said_line (codes "bad words")
 refusal_text OpenFault = said_line (codes "cannot open 0")
 refusal_text Memory = said_line (codes "out of memory")
+
+-- it is said why, and all else is as it was
+pub record IsRefused {W : Type 0} (refusal : Refusal) (before after : Outside W) (done : Done) : Type 0 where
+  pub status : done.status ≡ status_of refusal
+  pub detail : done.detail ≡ detail_of refusal
+  pub ends : done.ends ≡ []
+  pub journal : done.journal ≡ []
+  pub sources : done.sources ≡ []
+  pub wires : after.wires ≡ before.wires
+  pub said : Says (refusal_text refusal) before.host after.host
+  pub files : LeavesFiles before.host after.host

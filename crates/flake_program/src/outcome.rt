@@ -92,17 +92,12 @@ impl<S> Outcome<S> {
     ghost use Rattle.flake_program.specs.Refusals.{status_of, detail_of};
 
     /// An answer before any request ran.
-    pub fn unserved(
-        alloc: Global,
-        refusal: Refusal,
-        sources: Vec<Opened<S>>,
-        wires: Vec<Box<dyn Wire>>,
-    ) -> Self
+    pub fn unserved(alloc: Global, refusal: Refusal, wires: Vec<Box<dyn Wire>>) -> Self
         ensures status { result.status ≡ status_of refusal }
         ensures detail { result.detail ≡ detail_of refusal }
         ensures ends { result.ends.items ≡ [] }
         ensures journal { result.journal.items ≡ [] }
-        ensures sources { result.sources ≡ sources }
+        ensures sources { result.sources.items ≡ [] }
         ensures wires { result.wires ≡ wires }
     {
         Outcome {
@@ -110,7 +105,7 @@ impl<S> Outcome<S> {
             detail: refusal.detail(),
             ends: Ends::new(alloc),
             journal: Journal::new(alloc),
-            sources,
+            sources: Vec::new(alloc),
             wires,
         }
     }

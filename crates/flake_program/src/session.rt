@@ -1,12 +1,12 @@
 // One session, from its source to its wire.
 ghost use Rattle.std.specs.Prelude.{◌≡◌, ◌≢◌, ◌<◌, List, [], ℕ, Option, true, false, length, IfOk, IfErr};
 ghost use Rattle.std.specs.FinMap as finite;
-ghost use Rattle.flake_base.specs.Growth.{Grew};
+ghost use Rattle.flake_base.specs.Told.{Took, Flushed};
 ghost use Rattle.flake_model.specs.Command.{Command};
 ghost use Rattle.flake_model.specs.OneThread.{IsSharded};
 ghost use Rattle.flake_model.specs.Wire.{FaultIs};
 ghost use Rattle.flake_program.specs.Store.{Holds};
-ghost use Rattle.flake_program.specs.Session.{AreServing, HasReplied, HasStopped, HasRun};
+ghost use Rattle.flake_program.specs.Serving.{AreServing, HasReplied, HasStopped, HasServed};
 ghost use Rattle.flake_program.specs.Pump.{EndFaults};
 
 use crate::execute::execute;
@@ -24,15 +24,25 @@ pub struct Served<S> {
     pub source: S,
 }
 
-// Puts a text, unless a put failed before; answers whether one has failed.
+// Puts a text, unless the wire failed before; answers whether it has failed.
 fn send(wire: &mut dyn Wire, failed: bool, text: &[u8]) -> bool
     requires { 0 < length text.now }
-    ensures before { failed ≡ true → (result ≡ true) × (sent wire.new ≡ sent wire.old) × (put_faults wire.new ≡ put_faults wire.old) }
-    ensures whole { failed ≡ false → result ≡ false → Grew false text.now (sent wire.old) (sent wire.new) }
-    ensures front { failed ≡ false → result ≡ true → Grew true text.now (sent wire.old) (sent wire.new) }
-    ensures cause { failed ≡ false → FaultIs result (put_faults wire.old) (put_faults wire.new) }
+    ensures before { failed ≡ true → (result ≡ true) × (wire_told wire.new ≡ wire_told wire.old) }
+    ensures whole { failed ≡ false → result ≡ false → Took false text.now (wire_told wire.old) (wire_told wire.new) }
+    ensures front { failed ≡ false → result ≡ true → Took true text.now (wire_told wire.old) (wire_told wire.new) }
+    ensures cause { failed ≡ false → FaultIs result (wire_told wire.old).faults (wire_told wire.new).faults }
 {
     failed || wire.put(text).is_err()
+}
+
+// Flushes a wire that has not failed; answers whether it has failed.
+fn finish(wire: &mut dyn Wire, failed: bool) -> bool
+    ensures before { failed ≡ true → (result ≡ true) × (wire_told wire.new ≡ wire_told wire.old) }
+    ensures flushed { failed ≡ false → Flushed (wire_told wire.old) (wire_told wire.new) }
+    ensures all { result ≡ false → (wire_told wire.new).kept ≡ 0 }
+    ensures cause { failed ≡ false → FaultIs result (wire_told wire.old).faults (wire_told wire.new).faults }
+{
+    failed || wire.flush().is_err()
 }
 
 // Runs the next command, which has this number, and gives its reply's text; or says how the session ends.
@@ -43,9 +53,11 @@ fn step<S: Source>(
     histories: &mut Histories,
     call: u32,
 ) -> Result<Bytes, End>
-    ensures reply { IfOk result (λ text. (input : Option (List ℕ)) (before : ℕ) (given : List Command) → AreServing input before given call pump.old store.old histories.old
+    ensures reply { IfOk result (λ text. (input : Option (List ℕ)) (before : ℕ) (given : List Command)
+        → AreServing input before given call pump.old store.old histories.old
         → HasReplied input before given text.items pump.new store.new histories.new) }
-    ensures end { IfErr result (λ end. (input : Option (List ℕ)) (before : ℕ) (given : List Command) → AreServing input before given call pump.old store.old histories.old
+    ensures end { IfErr result (λ end. (input : Option (List ℕ)) (before : ℕ) (given : List Command)
+        → AreServing input before given call pump.old store.old histories.old
         → HasStopped input before given end pump.new histories.new) }
     ensures some { IfOk result (λ text. 0 < length text.items) }
     ensures shards { length histories.new ≡ length histories.old }
@@ -63,8 +75,8 @@ fn step<S: Source>(
     Ok(text)
 }
 
-/// Runs the commands of a source in order and puts their replies, to its end or until memory is wanting. After a
-/// failed put nothing more is put, and all commands are still run.
+/// Runs the commands of a source in order and puts their replies, to its end or until memory is wanting, and then
+/// flushes the wire. After a failed put nothing more is put, and all commands are still run.
 pub fn serve<S: Source>(
     alloc: Global,
     source: S,
@@ -74,10 +86,11 @@ pub fn serve<S: Source>(
 ) -> Served<S>
     requires store { Holds store finite.empty }
     requires histories { IsSharded [] histories }
-    ensures ran { HasRun (S.left source) result.end result.histories (sent wire.old) (sent wire.new) }
+    ensures served { HasServed (S.left source) (S.left result.source) result.end result.histories
+        (wire_told wire.old) (wire_told wire.new) }
     ensures reads { EndFaults result.end.end (S.read_faults source) (S.read_faults result.source) }
-    ensures puts { FaultIs result.end.failed (put_faults wire.old) (put_faults wire.new) }
-    ensures in_order { result.end.end ≢ End.Left }
+    ensures flushed { result.end.failed ≡ false → (wire_told wire.new).kept ≡ 0 }
+    ensures to_the_end { result.end.end ≢ End.Left }
     ensures shards { length result.histories ≡ length histories }
 {
     let mut pump = Pump::new(alloc, source);
@@ -98,7 +111,7 @@ pub fn serve<S: Source>(
         end,
         taken: pump.taken(),
         replies,
-        failed,
+        failed: finish(wire, failed),
     };
     Served {
         end,

@@ -1,13 +1,11 @@
 // A source that is served to the first wire.
-ghost use Rattle.std.specs.Prelude.{◌≡◌, ◌≢◌, ◌<◌, ◌∷◌, [], length, map, IfOk, IfSome};
+ghost use Rattle.std.specs.Prelude.{◌≡◌, ◌≢◌, ◌<◌, ◌∷◌, [], length, false, IfOk};
 ghost use Rattle.std.specs.FinMap as finite;
 ghost use Rattle.flake_model.specs.OneThread.{IsSharded};
-ghost use Rattle.flake_model.specs.Run.{WasServed};
-ghost use Rattle.flake_model.specs.Wire.{FaultIs, FaultsAre};
 ghost use Rattle.flake_program.specs.Histories.{histories};
 ghost use Rattle.flake_program.specs.Pump.{EndFaults};
 ghost use Rattle.flake_program.specs.Room.{IsFresh};
-ghost use Rattle.flake_program.specs.Session.{HasRun};
+ghost use Rattle.flake_program.specs.Serving.{HasServed, IsRun};
 ghost use Rattle.flake_program.specs.Store.{Holds};
 
 use crate::journal::Histories;
@@ -55,10 +53,11 @@ fn serve_boxed<S: Source>(
 ) -> Served<S>
     requires store { Holds store finite.empty }
     requires histories { IsSharded [] histories }
-    ensures ran { HasRun (S.left source) result.end result.histories (sent wire.old) (sent wire.new) }
+    ensures served { HasServed (S.left source) (S.left result.source) result.end result.histories
+        (wire_told wire.old) (wire_told wire.new) }
     ensures reads { EndFaults result.end.end (S.read_faults source) (S.read_faults result.source) }
-    ensures puts { FaultIs result.end.failed (put_faults wire.old) (put_faults wire.new) }
-    ensures in_order { result.end.end ≢ End.Left }
+    ensures flushed { result.end.failed ≡ false → (wire_told wire.new).kept ≡ 0 }
+    ensures to_the_end { result.end.end ≢ End.Left }
     ensures shards { length result.histories ≡ length histories }
 {
     serve(alloc, source, store, histories, &mut **wire)
@@ -73,13 +72,12 @@ pub fn serve_source<S: Source>(
 ) -> Ran<S>
     requires wires { 0 < length wires.old.items }
     requires room { IsFresh room }
-    ensures served { IfSome (S.left source) (λ bytes.
-        WasServed (bytes ∷ []) result.ends.items (histories result.journal.items) (map (λ w. sent w) wires.old.items) (map (λ w. sent w) wires.new.items)) }
+    ensures run { IsRun (S.left source) (S.left result.source) result.end (histories result.journal.items)
+        wires.old.items wires.new.items (λ w. wire_told w) }
     ensures ends { result.ends.items ≡ result.end ∷ [] }
-    ensures in_order { result.end.end ≢ End.Left }
-    ensures shards { length result.journal.items ≡ 8 }
     ensures reads { EndFaults result.end.end (S.read_faults source) (S.read_faults result.source) }
-    ensures faults { FaultsAre (result.end.failed ∷ []) (map (λ w. put_faults w) wires.old.items) (map (λ w. put_faults w) wires.new.items) }
+    ensures to_the_end { result.end.end ≢ End.Left }
+    ensures shards { length result.journal.items ≡ 8 }
 {
     let Room {
         store,

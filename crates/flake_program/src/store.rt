@@ -1,15 +1,19 @@
 // The values of all keys, each in the table of its shard.
 ghost use Rattle.std.specs.Prelude.{◌≡◌, ◌<◌, IfOk, OnOk, OnErr, length};
 ghost use Rattle.std.specs.FinMap as finite;
-ghost use Rattle.flake_model.specs.Store.{Store as Meaning, Operation, found, answer, after};
+ghost use Rattle.flake_model.specs.Store as model;
+ghost use Rattle.flake_model.specs.Store.{Store as Meaning, Operation, value, found, answer, answer_on, after};
+ghost use Rattle.flake_model.specs.Range.{range_of};
 ghost use Rattle.shard_store.specs.Parts.{operation_of};
-ghost use Rattle.flake_program.specs.Table.{bytes_at, answer_on, value_after, HasChanged, HasKept};
+ghost use Rattle.shard_store.specs.Settings.{set_by};
+ghost use Rattle.flake_program.specs.Table.{bytes_at, HasDone, HasKept};
 ghost use Rattle.flake_program.specs.Store.{Holds, answer_meant};
 
-use crate::table::{Table, append, contains, get, remove, set};
+use crate::table::{Table, append, contains, get, put, remove};
 use flake_base::{Bytes, Memory};
 use indexmap::IndexMap;
-use shard_store::{Part, PartOp, shard_of};
+use range_pick::{Span, span};
+use shard_store::{Part, PartOp, Setting, shard_of};
 use std::alloc::Global;
 use std::marker::Model;
 
@@ -62,8 +66,10 @@ impl Store {
 
     /// Does a part in the table of its key's shard. After want of memory the store is as it was.
     pub fn run(&mut self, alloc: Global, part: &Part<'_>) -> Result<PartAnswer, Memory>
-        ensures answer { (store : Meaning) → Holds self.old store → IfOk result (λ a. answer_meant a ≡ answer store (operation_of part.now)) }
-        ensures after { (store : Meaning) → Holds self.old store → OnOk result (Holds self.new (after store (operation_of part.now))) }
+        ensures answer { (store : Meaning) → Holds self.old store
+            → IfOk result (λ a. answer_meant a ≡ answer store (operation_of part.now)) }
+        ensures after { (store : Meaning) → Holds self.old store
+            → OnOk result (Holds self.new (after store (operation_of part.now))) }
         ensures memory { (store : Meaning) → Holds self.old store → OnErr result (Holds self.new store) }
     {
         let shard = shard_of(part.key, SHARDS) as usize;
@@ -74,23 +80,53 @@ impl Store {
 
 // Does a part in a table.
 fn run_on(alloc: Global, table: &mut Table, part: &Part<'_>) -> Result<PartAnswer, Memory>
-    ensures answer { IfOk result (λ a. answer_meant a ≡ answer_on (bytes_at part.now.key.now table.old.entries) (operation_of part.now)) }
-    ensures after { OnOk result (HasChanged part.now.key.now (value_after (bytes_at part.now.key.now table.old.entries) (operation_of part.now)) table.old.entries table.new.entries) }
+    ensures answer { IfOk result (λ a. answer_meant a
+        ≡ answer_on (bytes_at part.now.key.now table.old.entries) (operation_of part.now)) }
+    ensures after { OnOk result
+        (HasDone part.now.key.now (operation_of part.now) table.old.entries table.new.entries) }
     ensures memory { OnErr result (HasKept table.old.entries table.new.entries) }
 {
+    if let Some(setting) = part.op.setting() {
+        return set_as(alloc, table, part.key, part.value, setting);
+    }
     match part.op {
         PartOp::Get => copied(alloc, table, part.key),
-        PartOp::Set => {
-            set(alloc, table, part.key, part.value)?;
-            Ok(PartAnswer::Done)
-        }
         PartOp::Append => match append(alloc, table, part.key, part.value)? {
             Some(length) => Ok(PartAnswer::Length(length)),
             None => Ok(PartAnswer::TooLong),
         },
         PartOp::Del => Ok(PartAnswer::Did(remove(table, part.key))),
         PartOp::Exists => Ok(PartAnswer::Did(contains(table, part.key))),
+        PartOp::StrLen => Ok(PartAnswer::Length(bytes_of(table, part.key).len() as u64)),
+        PartOp::GetRange { start, end } => range_copied(alloc, table, part.key, start, end),
+        _ => unreachable!(),
     }
+}
+
+// Sets a key where the setting says so. Asked for it, it answers what the key had before.
+fn set_as(
+    alloc: Global,
+    table: &mut Table,
+    key: &[u8],
+    value: &[u8],
+    setting: Setting,
+) -> Result<PartAnswer, Memory>
+    ensures answer { IfOk result (λ a. answer_meant a
+        ≡ answer_on (bytes_at key.now table.old.entries) (set_by setting key.now value.now)) }
+    ensures after { OnOk result
+        (HasDone key.now (set_by setting key.now value.now) table.old.entries table.new.entries) }
+    ensures memory { OnErr result (HasKept table.old.entries table.new.entries) }
+{
+    let stores = setting.when.stores(contains(table, key));
+    let answer = match (setting.asks, stores) {
+        (true, _) => copied(alloc, table, key)?,
+        (false, true) => PartAnswer::Done,
+        (false, false) => PartAnswer::Null,
+    };
+    if stores {
+        put(alloc, table, key, value)?;
+    }
+    Ok(answer)
 }
 
 // A copy of a key's value.
@@ -101,4 +137,32 @@ fn copied(alloc: Global, table: &Table, key: &[u8]) -> Result<PartAnswer, Memory
         Some(value) => Ok(PartAnswer::Bulk(Bytes::from_slice(alloc, value.as_slice())?)),
         None => Ok(PartAnswer::Null),
     }
+}
+
+// The bytes of a key's value; a missing key has none.
+fn bytes_of<'a>(table: &'a Table, key: &[u8]) -> &'a [u8]
+    ensures { result.now ≡ model.bytes_of (bytes_at key.now table.now.entries) }
+{
+    match get(table, key) {
+        Some(value) => value.as_slice(),
+        None => &[],
+    }
+}
+
+// A copy of the bytes of a key's value from one place to another.
+fn range_copied(
+    alloc: Global,
+    table: &Table,
+    key: &[u8],
+    start: i64,
+    end: i64,
+) -> Result<PartAnswer, Memory>
+    ensures { IfOk result (λ a. answer_meant a
+        ≡ value (range_of (model.bytes_of (bytes_at key.now table.now.entries)) start end)) }
+{
+    let bytes = bytes_of(table, key);
+    let Span { from, len } = span(bytes.len() as u64, start, end);
+    let from = from as usize;
+    let bytes = &bytes[from..from + len as usize];
+    Ok(PartAnswer::Bulk(Bytes::from_slice(alloc, bytes)?))
 }

@@ -24,7 +24,7 @@ pub fn contains(table: &Table, key: &[u8]) -> bool
 }
 
 /// Gives a key a value; after want of memory the table is as it was.
-pub fn set(alloc: Global, table: &mut Table, key: &[u8], value: &[u8]) -> Result<(), Memory>
+pub fn put(alloc: Global, table: &mut Table, key: &[u8], value: &[u8]) -> Result<(), Memory>
     ensures ok { OnOk result (HasChanged key.now (Some value.now) table.old.entries table.new.entries) }
     ensures err { OnErr result (table.new.entries ≡ table.old.entries) }
 {
@@ -59,7 +59,8 @@ pub fn append(
     bytes: &[u8],
 ) -> Result<Option<u64>, Memory>
     ensures length { IfOk result (λ count. count ≡ appended_length (bytes_at key.now table.old.entries) bytes.now) }
-    ensures ok { OnOk result (HasChanged key.now (after_append (bytes_at key.now table.old.entries) bytes.now) table.old.entries table.new.entries) }
+    ensures ok { OnOk result (HasChanged key.now (after_append (bytes_at key.now table.old.entries) bytes.now)
+        table.old.entries table.new.entries) }
     ensures err { OnErr result (HasKept table.old.entries table.new.entries) }
 {
     match table.get_mut(key) {

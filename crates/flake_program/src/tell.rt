@@ -1,31 +1,43 @@
 // What is said.
-ghost use Rattle.std.specs.Prelude.{◌≡◌, ◌≢◌, ◌<◌, ◌⊎◌, ◌∷◌, [], List, ℕ, length, true, false};
+ghost use Rattle.std.specs.Prelude.{◌≡◌, ◌≢◌, ◌<◌, ◌⊎◌, ◌∷◌, [], length, map, true, false};
 ghost use Rattle.flake_base.specs.Causes.{Rose, HasCause};
 ghost use Rattle.flake_model.specs.Said.{summary_from};
-ghost use Rattle.flake_program.specs.Refusals.{refusal_text};
-ghost use Rattle.flake_program.specs.Statuses.{status_by};
-ghost use Rattle.flake_program.specs.Told.{Says};
+ghost use Rattle.flake_program.specs.Causes.{status_by};
+ghost use Rattle.flake_program.specs.Outside.{LeavesFiles, outside};
+ghost use Rattle.flake_program.specs.Outcome.{done, source_told};
+ghost use Rattle.flake_program.specs.Refusals.{IsRefused};
+ghost use Rattle.flake_program.specs.Said.{Says};
 
-use crate::outcome::{BAD_SESSION, OUT_OF_MEMORY, READ_FAULT, Refusal, SERVED, WRITE_FAULT};
+use crate::outcome::{
+    BAD_SESSION, OUT_OF_MEMORY, Outcome, READ_FAULT, Refusal, SERVED, WRITE_FAULT,
+};
 use crate::summary::summary;
-use flake_base::{End, Failed, Host, SessionEnd};
+use flake_base::{End, Failed, Host, SessionEnd, Source, Wire};
 use std::alloc::Global;
 
 fn tell<H: Host>(host: &mut H, text: &str) -> Result<(), Failed>
     requires { 0 < length text.now }
-    ensures said { Says text.now (H.said host.old) (H.said host.new) (H.say_faults host.old) (H.say_faults host.new) }
-    ensures opens { (name : List ℕ) → H.open_faults host.new name ≡ H.open_faults host.old name }
-    ensures cause { HasCause (H.say_faults host.old) (H.say_faults host.new) result }
+    ensures said { Says text.now (H.host_told host.old) (H.host_told host.new) }
+    ensures files { LeavesFiles (H.host_told host.old) (H.host_told host.new) }
+    ensures cause { HasCause (H.host_told host.old).say_faults (H.host_told host.new).say_faults result }
 {
     host.say(text.as_bytes())
 }
 
-/// Says why nothing is served. Where that fails, the host has counted it.
-pub fn refuse<H: Host>(host: &mut H, refusal: Refusal)
-    ensures said { Says (refusal_text refusal) (H.said host.old) (H.said host.new) (H.say_faults host.old) (H.say_faults host.new) }
-    ensures opens { (name : List ℕ) → H.open_faults host.new name ≡ H.open_faults host.old name }
+/// Says why nothing is served, and answers that. Where saying it fails, the host has counted it.
+pub fn refuse<H: Host>(
+    alloc: Global,
+    host: &mut H,
+    refusal: Refusal,
+    wires: Vec<Box<dyn Wire>>,
+) -> Outcome<H::In>
+    ensures { IsRefused refusal (outside (H.host_told host.old) wires.items (λ w. wire_told w))
+        (outside (H.host_told host.new) result.wires.items (λ w. wire_told w))
+        (done result.status result.detail result.ends.items result.journal.items
+        (map (λ s. source_told s.file (H.In.left s.source) (H.In.read_faults s.source)) result.sources.items)) }
 {
     let _ = tell(host, refusal.text());
+    Outcome::unserved(alloc, refusal, wires)
 }
 
 // The status of a session that ended so, where nothing else failed.
@@ -42,10 +54,12 @@ fn status_by_end(end: End) -> u8
 
 /// Says how a session ended, and answers the status.
 pub fn report<H: Host>(alloc: Global, host: &mut H, end: &SessionEnd) -> u8
-    ensures said { result ≢ 6 → Says (summary_from 0 (end.now ∷ [])) (H.said host.old) (H.said host.new) (H.say_faults host.old) (H.say_faults host.new) }
-    ensures opens { (name : List ℕ) → H.open_faults host.new name ≡ H.open_faults host.old name }
-    ensures by_end { result ≢ 5 → result ≢ 6 → (result ≡ status_by end.now.end) × (end.now.failed ≡ false) × (H.say_faults host.new ≡ H.say_faults host.old) }
-    ensures failed { result ≡ 5 → (status_by end.now.end ≢ 6) × ((end.now.failed ≡ true) ⊎ Rose (H.say_faults host.old) (H.say_faults host.new)) }
+    ensures said { result ≢ 6 → Says (summary_from 0 (end.now ∷ [])) (H.host_told host.old) (H.host_told host.new) }
+    ensures files { LeavesFiles (H.host_told host.old) (H.host_told host.new) }
+    ensures by_end { result ≢ 5 → result ≢ 6 → (result ≡ status_by end.now.end) × (end.now.failed ≡ false)
+        × ((H.host_told host.new).say_faults ≡ (H.host_told host.old).say_faults) }
+    ensures failed { result ≡ 5 → (status_by end.now.end ≢ 6)
+        × ((end.now.failed ≡ true) ⊎ Rose (H.host_told host.old).say_faults (H.host_told host.new).say_faults) }
     ensures statuses { (result ≡ 0) ⊎ (result ≡ 3) ⊎ (result ≡ 4) ⊎ (result ≡ 5) ⊎ (result ≡ 6) }
 {
     let Ok(text) = summary(alloc, end) else {

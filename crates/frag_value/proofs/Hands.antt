@@ -1,5 +1,5 @@
 -- A value that is handed on, fragment by fragment.
-use Rattle.std.proofs.Common.{◌≡◌, ℕ, zero, suc, ◌+◌, ◌-◌, ◌*◌, ◌<◌, ◌≤◌, List, [], ◌∷◌, ◌++◌, length, take, Some, sym, refl, ap, subst, add-one, arith}
+use Rattle.std.proofs.Common.{◌≡◌, ℕ, zero, suc, ◌+◌, ◌-◌, ◌*◌, ◌<◌, ◌≤◌, List, [], ◌∷◌, ◌++◌, false, length, take, Some, sym, refl, ap, subst, add-one, arith}
 use Rattle.std.specs.List.{slice_get}
 use Rattle.std.proofs.lemmas.List.{length-take}
 use Rattle.pin_core.specs.Holding.{Holding, Key}
@@ -7,10 +7,11 @@ use Rattle.view_sums.specs.Total.{total, Each}
 use Rattle.pinned_pool.specs.Moves.{times, front_of}
 use Rattle.pinned_pool.specs.declared.view.View.{View}
 use Rattle.frag_value.proofs.Sames.{same-yes}
-use Rattle.frag_value.specs.Values.{IsCut, IsFilled, frag_bytes, size_of, uses, loose_key, HasValue, unmarked_view}
+use Rattle.frag_value.specs.Values.{IsCut, IsFilled, frag_bytes, size_of, uses, HasValue, unmarked_view}
+use Rattle.pinned_pool.specs.Moves.{loose_key}
 use Rattle.pin_core.specs.declared.sizes.Sizes.{Sizes}
-use Rattle.frag_value.specs.Bytes.{bytes_of}
-use Rattle.frag_value.specs.Taken.{Placed, Begun, placed, placed_all, IsNext}
+use Rattle.pinned_pool.specs.Bytes.{bytes_of}
+use Rattle.frag_value.specs.Taken.{Placed, Begun, entire, placed, placed_all, IsNext}
 use Rattle.frag_value.proofs.Unmarked.{same_front, same_times}
 
 pub length-bytes : (ws : List ℕ) → length (bytes_of ws) ≡ 8 * length ws
@@ -32,17 +33,17 @@ length-frag hs p f = omega (arith, length-take p.1 (bytes_of (front_of p.0 hs)),
 
 module _ (z : Sizes) (hs : List Holding) where
   abbrev pub so_far : ℕ → List (ℕ × ℕ) → Begun
-  so_far n v = record { size = n; frags = placed_all z hs v }
+  so_far n v = record { extent = entire; size = n; frags = placed_all z hs v }
 
-  pub next : (n i : ℕ) (v : List (ℕ × ℕ)) (p : ℕ × ℕ) → IsCut n v → Each (IsFilled hs) v → slice_get v i ≡ Some p → IsNext p.1 (so_far n (take i v)) × (0 < p.1) × (4096 * i < n)
+  pub next : (n i : ℕ) (v : List (ℕ × ℕ)) (p : ℕ × ℕ) → IsCut n v → Each (IsFilled hs) v → slice_get v i ≡ Some p → IsNext 0 p.1 (so_far n (take i v)) × (0 < p.1) × (4096 * i < n)
   next n i [] p cut filled e = absurd (cc)
   next n zero (q ∷ v) p cut filled e =
       let yes : q ≡ p = cc in
       let len = ap (λ (x : ℕ × ℕ). x.1) yes in
-      ((tt, omega (arith, len, cut.0, cut.1)), omega (arith, len, cut.0, cut.1), omega (arith, cut.0))
+      ((refl, tt, omega (arith, len, cut.0, cut.1)), omega (arith, len, cut.0, cut.1), omega (arith, cut.0))
   next n (suc i) (q ∷ v) p cut filled e =
       let rest = next (n - 4096) i v p cut.2 filled.1 e in
-      (((omega (arith, length-frag hs q filled.0, cut.1, rest.2), rest.0.0), omega (arith, rest.0.1, rest.2)), rest.1, omega (arith, rest.2))
+      ((refl, (omega (arith, length-frag hs q filled.0, cut.1, rest.2), rest.0.1), omega (arith, rest.0.2, rest.2)), rest.1, omega (arith, rest.2))
 
   pub taken-all : (v : List (ℕ × ℕ)) → Each (IsFilled hs) v → total (λ (f : Placed). length f.bytes) (placed_all z hs v) ≡ size_of v
   taken-all [] f = refl
@@ -57,7 +58,7 @@ module _ (z : Sizes) (hs : List Holding) where
   one_more v i p e = rw add-one (another v i p e)
 
 pub same_placed : (z : Sizes) (v w : View) (p : ℕ × ℕ) → unmarked_view w ≡ unmarked_view v → placed z w.holds p ≡ placed z v.holds p
-same_placed z v w p e = ap (λ f. let r : Placed = record { address = (placed z v.holds p).address; bytes = take p.1 (bytes_of f) } in r) (same_front p.0 v w e)
+same_placed z v w p e = ap (λ f. let r : Placed = record { address = (placed z v.holds p).address; offset = 0; bytes = take p.1 (bytes_of f); over = false } in r) (same_front p.0 v w e)
 
 -- at a fragment of a value, whatever was shared since
 module _ (v w : View) (x : List (ℕ × ℕ)) (i : ℕ) (p : ℕ × ℕ) (same : unmarked_view w ≡ unmarked_view v) (has : HasValue v.holds x) (at : slice_get x i ≡ Some p) where

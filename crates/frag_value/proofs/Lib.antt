@@ -1,13 +1,12 @@
 pub mod Sames
 pub mod Lists
-pub mod Words
 pub mod Parts
 pub mod Fronts
 pub mod Unmarked
 pub mod Hands
 pub mod Cuts
 pub mod Ready
-pub mod WordByWord
+pub mod FilledBuffer
 pub mod Framed
 pub mod Fronted
 pub mod Written
@@ -15,7 +14,8 @@ pub mod Released
 pub mod FilledEach
 pub mod ReadBack
 pub mod Ends
-pub mod Unclaimed
 pub mod ByClass
 pub mod Placed
 pub mod Appended
+pub mod HandsOver
+pub mod Seeking

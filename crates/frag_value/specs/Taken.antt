@@ -1,43 +1,112 @@
 -- What a taker was given.
-use Rattle.std.specs.Prelude.{◌≡◌, ℕ, ◌+◌, ◌*◌, ◌≤◌, List, [], ◌∷◌, ◌++◌, ◌⊎◌, length, map}
+use Rattle.std.specs.Prelude.{◌≡◌, ℕ, ◌+◌, ◌*◌, ◌<◌, ◌≤◌, List, [], ◌∷◌, ◌++◌, ◌⊎◌, Bool, true, false, length, map, take, drop}
 use Rattle.view_sums.specs.Total.{total, Each}
-use Rattle.pin_core.specs.Holding.{Holding}
+use Rattle.pin_core.specs.Holding.{Holding, Key}
 use Rattle.pin_core.specs.declared.sizes.Sizes.{Sizes}
 use Rattle.pinned_pool.specs.Addresses.{address_of}
-use Rattle.pinned_pool.specs.Moves.{sharing}
+use Rattle.pinned_pool.specs.Moves.{sharing, without, left_by, front_of}
 use Rattle.pinned_pool.specs.declared.view.View.{View}
-use Rattle.frag_value.specs.Values.{frag_bytes}
+use Rattle.pinned_pool.specs.Bytes.{bytes_of}
+use Rattle.frag_value.specs.Fragments.{frag_limit, frags_limit}
+use Rattle.frag_value.specs.Values.{keys_of, size_of}
 
--- a fragment as a device finds it
+-- a run of bytes of one stored fragment, as a device finds it
 pub record Placed : Type 0 where
+  -- of the fragment's first byte
   pub address : ℕ
+  -- where the run begins in the fragment
+  pub offset : ℕ
   pub bytes : List ℕ
+  -- whether the fragment's hold came with it
+  pub over : Bool
 
--- a value of this length, with the fragments that were taken of it so far
+-- a value is taken whole, or a range of it
+pub data Extent : Type 0 where
+  entire : Extent
+  ranged : Extent
+
+-- so many bytes of a value, with the runs that were taken of it so far
 pub record Begun : Type 0 where
+  pub extent : Extent
   pub size : ℕ
   pub frags : List Placed
+
+abbrev pub begun_with : Extent → ℕ → Begun
+begun_with e n = record { extent = e; size = n; frags = [] }
 
 pub data Piece : Type 0 where
   copied : List ℕ → Piece
   whole : Begun → Piece
 
+-- n bytes of the buffer b, from an offset on
+abbrev pub placed_part : Sizes → List Holding → ℕ → ℕ → ℕ → Placed
+placed_part z hs b from n =
+    record { address = address_of z b; offset = from; bytes = take n (drop from (bytes_of (front_of b hs))); over = false }
+
 abbrev pub placed : Sizes → List Holding → ℕ × ℕ → Placed
-placed z hs p = record { address = address_of z p.0; bytes = frag_bytes hs p }
+placed z hs p = placed_part z hs p.0 0 p.1
 
 abbrev pub placed_all : Sizes → List Holding → List (ℕ × ℕ) → List Placed
 placed_all z hs v = map (placed z hs) v
 
-abbrev pub more : Placed → Begun → Begun
-more f b = record { size = b.size; frags = b.frags ++ f ∷ [] }
+abbrev pub taken_over : Placed → Placed
+taken_over f = record f { over = true }
 
--- a fragment of n bytes may come next
-abbrev pub IsNext : ℕ → Begun → Type 0
-IsNext n b = Each (λ (f : Placed). length f.bytes ≡ 4096) b.frags × (4096 * length b.frags + n ≤ b.size)
+abbrev pub placed_over : Sizes → List Holding → ℕ × ℕ → Placed
+placed_over z hs p = taken_over (placed z hs p)
+
+abbrev pub over_all : Sizes → List Holding → List (ℕ × ℕ) → List Placed
+over_all z hs v = map (placed_over z hs) v
+
+abbrev pub more : Placed → Begun → Begun
+more f b = record b { frags = b.frags ++ f ∷ [] }
+
+abbrev pub IsFull : Placed → Type 0
+IsFull f = length f.bytes ≡ frag_limit
+
+abbrev pub behind_first : List Placed → List Placed
+behind_first [] = []
+behind_first (f ∷ fs) = fs
+
+abbrev pub bytes_in : List Placed → ℕ
+bytes_in fs = total (λ (f : Placed). length f.bytes) fs
+
+abbrev pub MayFollow : Extent → ℕ → ℕ → ℕ → List Placed → Type 0
+MayFollow entire from n size fs = (from ≡ 0) × Each IsFull fs × (frag_limit * length fs + n ≤ size)
+MayFollow ranged from n size fs = (length fs < frags_limit) × Each IsFull (behind_first fs) × (bytes_in fs + n ≤ size)
+
+-- n bytes from this offset of a fragment on may come next
+abbrev pub IsNext : ℕ → ℕ → Begun → Type 0
+IsNext from n b = MayFollow b.extent from n b.size b.frags
 
 abbrev pub taken_bytes : Begun → ℕ
-taken_bytes b = total (λ (f : Placed). length f.bytes) b.frags
+taken_bytes b = bytes_in b.frags
 
 -- the owner is as before, but its holds of the buffer may have become shared
-abbrev pub MaySharing : ℕ → View → View → Type 0
-MaySharing b v w = (w ≡ v) ⊎ (w ≡ sharing b v)
+abbrev pub MayShare : ℕ → View → View → Type 0
+MayShare b v w = (w ≡ v) ⊎ (w ≡ sharing b v)
+
+-- the owner lost this hold, which may have been its buffer's last, and nothing else
+pub record Loses (k : Key) (old new : View) : Type 0 where
+  pub holds : new.holds ≡ without k old.holds
+  pub credits : new.credits ≡ old.credits
+  pub claims : new.claims ≡ old.claims
+  pub looks : new.looks ≡ old.looks
+  pub returns : new.returns ≡ old.returns
+  pub lasts : (more : List ℕ) × (new.lasts ≡ old.lasts ++ more)
+
+-- the owner lost all holds of the value, and nothing else
+pub record HandsOver (v : List (ℕ × ℕ)) (old new : View) : Type 0 where
+  pub holds : new.holds ≡ left_by (keys_of v) old.holds
+  pub credits : new.credits ≡ old.credits
+  pub claims : new.claims ≡ old.claims
+  pub looks : new.looks ≡ old.looks
+  pub returns : new.returns ≡ old.returns
+  pub lasts : (more : List ℕ) × (new.lasts ≡ old.lasts ++ more)
+
+-- so many of a value's fragments were handed over, and these are left
+pub record OverSoFar {B : Type 0} (z : Sizes) (v rest : List (ℕ × ℕ)) (old now : View) (begun : B) (some : Begun → B) : Type 0 where
+  pub over : List (ℕ × ℕ)
+  pub parts : v ≡ over ++ rest
+  pub begun_is : begun ≡ some (record { extent = entire; size = size_of v; frags = over_all z old.holds over })
+  pub owner : HandsOver over old now

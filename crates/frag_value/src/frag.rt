@@ -1,7 +1,8 @@
-ghost use Rattle.std.specs.Prelude.{◌≡◌, ◌<◌, length, slice_get};
-ghost use Rattle.frag_value.specs.Values.{size_of, loose_key, IsValue};
+ghost use Rattle.std.specs.Prelude.{◌≡◌, ◌<◌, ◌↔◌, [], ◌∷◌, length, slice_get, IfSome, IfNone, IsNone};
+ghost use Rattle.frag_value.specs.Values.{size_of, IsValue};
+ghost use Rattle.pinned_pool.specs.Moves.{loose_key};
 
-use pinned_pool::{Hold, PoolName};
+use pinned_pool::{Hold, NamesHolds, PoolName};
 use std::marker::Model;
 
 /// Bytes at the beginning of a buffer.
@@ -19,15 +20,16 @@ pub struct Value<N: PoolName> {
 }
 
 impl<N: PoolName> Model for Value<N> {
-    ghost use Rattle.std.specs.Prelude.{◌≡◌, ℕ, List, map, vec_capacity};
+    ghost use Rattle.std.specs.Prelude.{◌≡◌, ℕ, List, map};
     ghost use Rattle.view_sums.specs.Total.{Each};
-    ghost use Rattle.frag_value.specs.Values.{loose_key, IsValueOf};
+    ghost use Rattle.frag_value.specs.Values.{IsValueOf};
+    ghost use Rattle.pinned_pool.specs.Moves.{loose_key};
 
     ghost Value = { List (ℕ × ℕ) };
 
     ghost view = { λ v. map (λ f. (f.hold.buffer, f.len)) v.frags.items };
 
-    ghost invariant = { λ v. Each (λ f. f.hold ≡ loose_key f.hold.buffer) v.frags.items × IsValueOf N.sizes v.len (vec_capacity v.frags) (map (λ f. (f.hold.buffer, f.len)) v.frags.items) };
+    ghost invariant = { λ v. Each (λ f. f.hold ≡ loose_key f.hold.buffer) v.frags.items × IsValueOf N.sizes v.len (map (λ f. (f.hold.buffer, f.len)) v.frags.items) };
 }
 
 impl<N: PoolName> Value<N> {
@@ -55,10 +57,36 @@ impl<N: PoolName> Value<N> {
         &self.frags[i]
     }
 
+    /// Takes the first fragment out, with its hold.
+    pub fn next_frag(&mut self) -> Option<Frag<N>>
+        ensures some { IfSome result (λ f. (self.old ≡ (f.hold.buffer, f.len) ∷ self.new) × (f.hold ≡ loose_key f.hold.buffer)) }
+        ensures none { IsNone result ↔ (self.old ≡ []) }
+        ensures rest { IfNone result (self.new ≡ self.old) }
+    {
+        if self.frags.is_empty() {
+            return None;
+        }
+        let frag = self.frags.remove(0);
+        self.len -= u64::from(frag.len);
+        Some(frag)
+    }
+
     /// Does nothing, and tells a proof what is true of every value.
     pub fn is_value(&self)
         ensures { IsValue N.sizes self.now }
     {
         let _ = &self.len;
     }
+}
+
+impl<'a, N: PoolName> NamesHolds for &'a Frag<N> {
+    ghost use Rattle.std.specs.Prelude.{[], ◌∷◌};
+
+    ghost keys = { λ frag. frag.now.hold ∷ [] };
+}
+
+impl<'a, N: PoolName> NamesHolds for &'a Value<N> {
+    ghost use Rattle.frag_value.specs.Values.{keys_of};
+
+    ghost keys = { λ value. keys_of value.now };
 }

@@ -1,27 +1,27 @@
 ghost use Rattle.std.specs.Prelude.{◌≡◌, ℕ, false, true, ◌+◌, ◌*◌, ◌<◌, ◌≤◌, [], ◌∷◌, length, vec_len, vec_capacity, IfSome, IfOk, IfErr, OnOk};
-ghost use Rattle.pinned_pool.specs.Moves.{times, front_of};
-ghost use Rattle.frag_value.specs.Values.{HasValue, size_of};
+ghost use Rattle.frag_value.specs.Fragments.{value_limit};
 
 mod copier;
 
-use crate::read::read_frag;
 use crate::{
-    AppendError, Frag, PlaceError, VALUE_LIMIT, Value, append, fill, hand, read_into, release,
+    AppendError, PlaceError, VALUE_LIMIT, Value, append, fill, hand, hand_over, read_into, release,
     write,
 };
 use copier::Copier;
 use flake_base::Memory;
-use pinned_pool::{Class, Held, Hold, NoBuffer, Pool, PoolBlank, PoolName, PoolSeat, Unpinned};
+use pinned_pool::{Class, Held, NoBuffer, Pool, PoolBlank, PoolName, PoolSeat, Unpinned};
 use std::alloc::Global;
 use std::marker::Brand;
 use std::process::Abort;
 use std::test::Fail;
 
-const LENGTHS: [usize; 13] = [0, 1, 7, 8, 9, 511, 512, 513, 4095, 4096, 4097, 8192, 16384];
+const LENGTHS: [usize; 16] = [
+    0, 1, 7, 8, 9, 511, 512, 513, 4095, 4096, 4097, 8192, 16385, 61440, 65535, 65536,
+];
 
 // So many bytes from this one on, which repeat after 251.
 fn sample(alloc: Global, len: usize, first: usize) -> Result<Vec<u8>, Memory>
-    requires { (len ≤ 16384) × (first < 256) }
+    requires { (len ≤ value_limit) × (first < 256) }
     ensures { IfOk result (λ v. vec_len v ≡ len) }
 {
     let mut bytes = Vec::with_capacity(alloc, len)?;
@@ -48,7 +48,7 @@ fn keep<N: PoolName>(
     more: &[u8],
 ) -> Result<Kept, Memory>
     requires name { (blank.table ≡ N.table) × (blank.sizes ≡ N.sizes) }
-    requires few { length first.now ≤ 16384 }
+    requires few { length first.now ≤ value_limit }
 {
     let (pool, mut seat) = blank.name::<N>();
     let Ok(value) = write(alloc, &pool, &mut seat, first) else {
@@ -71,7 +71,7 @@ fn keep<N: PoolName>(
 }
 
 fn keep_both(alloc: Global, blank: PoolBlank, first: &[u8], more: &[u8]) -> Result<Kept, Memory>
-    requires { length first.now ≤ 16384 }
+    requires { length first.now ≤ value_limit }
 {
     keep::<Brand>(alloc, blank, first, more)
 }
@@ -80,7 +80,7 @@ fn keep_both(alloc: Global, blank: PoolBlank, first: &[u8], more: &[u8]) -> Resu
 fn check_lengths(rt: &impl Abort, alloc: Global, first: usize, more: usize) -> Result<(), Fail> {
     let old = sample(alloc, first.min(VALUE_LIMIT), 1)?;
     let new = sample(alloc, more.min(VALUE_LIMIT), 100)?;
-    let blank = PoolBlank::open(alloc, 3, 8, 2)?;
+    let blank = PoolBlank::open(alloc, 3, 33, 2)?;
     let kept = keep_both(alloc, blank, &old, &new)?;
     let sum = old.len() + new.len();
     let refused = if sum > VALUE_LIMIT {
@@ -212,8 +212,7 @@ fn share<N: PoolName>(
     requires few { (length bytes.now ≤ 4096) × (length more.now ≤ 4096) × (length other.now ≤ 4096) }
 {
     let (pool, mut first) = blank.name::<N>();
-    let none: [Hold<N>; 0] = [];
-    let mut second = pool.split(&mut first, &none, 8);
+    let mut second = pool.split(&mut first, (), 8);
     let Ok(value) = write(alloc, &pool, &mut first, bytes) else {
         return Err(Memory);
     };
@@ -228,10 +227,8 @@ fn share<N: PoolName>(
     };
     let appended = shape_of(&value);
     let refused = write(alloc, &pool, &mut first, other).err();
-    let frag = Frag { hold, len };
     let mut seen = vec![in alloc; 0u8; len as usize]?;
-    read_frag(&pool, &mut second, &frag, &mut seen);
-    let Frag { hold, .. } = frag;
+    pool.load_bytes(&mut second, hold.buffer(), 0, &mut seen);
     let unpinned = pool.unpin(&mut second, hold);
     let Ok(again) = write(alloc, &pool, &mut first, other) else {
         return Err(Memory);
@@ -289,40 +286,67 @@ fn a_pinned_fragment_is_not_written_again(rt: HostRuntime) -> Result<(), Fail> {
     Ok(())
 }
 
-// Writes a value, and hands it to a taker.
-fn hand_over<N: PoolName>(alloc: Global, blank: PoolBlank, bytes: &[u8]) -> Result<Copier, Memory>
+// Writes a value, and hands it to a taker, with its holds or without. The answer has how many buffers are held then.
+fn hand_to_copier<N: PoolName>(
+    alloc: Global,
+    blank: PoolBlank,
+    bytes: &[u8],
+    over: bool,
+) -> Result<(Copier, Held), Memory>
     requires name { (blank.table ≡ N.table) × (blank.sizes ≡ N.sizes) }
-    requires few { length bytes.now ≤ 16384 }
+    requires few { length bytes.now ≤ value_limit }
 {
     let (pool, mut seat) = blank.name::<N>();
     let Ok(value) = write(alloc, &pool, &mut seat, bytes) else {
         return Err(Memory);
     };
     let mut copier = Copier::new(alloc)?;
-    hand(&pool, &mut seat, &value, &mut copier);
-    Ok(copier)
+    if over {
+        hand_over(&pool, &mut seat, value, &mut copier);
+    } else {
+        hand(&pool, &mut seat, &value, &mut copier);
+    }
+    Ok((copier, pool.close(seat).held()))
 }
 
-fn handed(alloc: Global, blank: PoolBlank, bytes: &[u8]) -> Result<Copier, Memory>
-    requires { length bytes.now ≤ 16384 }
+fn handed(
+    alloc: Global,
+    blank: PoolBlank,
+    bytes: &[u8],
+    over: bool,
+) -> Result<(Copier, Held), Memory>
+    requires { length bytes.now ≤ value_limit }
 {
-    hand_over::<Brand>(alloc, blank, bytes)
+    hand_to_copier::<Brand>(alloc, blank, bytes, over)
+}
+
+// The address and length of each fragment, and whether its hold came with it, of a value of five fragments.
+fn check_handed(rt: &impl Abort, alloc: Global, over: bool, held: Held) -> Result<(), Fail> {
+    let bytes = sample(alloc, 16_385, 3)?;
+    let blank = PoolBlank::open(alloc, 2, 4, 1)?;
+    let (copier, left) = handed(alloc, blank, &bytes, over)?;
+    assert!(rt; !copier.taking && copier.whole && copier.size == 16_385);
+    let mut all = Vec::new(alloc);
+    let mut places = Vec::new(alloc);
+    for copy in &copier.copies {
+        all.extend_from_slice(&copy.bytes[..copy.len])?;
+        places.push((copy.address, copy.offset, copy.len, copy.over))?;
+    }
+    assert!(rt; all.as_slice() == bytes.as_slice());
+    let want = [
+        (1_049_600, 0, 4096, over),
+        (1_053_696, 0, 4096, over),
+        (1_057_792, 0, 4096, over),
+        (1_061_888, 0, 4096, over),
+        (1_048_576, 0, 1, over),
+    ];
+    assert!(rt; places.as_slice() == want.as_slice());
+    assert_eq!(rt; left, held);
+    Ok(())
 }
 
 #[test]
 fn a_taker_is_handed_each_fragment(rt: HostRuntime) -> Result<(), Fail> {
-    let bytes = sample(rt.alloc(), 9000, 3)?;
-    let blank = PoolBlank::open(rt.alloc(), 2, 3, 1)?;
-    let copier = handed(rt.alloc(), blank, &bytes)?;
-    assert!(rt; !copier.taking && copier.size == 9000);
-    let mut all = Vec::new(rt.alloc());
-    let mut addresses = Vec::new(rt.alloc());
-    for copy in &copier.copies {
-        all.extend_from_slice(&copy.bytes[..copy.len])?;
-        addresses.push((copy.address, copy.len))?;
-    }
-    assert!(rt; all.as_slice() == bytes.as_slice());
-    let large = [(1_049_600, 4096), (1_053_696, 4096), (1_057_792, 808)];
-    assert!(rt; addresses.as_slice() == large.as_slice());
-    Ok(())
+    check_handed(&rt, rt.alloc(), false, Held { small: 1, large: 4 })?;
+    check_handed(&rt, rt.alloc(), true, Held { small: 0, large: 0 })
 }

@@ -9,8 +9,8 @@ use Rattle.pin_core.specs.Holding.{Holding, Key, at, sole_at, loose_at, fresh, s
 use Rattle.pin_core.proofs.Weights.{at-on, at-off, sole-at}
 use Rattle.pinned_pool.specs.Views.{looked_at}
 use Rattle.pinned_pool.specs.Claims.{LooksFrom}
-use Rattle.pinned_pool.specs.Moves.{means, same_key, key_of, without, picked, others, times, asked, HasHolds, share, write, front_of, pinned_hold}
-use Rattle.pinned_pool.proofs.Keys.{same_key-refl, times-without, total-without, total-others, picked-keys, has_first, has_rest, each-without, each-others, each-picked}
+use Rattle.pinned_pool.specs.Moves.{means, same_key, key_of, without, taken_by, left_by, times, asked, HasHolds, share, write, front_of, pinned_hold}
+use Rattle.pinned_pool.proofs.Keys.{same_key-refl, times-without, total-without, total-left_by, taken_by-keys, has_first, has_rest, each-without, each-left_by, each-taken_by}
 use Rattle.pinned_pool.proofs.Fronts.{total-share, total-write, share-on, share-off, write-on, write-off}
 use Rattle.pinned_pool.proofs.Within.{first_is}
 
@@ -57,16 +57,16 @@ has_none hs = λ k. zero-le
 pub has_one : (k : Key) (hs : List Holding) → 0 < times k hs → HasHolds (k ∷ []) hs
 has_one k hs some = λ j. omega (arith, times-without j k hs some)
 
-pub times-others : (j : Key) (ks : List Key) (hs : List Holding) → HasHolds ks hs → times j (others ks hs) + asked j ks ≡ times j hs
-times-others j [] hs has = omega arith
-times-others j (k ∷ ks) hs has = omega (arith, times-without j k hs (has_first k ks hs has), times-others j ks (without k hs) (has_rest k ks hs has))
+pub times-left_by : (j : Key) (ks : List Key) (hs : List Holding) → HasHolds ks hs → times j (left_by ks hs) + asked j ks ≡ times j hs
+times-left_by j [] hs has = omega arith
+times-left_by j (k ∷ ks) hs has = omega (arith, times-without j k hs (has_first k ks hs has), times-left_by j ks (without k hs) (has_rest k ks hs has))
 
-pub times-picked : (j : Key) (ks : List Key) (hs : List Holding) → HasHolds ks hs → times j (picked ks hs) ≡ asked j ks
-times-picked j ks hs has = omega (arith, times-others j ks hs has, total-others (λ h. cond (means j h) 1 0) ks hs)
+pub times-taken_by : (j : Key) (ks : List Key) (hs : List Holding) → HasHolds ks hs → times j (taken_by ks hs) ≡ asked j ks
+times-taken_by j ks hs has = omega (arith, times-left_by j ks hs has, total-left_by (λ h. cond (means j h) 1 0) ks hs)
 
-pub others-append : (ks js : List Key) (hs : List Holding) → others (ks ++ js) hs ≡ others js (others ks hs)
-others-append [] js hs = refl
-others-append (k ∷ ks) js hs = others-append ks js (without k hs)
+pub left_by-append : (ks js : List Key) (hs : List Holding) → left_by (ks ++ js) hs ≡ left_by js (left_by ks hs)
+left_by-append [] js hs = refl
+left_by-append (k ∷ ks) js hs = left_by-append ks js (without k hs)
 
 -- sharing and writing leave what is held
 pub times-share : (k : Key) (b : ℕ) (hs : List Holding) → times k (map (share b) hs) ≡ times k hs
@@ -160,13 +160,13 @@ module _ (fronts : ℕ → List ℕ) where
   front-without b k hs all some =
       front-is b (without k hs) (each-without (λ h. h.front ≡ fronts h.buffer) k hs all) some ∙ sym (front-is b hs all (omega (arith, total-without (at b) k hs)))
 
-  pub front-others : (b : ℕ) (ks : List Key) (hs : List Holding) → Each (λ (h : Holding). h.front ≡ fronts h.buffer) hs → 0 < total (at b) (others ks hs) → front_of b (others ks hs) ≡ front_of b hs
-  front-others b ks hs all some =
-      front-is b (others ks hs) (each-others (λ h. h.front ≡ fronts h.buffer) ks hs all) some ∙ sym (front-is b hs all (omega (arith, total-others (at b) ks hs)))
+  pub front-left_by : (b : ℕ) (ks : List Key) (hs : List Holding) → Each (λ (h : Holding). h.front ≡ fronts h.buffer) hs → 0 < total (at b) (left_by ks hs) → front_of b (left_by ks hs) ≡ front_of b hs
+  front-left_by b ks hs all some =
+      front-is b (left_by ks hs) (each-left_by (λ h. h.front ≡ fronts h.buffer) ks hs all) some ∙ sym (front-is b hs all (omega (arith, total-left_by (at b) ks hs)))
 
-  pub front-picked : (b : ℕ) (ks : List Key) (hs : List Holding) → Each (λ (h : Holding). h.front ≡ fronts h.buffer) hs → 0 < total (at b) (picked ks hs) → front_of b (picked ks hs) ≡ front_of b hs
-  front-picked b ks hs all some =
-      front-is b (picked ks hs) (each-picked (λ h. h.front ≡ fronts h.buffer) ks hs all) some ∙ sym (front-is b hs all (omega (arith, total-others (at b) ks hs)))
+  pub front-taken_by : (b : ℕ) (ks : List Key) (hs : List Holding) → Each (λ (h : Holding). h.front ≡ fronts h.buffer) hs → 0 < total (at b) (taken_by ks hs) → front_of b (taken_by ks hs) ≡ front_of b hs
+  front-taken_by b ks hs all some =
+      front-is b (taken_by ks hs) (each-taken_by (λ h. h.front ≡ fronts h.buffer) ks hs all) some ∙ sym (front-is b hs all (omega (arith, total-left_by (at b) ks hs)))
 
   pub front-joined : (b : ℕ) (hs gs : List Holding) → Each (λ (h : Holding). h.front ≡ fronts h.buffer) (hs ++ gs) → 0 < total (at b) gs → front_of b (hs ++ gs) ≡ front_of b gs
   front-joined b hs gs all some =
@@ -201,6 +201,6 @@ looks-once b c (l ∷ ls) from low high = dite (ℕ_discrete b c)
     off n m ne = ap (λ t. cond t 1 0) (ne_eqb m n ne)
 
 -- what to give to `search`, `simp` or `grind`
-pub ruleset seat_holds = (asked-append, times-append, times-own, without-own, without-last, times-loose, has_none, has_one, times-without, times-others, times-picked, others-append, picked-keys, times-share, times-write, at-share, at-write, sole-write, sole-share, sole-held, at-won, sole-won, at-taken)
+pub ruleset seat_holds = (asked-append, times-append, times-own, without-own, without-last, times-loose, has_none, has_one, times-without, times-left_by, times-taken_by, left_by-append, taken_by-keys, times-share, times-write, at-share, at-write, sole-write, sole-share, sole-held, at-won, sole-won, at-taken)
 
-pub ruleset seat_fronts = (front-on, front-off, front-won, front-won-else, front-share, front-write, front-write-else, front-append, front-append-else, front-is, front-without, front-others, front-picked, front-joined, front-taken)
+pub ruleset seat_fronts = (front-on, front-off, front-won, front-won-else, front-share, front-write, front-write-else, front-append, front-append-else, front-is, front-without, front-left_by, front-taken_by, front-joined, front-taken)

@@ -9,7 +9,7 @@ use Rattle.pin_core.specs.Holding.{Holding, at, loose_at}
 use Rattle.pin_core.specs.HeldCount.{held_in}
 use Rattle.pin_core.specs.declared.sizes.Sizes.{Sizes}
 use Rattle.pinned_pool.specs.Views.{among, looked_at, IsLoose}
-use Rattle.pinned_pool.specs.Plays.{Keeps}
+use Rattle.pinned_pool.specs.Plays.{KeepsRule}
 use Rattle.pinned_pool.specs.Ends.{End, end_of, nonzero_in, LooksClaimed, AllEnded}
 use Rattle.pinned_pool.specs.declared.view.View.{View}
 use Rattle.pinned_pool.proofs.Keeps.{all-alone, loose-of}
@@ -27,7 +27,7 @@ pub record Ended (z : Sizes) (ws : List ℕ) (v : View) : Type 0 where
   pub looks : LooksClaimed v
   pub lasts : AllEnded v
 
-pub ends : {S : Type 0} (z : Sizes) (seat : ℕ) (v : View) (ws : List ℕ) (xs : List S) → v.credits ≡ z.credits → Final (Seen (Keeps z) seat v) ws xs → Ended z ws v
+pub ends : {S : Type 0} (z : Sizes) (seat : ℕ) (v : View) (ws : List ℕ) (xs : List S) → v.credits ≡ z.credits → Final (Seen (KeepsRule z) seat v) ws xs → Ended z ws v
 ends z seat v ws xs all f =
     let t = f.0 in
     let s = f.1.0 in

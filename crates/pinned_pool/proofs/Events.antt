@@ -17,11 +17,11 @@ use Rattle.pin_core.specs.PinStep.{give, IsClaim, IsPut, IsLoad, IsPin, IsUnpin,
 use Rattle.pin_core.specs.declared.sizes.Sizes.{Sizes}
 use Rattle.pin_core.proofs.Weights.{at-on, sole-at}
 use Rattle.pinned_pool.specs.Views.{view, nobody, all_holds}
-use Rattle.pinned_pool.specs.Moves.{times, picked, share, write, front_of, pinned_hold, won, lost, pin, put, unpin, kept, given, joined}
+use Rattle.pinned_pool.specs.Moves.{times, taken_by, share, write, front_of, pinned_hold, won, lost, pin, put, unpin, split_old, split_new, joined}
 use Rattle.pinned_pool.specs.Rule.{holds_by, credits_by, pins_of, word_at, IsSoundTable}
 use Rattle.pinned_pool.specs.StepKinds.{move_all}
 use Rattle.pinned_pool.specs.declared.view.View.{View}
-use Rattle.pinned_pool.proofs.Keys.{total-without, total-others, found}
+use Rattle.pinned_pool.proofs.Keys.{total-without, total-left_by, found}
 use Rattle.pinned_pool.proofs.Fronts.{Picked, pick, changed-one, share-on, write-on, shared_idle, written_idle, exclusive_of}
 use Rattle.pinned_pool.proofs.Listed.{holds-set, holds-push, credits-set, credits-push, credits_stay, weigh_all}
 
@@ -182,26 +182,26 @@ module _ (z : Sizes) (words : List ℕ) (views : List View) (s : IsSoundTable z 
         }
 
     pub split_event : (ks : List Key) (n : ℕ) → n < v.credits
-        → PinSteps z (pins_of z words views) (move_all (picked ks v.holds) seat (length views) ++ give seat (length views) n ∷ []) (pins_of z words (set views seat (kept ks n v) ++ given ks n v ∷ []))
+        → PinSteps z (pins_of z words views) (move_all (taken_by ks v.holds) seat (length views) ++ give seat (length views) n ∷ []) (pins_of z words (set views seat (split_old ks n v) ++ split_new ks n v ∷ []))
     split_event ks n less =
-        let l : View = kept ks n v in
-        let r : View = given ks n v in
+        let l : View = split_old ks n v in
+        let r : View = split_new ks n v in
         let left : List View = set views seat l in
         let taker : ℕ = length views in
         let far : length left ≡ taker = length-set views seat l in
-        moves z (picked ks v.holds) seat taker n (pins_of z words views) (pins_of z words (left ++ r ∷ [])) (by_number holds_by 0 left) (by_number credits_by 0 left)
+        moves z (taken_by ks v.holds) seat taker n (pins_of z words views) (pins_of z words (left ++ r ∷ [])) (by_number holds_by 0 left) (by_number credits_by 0 left)
         (λ f. omega (
           arith,
           holds-set f views seat v l me,
-          total-others (λ h. f (own seat h)) ks v.holds,
-          total-append f (map (own seat) (picked ks v.holds)) (by_number holds_by 0 left),
-          total-map f (own seat) (picked ks v.holds),
+          total-left_by (λ h. f (own seat h)) ks v.holds,
+          total-append f (map (own seat) (taken_by ks v.holds)) (by_number holds_by 0 left),
+          total-map f (own seat) (taken_by ks v.holds),
         ))
         (λ f. omega (
           arith,
           holds-push f left r taker far,
-          total-append f (map (own taker) (picked ks v.holds)) (by_number holds_by 0 left),
-          total-map f (own taker) (picked ks v.holds),
+          total-append f (map (own taker) (taken_by ks v.holds)) (by_number holds_by 0 left),
+          total-map f (own taker) (taken_by ks v.holds),
         ))
         refl
         (λ f. omega (arith, credits-set f views seat v l me, parts_of f seat n l.credits v.credits (omega arith), total-append f (replicate n seat) (by_number credits_by 0 left)))

@@ -17,10 +17,10 @@ use Rattle.pin_core.specs.declared.sizes.Sizes.{Sizes}
 use Rattle.pin_core.proofs.Weights.{list_weighing, at-on, at-off, at-le, Fits, fits}
 use Rattle.pin_core.proofs.Steps.{same_sound, claim_sound, pin_sound, unpin_sound, opened_sound}
 use Rattle.pinned_pool.specs.Views.{nobody, opener, among, looked_at, all_holds, all_claims, all_looks, all_lasts, IsLoose, OneFront}
-use Rattle.pinned_pool.specs.Moves.{times, without, front_of, won, lost, pin, put, unpin, kept, given, joined}
+use Rattle.pinned_pool.specs.Moves.{times, without, front_of, won, lost, pin, put, unpin, split_old, split_new, joined}
 use Rattle.pinned_pool.specs.Rule.{table_words, word_at, pins_of, IsSoundTable}
 use Rattle.pinned_pool.specs.declared.view.View.{View}
-use Rattle.pinned_pool.proofs.Keys.{total-without, total-others, found, times-at}
+use Rattle.pinned_pool.proofs.Keys.{total-without, total-left_by, found, times-at}
 use Rattle.pinned_pool.proofs.Fronts.{Picked, pick, total-share, total-write}
 use Rattle.pinned_pool.proofs.Listed.{weigh_all, count_credits}
 use Rattle.pinned_pool.proofs.Events.{claim_event, look_event, pin_event, unpin_event}
@@ -282,14 +282,14 @@ module _ (z : Sizes) (words : List ℕ) (views : List View) (s : IsSoundTable z 
         (λ c. omega (arith, total-set (λ (u : View). among c u.lasts) views seat v w me))
         (each_changed (λ u. u.credits ≡ 0 → u ≡ nobody) views seat w s.live (λ poor. absurd (omega arith)))
 
-    pub splits : (ks : List Key) (n : ℕ) → 0 < n → n < v.credits → IsSound z (pins_of z words (set views seat (kept ks n v) ++ given ks n v ∷ [])) → IsSoundTable z words (set views seat (kept ks n v) ++ given ks n v ∷ [])
+    pub splits : (ks : List Key) (n : ℕ) → 0 < n → n < v.credits → IsSound z (pins_of z words (set views seat (split_old ks n v) ++ split_new ks n v ∷ [])) → IsSoundTable z words (set views seat (split_old ks n v) ++ split_new ks n v ∷ [])
     splits ks n more less held =
-        let l : View = kept ks n v in
-        let r : View = given ks n v in
+        let l : View = split_old ks n v in
+        let r : View = split_new ks n v in
         let between : List View = set views seat l in
         let cut : (f : View → ℕ) → f l + f r ≡ f v → total f (between ++ r ∷ []) ≡ total f views = λ f e. omega (arith, e, total-append f between (r ∷ []), total-set f views seat v l me) in
         settled words (between ++ r ∷ []) refl (λ b h. refl) held
-        (λ b. cut (λ u. total (at b) u.holds) (omega (arith, total-others (at b) ks v.holds)))
+        (λ b. cut (λ u. total (at b) u.holds) (omega (arith, total-left_by (at b) ks v.holds)))
         (λ b. cut (λ u. among b u.claims) (omega arith))
         (λ b. cut (λ u. looked_at b u.looks) (omega arith))
         (λ b. cut (λ u. among b u.lasts) (omega arith))

@@ -5,7 +5,7 @@ use Rattle.view_sums.specs.Total.{total, Each}
 use Rattle.view_sums.proofs.Sums.{total-append, total-le}
 use Rattle.view_sums.proofs.Eachs.{each-append}
 use Rattle.pin_core.specs.Holding.{Holding, Key, at}
-use Rattle.pinned_pool.specs.Moves.{means, same_key, key_of, first, without, picked, others, times, HasHolds}
+use Rattle.pinned_pool.specs.Moves.{means, same_key, key_of, first, without, taken_by, left_by, times, HasHolds}
 
 same_bools : (t x y : Bool) → cond t (cond x y (not y)) false ≡ true → (t ≡ true) × (y ≡ x)
 same_bools true true true e = (refl, refl)
@@ -47,9 +47,9 @@ module _ (weight : Holding → ℕ) where
   total-without k [] = refl
   total-without k (h ∷ hs) = parts_here (means k h) h hs (first k hs) (without k hs) (total-without k hs)
 
-  pub total-others : (ks : List Key) (hs : List Holding) → total weight (picked ks hs) + total weight (others ks hs) ≡ total weight hs
-  total-others [] hs = omega arith
-  total-others (k ∷ ks) hs = omega (arith, total-append weight (first k hs) (picked ks (without k hs)), total-others ks (without k hs), total-without k hs)
+  pub total-left_by : (ks : List Key) (hs : List Holding) → total weight (taken_by ks hs) + total weight (left_by ks hs) ≡ total weight hs
+  total-left_by [] hs = omega arith
+  total-left_by (k ∷ ks) hs = omega (arith, total-append weight (first k hs) (taken_by ks (without k hs)), total-left_by ks (without k hs), total-without k hs)
 
 -- the hold that is meant
 pub record Found (k : Key) (hs : List Holding) : Type 0 where
@@ -80,11 +80,11 @@ pub has_rest : (k : Key) (ks : List Key) (hs : List Holding) → HasHolds (k ∷
 has_rest k ks hs has = λ j. omega (arith, has j, times-without j k hs (has_first k ks hs has))
 
 -- what is taken out for some keys has exactly these keys
-pub picked-keys : (ks : List Key) (hs : List Holding) → HasHolds ks hs → map key_of (picked ks hs) ≡ ks
-picked-keys [] hs has = refl
-picked-keys (k ∷ ks) hs has =
+pub taken_by-keys : (ks : List Key) (hs : List Holding) → HasHolds ks hs → map key_of (taken_by ks hs) ≡ ks
+taken_by-keys [] hs has = refl
+taken_by-keys (k ∷ ks) hs has =
     let f = found k hs (has_first k ks hs has) in
-    ap (λ xs. map key_of (xs ++ picked ks (without k hs))) f.here ∙ ap (λ c. c ∷ map key_of (picked ks (without k hs))) f.key ∙ ap (λ cs. k ∷ cs) (picked-keys ks (without k hs) (has_rest k ks hs has))
+    ap (λ xs. map key_of (xs ++ taken_by ks (without k hs))) f.here ∙ ap (λ c. c ∷ map key_of (taken_by ks (without k hs))) f.key ∙ ap (λ cs. k ∷ cs) (taken_by-keys ks (without k hs) (has_rest k ks hs has))
 
 -- a fact of each hold
 module _ (P : Holding → Type 0) where
@@ -104,10 +104,10 @@ module _ (P : Holding → Type 0) where
   each-without k [] all = tt
   each-without k (h ∷ hs) all = cut_rest (means k h) h hs (without k hs) all.0 all.1 (each-without k hs all.1)
 
-  pub each-picked : (ks : List Key) (hs : List Holding) → Each P hs → Each P (picked ks hs)
-  each-picked [] hs all = tt
-  each-picked (k ∷ ks) hs all = each-append P (first k hs) (picked ks (without k hs)) (each-first k hs all) (each-picked ks (without k hs) (each-without k hs all))
+  pub each-taken_by : (ks : List Key) (hs : List Holding) → Each P hs → Each P (taken_by ks hs)
+  each-taken_by [] hs all = tt
+  each-taken_by (k ∷ ks) hs all = each-append P (first k hs) (taken_by ks (without k hs)) (each-first k hs all) (each-taken_by ks (without k hs) (each-without k hs all))
 
-  pub each-others : (ks : List Key) (hs : List Holding) → Each P hs → Each P (others ks hs)
-  each-others [] hs all = all
-  each-others (k ∷ ks) hs all = each-others ks (without k hs) (each-without k hs all)
+  pub each-left_by : (ks : List Key) (hs : List Holding) → Each P hs → Each P (left_by ks hs)
+  each-left_by [] hs all = all
+  each-left_by (k ∷ ks) hs all = each-left_by ks (without k hs) (each-without k hs all)

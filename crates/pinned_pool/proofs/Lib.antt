@@ -14,3 +14,8 @@ pub mod AfterSteps
 pub mod Running
 pub mod Covering
 pub mod Still
+pub mod Telling
+pub mod WordRuns
+pub mod InClasses
+pub mod ManyClaims
+pub mod SoughtLaws

@@ -3,7 +3,7 @@ use Rattle.std.proofs.Common.{List, [], ◌∷◌, sym, subst}
 use Rattle.pin_core.specs.declared.sizes.Sizes.{Sizes}
 use Rattle.pinned_pool.specs.Rule.{IsSoundTable}
 use Rattle.pinned_pool.specs.StepKinds.{Kind}
-use Rattle.pinned_pool.specs.Runs.{Table, opened, Runs, RunsStaySound}
+use Rattle.pinned_pool.specs.Runs.{Table, opened_table, Runs, RunsStaySound}
 use Rattle.pinned_pool.proofs.Keeps.{begins}
 use Rattle.pinned_pool.proofs.StepKinds.{steps_are_events}
 
@@ -15,4 +15,4 @@ run_sound z (kind ∷ kinds) old new sound run =
     run_sound z kinds mid new (steps_are_events z old.words mid.words old.views mid.views step.seat step.view kind sound step.sits step.live step.makes).sound run.2
 
 pub runs_stay_sound : RunsStaySound
-runs_stay_sound z kinds end rich few run = run_sound z kinds (opened z) end (begins z rich few) run
+runs_stay_sound z kinds end rich few run = run_sound z kinds (opened_table z) end (begins z rich few) run

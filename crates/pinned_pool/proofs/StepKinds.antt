@@ -15,11 +15,11 @@ use Rattle.pin_core.proofs.Weights.{sole-at, Fits}
 use Rattle.pin_core.proofs.Steps.{put_sound, steps_sound}
 use Rattle.pinned_pool.specs.Views.{nobody}
 use Rattle.pinned_pool.specs.Rule.{word_at, pins_of, IsSoundTable}
-use Rattle.pinned_pool.specs.Moves.{times, picked, front_of, kept, given, joined}
+use Rattle.pinned_pool.specs.Moves.{times, taken_by, front_of, split_old, split_new, joined}
 use Rattle.pinned_pool.specs.Moves as to
-use Rattle.pinned_pool.specs.StepKinds.{Kind, wins, misses, puts, loads, pins, unpins, splits, joins, Makes, move_all, FallsByLast, WrittenByPut, IsItsEvents, StepsAreEvents}
+use Rattle.pinned_pool.specs.StepKinds.{Kind, wins, misses, peeks, puts, loads, pins, unpins, splits, joins, Makes, move_all, FallsByLast, WrittenByPut, IsItsEvents, StepsAreEvents}
 use Rattle.pinned_pool.specs.declared.view.View.{View}
-use Rattle.pinned_pool.proofs.Keys.{each-picked}
+use Rattle.pinned_pool.proofs.Keys.{each-taken_by}
 use Rattle.pinned_pool.proofs.Events.{only, claim_event, look_event, put_event, load_event, pin_event, unpin_event, split_event, join_event}
 use Rattle.pinned_pool.proofs.Keeps as keeps
 
@@ -35,12 +35,12 @@ module _ (z : Sizes) (words : List ℕ) (views : List View) (s : IsSoundTable z 
       keeps.puts z words views s seat v me rich b i x some_hold
       (put_sound z (pins_of z words views) (pins_of z (set words (word_at z b i) x) (set views seat (to.put b i x v))) s.held b seat i x (put_event z words views s seat v me b i x has within fits))
 
-  pub split_keeps : (ks : List Key) (n : ℕ) → 0 < n → n < v.credits → IsSoundTable z words (set views seat (kept ks n v) ++ given ks n v ∷ [])
+  pub split_keeps : (ks : List Key) (n : ℕ) → 0 < n → n < v.credits → IsSoundTable z words (set views seat (split_old ks n v) ++ split_new ks n v ∷ [])
   split_keeps ks n more less =
-      let near = each-picked (Fits z s.held.held.fronts) ks v.holds (keeps.fits-of z words views s seat v me) in
+      let near = each-taken_by (Fits z s.held.held.fronts) ks v.holds (keeps.fits-of z words views s seat v me) in
       keeps.splits z words views s seat v me ks n more less
-      (steps_sound z (move_all (picked ks v.holds) seat (length views) ++ give seat (length views) n ∷ []) (pins_of z words views) (pins_of z words (set views seat (kept ks n v) ++ given ks n v ∷ []))
-      (moves-near z s.held.held.fronts (picked ks v.holds) seat (length views) n near) (split_event z words views s seat v me ks n less) s.held)
+      (steps_sound z (move_all (taken_by ks v.holds) seat (length views) ++ give seat (length views) n ∷ []) (pins_of z words views) (pins_of z words (set views seat (split_old ks n v) ++ split_new ks n v ∷ []))
+      (moves-near z s.held.held.fronts (taken_by ks v.holds) seat (length views) n near) (split_event z words views s seat v me ks n less) s.held)
 
   pub join_keeps : 0 < v.credits → (other : ℕ) (w : View) → other ≢ seat → get_elem? views other ≡ some w → IsSoundTable z words (set (set views seat (joined v w)) other nobody)
   join_keeps rich other w apart there =
@@ -131,7 +131,7 @@ module _ (z : Sizes) (words : List ℕ) (views : List View) (s : IsSoundTable z 
         written = counts_only (unpins k) k.buffer (n - 1) u.near;
       }
 
-  split_is : (ks : List Key) (n : ℕ) → 0 < n → n < v.credits → Is (splits ks n) words (set views seat (kept ks n v) ++ given ks n v ∷ [])
+  split_is : (ks : List Key) (n : ℕ) → 0 < n → n < v.credits → Is (splits ks n) words (set views seat (split_old ks n v) ++ split_new ks n v ∷ [])
   split_is ks n more less = record {
     sound = split_keeps ks n more less;
     steps = split_event z words views s seat v me ks n less;
@@ -151,15 +151,25 @@ module _ (z : Sizes) (words : List ℕ) (views : List View) (s : IsSoundTable z 
   along : (kind : Kind) (new made : List ℕ) (after came : List View) → new ≡ made → after ≡ came → Is kind made came → Is kind new after
   along kind new made after came e d = subst (λ (p : List ℕ × List View). Is kind p.0 p.1) (λ i. (sym e i, sym d i))
 
+  -- a load that changes nothing
+  peek_is : (b : ℕ) → Is (peeks b) words views
+  peek_is b = record {
+    sound = s;
+    steps = record { holds = λ f. refl; words = refl; credits = λ f. refl };
+    falls = none_falls (peeks b);
+    written = nothing (peeks b);
+  }
+
   made_is : 0 < v.credits → (kind : Kind) (new : List ℕ) (after : List View) → Makes z words views seat v kind new after → Is kind new after
-  made_is rich (wins b) new after m = along (wins b) new _ after _ m.2 m.3 (won_is rich b m.0 m.1)
-  made_is rich (misses b) new after m = along (misses b) new _ after _ m.2 m.3 (lost_is rich b m.0 m.1)
-  made_is rich (puts b i x) new after m = along (puts b i x) new _ after _ m.3 m.4 (put_is rich b i x m.0 m.1 m.2)
-  made_is rich (loads b i) new after m = along (loads b i) new _ after _ m.2 m.3 (load_is b i m.0 m.1)
-  made_is rich (pins b) new after m = along (pins b) new _ after _ m.2 m.3 (pin_is b m.0 m.1)
-  made_is rich (unpins k) new after m = along (unpins k) new _ after _ m.1 m.2 (unpin_is rich k m.0)
-  made_is rich (splits ks n) new after m = along (splits ks n) new _ after _ m.2 m.3 (split_is ks n m.0 m.1)
-  made_is rich (joins other w) new after m = along (joins other w) new _ after _ m.2 m.3 (join_is rich other w m.0 m.1)
+  made_is rich (wins b) new after m = along (wins b) new _ after _ m.words m.views (won_is rich b m.near m.free)
+  made_is rich (misses b) new after m = along (misses b) new _ after _ m.words m.views (lost_is rich b m.near m.taken)
+  made_is rich (peeks b) new after m = along (peeks b) new _ after _ m.words m.views (peek_is b)
+  made_is rich (puts b i x) new after m = along (puts b i x) new _ after _ m.words m.views (put_is rich b i x m.exclusive m.in_front m.in_buffer)
+  made_is rich (loads b i) new after m = along (loads b i) new _ after _ m.words m.views (load_is b i m.held m.in_front)
+  made_is rich (pins b) new after m = along (pins b) new _ after _ m.words m.views (pin_is b m.held m.rich)
+  made_is rich (unpins k) new after m = along (unpins k) new _ after _ m.words m.views (unpin_is rich k m.held)
+  made_is rich (splits ks n) new after m = along (splits ks n) new _ after _ m.words m.views (split_is ks n m.some m.fewer)
+  made_is rich (joins other w) new after m = along (joins other w) new _ after _ m.words m.views (join_is rich other w m.apart m.sits)
 
 pub steps_are_events : StepsAreEvents
 steps_are_events z words new views after seat v kind s me rich made = made_is z words views s seat v me rich kind new after made

@@ -5,7 +5,7 @@ use Rattle.view_sums.specs.Total.{total, Each}
 use Rattle.pin_core.specs.Holding.{Holding, Key, at, sole_at, fresh}
 use Rattle.pin_core.specs.declared.sizes.Sizes.{Sizes}
 use Rattle.pin_core.specs.declared.class.Class.{Class}
-use Rattle.pinned_pool.specs.Moves.{means, same_key, times, asked, HasHolds, front_of, pinned_hold, put, sharing, taking, unpin, kept, given, joined}
+use Rattle.pinned_pool.specs.Moves.{means, same_key, times, asked, HasHolds, front_of, pinned_hold, put, sharing, taking, unpin, split_old, split_new, joined}
 use Rattle.pinned_pool.specs.Claims.{first_of, count_of, Passed, Wins}
 use Rattle.pinned_pool.specs.Named.{IsSeat}
 use Rattle.pinned_pool.specs.declared.view.View.{View}
@@ -141,24 +141,24 @@ module _ (last : Bool) (k : Key) (v w : View) (step : w ≡ unpin last k v) wher
       ap (front_of c) holds ∙ list.front-without s.fronts.0 c k v.holds s.fronts.1 (omega (arith, has, ap (total (at c)) holds))
 
 -- a split, for the seat that stays
-module _ (ks : List Key) (n : ℕ) (v w : View) (step : w ≡ kept ks n v) where
-  pub kept-times : (j : Key) → HasHolds ks v.holds → times j w.holds + asked j ks ≡ times j v.holds
-  kept-times j has = omega (arith, ap (λ (y : View). times j y.holds) step, list.times-others j ks v.holds has)
+module _ (ks : List Key) (n : ℕ) (v w : View) (step : w ≡ split_old ks n v) where
+  pub split_old-times : (j : Key) → HasHolds ks v.holds → times j w.holds + asked j ks ≡ times j v.holds
+  split_old-times j has = omega (arith, ap (λ (y : View). times j y.holds) step, list.times-left_by j ks v.holds has)
 
-  pub kept-front : (z : Sizes) → IsSeat z v → (c : ℕ) → 0 < total (at c) w.holds → front_of c w.holds ≡ front_of c v.holds
-  kept-front z s c has =
+  pub split_old-front : (z : Sizes) → IsSeat z v → (c : ℕ) → 0 < total (at c) w.holds → front_of c w.holds ≡ front_of c v.holds
+  split_old-front z s c has =
       let holds = ap (λ (y : View). y.holds) step in
-      ap (front_of c) holds ∙ list.front-others s.fronts.0 c ks v.holds s.fronts.1 (omega (arith, has, ap (total (at c)) holds))
+      ap (front_of c) holds ∙ list.front-left_by s.fronts.0 c ks v.holds s.fronts.1 (omega (arith, has, ap (total (at c)) holds))
 
 -- and for the new one
-module _ (ks : List Key) (n : ℕ) (v w : View) (step : w ≡ given ks n v) where
-  pub given-times : (j : Key) → HasHolds ks v.holds → times j w.holds ≡ asked j ks
-  given-times j has = ap (λ (y : View). times j y.holds) step ∙ list.times-picked j ks v.holds has
+module _ (ks : List Key) (n : ℕ) (v w : View) (step : w ≡ split_new ks n v) where
+  pub split_new-times : (j : Key) → HasHolds ks v.holds → times j w.holds ≡ asked j ks
+  split_new-times j has = ap (λ (y : View). times j y.holds) step ∙ list.times-taken_by j ks v.holds has
 
-  pub given-front : (z : Sizes) → IsSeat z v → (c : ℕ) → 0 < total (at c) w.holds → front_of c w.holds ≡ front_of c v.holds
-  given-front z s c has =
+  pub split_new-front : (z : Sizes) → IsSeat z v → (c : ℕ) → 0 < total (at c) w.holds → front_of c w.holds ≡ front_of c v.holds
+  split_new-front z s c has =
       let holds = ap (λ (y : View). y.holds) step in
-      ap (front_of c) holds ∙ list.front-picked s.fronts.0 c ks v.holds s.fronts.1 (omega (arith, has, ap (total (at c)) holds))
+      ap (front_of c) holds ∙ list.front-taken_by s.fronts.0 c ks v.holds s.fronts.1 (omega (arith, has, ap (total (at c)) holds))
 
 -- a join
 module _ (v u w : View) (step : w ≡ joined v u) where
@@ -180,4 +180,4 @@ module _ (v u w : View) (step : w ≡ joined v u) where
       ap (front_of c) holds ∙ list.front-joined s.fronts.0 c v.holds u.holds (subst (λ hs. Each (λ (h : Holding). h.front ≡ s.fronts.0 h.buffer) hs) holds s.fronts.1) has
 
 -- what to give to `search`
-pub ruleset seat_steps = (list.sole-held, some-at, list.has_none, list.has_one, won-holds, won-credits, won-returns, won-claims, won-class, won-held, won-sole, won-front, won-apart, won-still, won-still-sole, won-still-front, passed-holds, passed-credits, passed-returns, passed-claims, put-still, put-sole, put-at, put-front, put-length, put-front-else, shared-times, shared-still, shared-at, shared-front, shared-sole, taken-times, taken-held, taken-still, taken-front, taken-still-front, unpinned-times, unpinned-front, kept-times, kept-front, given-times, given-front, joined-times, joined-still, joined-too, joined-front, joined-front-too)
+pub ruleset seat_steps = (list.sole-held, some-at, list.has_none, list.has_one, won-holds, won-credits, won-returns, won-claims, won-class, won-held, won-sole, won-front, won-apart, won-still, won-still-sole, won-still-front, passed-holds, passed-credits, passed-returns, passed-claims, put-still, put-sole, put-at, put-front, put-length, put-front-else, shared-times, shared-still, shared-at, shared-front, shared-sole, taken-times, taken-held, taken-still, taken-front, taken-still-front, unpinned-times, unpinned-front, split_old-times, split_old-front, split_new-times, split_new-front, joined-times, joined-still, joined-too, joined-front, joined-front-too)

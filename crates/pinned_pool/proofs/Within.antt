@@ -13,10 +13,10 @@ use Rattle.pin_core.specs.Holding.{Holding, Key, at, loose_at, fresh, shared, wr
 use Rattle.pin_core.specs.declared.sizes.Sizes.{Sizes}
 use Rattle.pin_core.proofs.Weights.{at-on, at-off, loose-at, loose-pinned, refronted, refronted-here, refronted-else}
 use Rattle.pinned_pool.specs.Views.{opener, IsLoose, OneFront}
-use Rattle.pinned_pool.specs.Moves.{share, write, front_of, pinned_hold, won, lost, pin, put, unpin, kept, given, joined}
+use Rattle.pinned_pool.specs.Moves.{share, write, front_of, pinned_hold, won, lost, pin, put, unpin, split_old, split_new, joined}
 use Rattle.pinned_pool.specs.Named.{IsNearby, IsSeat, IsSeatOf}
 use Rattle.pinned_pool.specs.declared.view.View.{View}
-use Rattle.pinned_pool.proofs.Keys.{total-without, total-others, each-without, each-picked, each-others}
+use Rattle.pinned_pool.proofs.Keys.{total-without, total-left_by, each-without, each-taken_by, each-left_by}
 use Rattle.pinned_pool.proofs.Fronts.{write-on, write-off, total-share, total-write}
 
 -- a fact of holds, none of which is of the buffer
@@ -112,20 +112,20 @@ module _ (z : Sizes) (v : View) (s : IsSeat z v) where
     fronts = (s.fronts.0, each-without (λ h. h.front ≡ s.fronts.0 h.buffer) k v.holds s.fronts.1);
   }
 
-  pub seat_kept : (ks : List Key) (n : ℕ) → n < v.credits → IsSeat z (kept ks n v)
+  pub seat_kept : (ks : List Key) (n : ℕ) → n < v.credits → IsSeat z (split_old ks n v)
   seat_kept ks n less = record {
     live = omega (arith, less);
-    near = each-others (IsNearby z) ks v.holds s.near;
-    loose = λ c. omega (arith, total-others (loose_at c) ks v.holds, s.loose c);
-    fronts = (s.fronts.0, each-others (λ h. h.front ≡ s.fronts.0 h.buffer) ks v.holds s.fronts.1);
+    near = each-left_by (IsNearby z) ks v.holds s.near;
+    loose = λ c. omega (arith, total-left_by (loose_at c) ks v.holds, s.loose c);
+    fronts = (s.fronts.0, each-left_by (λ h. h.front ≡ s.fronts.0 h.buffer) ks v.holds s.fronts.1);
   }
 
-  pub seat_given : (ks : List Key) (n : ℕ) → 0 < n → IsSeat z (given ks n v)
+  pub seat_given : (ks : List Key) (n : ℕ) → 0 < n → IsSeat z (split_new ks n v)
   seat_given ks n more = record {
     live = more;
-    near = each-picked (IsNearby z) ks v.holds s.near;
-    loose = λ c. omega (arith, total-others (loose_at c) ks v.holds, s.loose c);
-    fronts = (s.fronts.0, each-picked (λ h. h.front ≡ s.fronts.0 h.buffer) ks v.holds s.fronts.1);
+    near = each-taken_by (IsNearby z) ks v.holds s.near;
+    loose = λ c. omega (arith, total-left_by (loose_at c) ks v.holds, s.loose c);
+    fronts = (s.fronts.0, each-taken_by (λ h. h.front ≡ s.fronts.0 h.buffer) ks v.holds s.fronts.1);
   }
 
   pub seat_joined : (w : View) → IsSeat z w → IsLoose (joined v w) → OneFront (joined v w) → IsSeat z (joined v w)

@@ -3,6 +3,10 @@ pub mod Moves
 pub mod Rule
 pub mod Plays
 pub mod Claims
+pub mod Classes
+pub mod Claimed
+pub mod Sought
+pub mod Bytes
 pub mod Named
 pub mod Blanks
 pub mod Ends

@@ -1,4 +1,14 @@
 -- How each step changes what a seat knows.
+--
+-- The words of this page:
+--   first, without       the first hold that a key means, and the list without it
+--   taken_by, left_by    the holds that several keys take out of a list, and the rest
+--   won, lost            a seat after a claim that found 0, and after one that found another number
+--   pin, put, unpin      a seat after that step
+--   split_old, split_new the two seats of a split
+--   joined               a seat that took another one in
+--   sharing, taking      the owner and the taker of a pin, after the moves of credits around it
+--   losing, gaining      the two seats between which holds went
 use Rattle.std.specs.Prelude.{ℕ, ◌+◌, ◌-◌, ◌≤◌, List, [], ◌∷◌, ◌++◌, Bool, true, false, not, ◌==◌, if◌then◌else◌, map}
 use Rattle.view_sums.specs.Total.{total}
 use Rattle.pin_core.specs.Holding.{Holding, Key, fresh, shared, written}
@@ -25,13 +35,13 @@ without k [] = []
 without k (h ∷ hs) = if means k h then hs else h ∷ without k hs
 
 -- a hold for each key, each once, and the other holds
-abbrev pub picked : List Key → List Holding → List Holding
-picked [] hs = []
-picked (k ∷ ks) hs = first k hs ++ picked ks (without k hs)
+abbrev pub taken_by : List Key → List Holding → List Holding
+taken_by [] hs = []
+taken_by (k ∷ ks) hs = first k hs ++ taken_by ks (without k hs)
 
-abbrev pub others : List Key → List Holding → List Holding
-others [] hs = hs
-others (k ∷ ks) hs = others ks (without k hs)
+abbrev pub left_by : List Key → List Holding → List Holding
+left_by [] hs = hs
+left_by (k ∷ ks) hs = left_by ks (without k hs)
 
 -- how many holds are meant
 abbrev pub times : Key → List Holding → ℕ
@@ -66,23 +76,28 @@ abbrev pub lost : ℕ → ℕ → View → View
 lost b found v = view v.holds v.credits v.claims (v.looks ++ (b, found) ∷ []) v.returns v.lasts
 
 abbrev pub pin : ℕ → View → View
-pin b v = view (pinned_hold b (front_of b v.holds) ∷ map (share b) v.holds) (v.credits - 1) v.claims v.looks v.returns v.lasts
+pin b v =
+    view (pinned_hold b (front_of b v.holds) ∷ map (share b) v.holds) (v.credits - 1) v.claims v.looks v.returns v.lasts
 
 abbrev pub put : ℕ → ℕ → ℕ → View → View
 put b i x v = view (map (write b i x) v.holds) v.credits v.claims v.looks v.returns v.lasts
 
 -- a pinned hold gives a credit back; it may have been the buffer's last hold
 abbrev pub unpin : Bool → Key → View → View
-unpin last k v = view (without k v.holds) (v.credits + (if k.pinned then 1 else 0)) v.claims v.looks (v.returns + (if k.pinned then 1 else 0)) (if last then v.lasts ++ k.buffer ∷ [] else v.lasts)
+unpin last k v =
+    view (without k v.holds) (v.credits + (if k.pinned then 1 else 0)) v.claims v.looks
+    (v.returns + (if k.pinned then 1 else 0)) (if last then v.lasts ++ k.buffer ∷ [] else v.lasts)
 
-abbrev pub kept : List Key → ℕ → View → View
-kept ks credits v = view (others ks v.holds) (v.credits - credits) v.claims v.looks v.returns v.lasts
+abbrev pub split_old : List Key → ℕ → View → View
+split_old ks credits v = view (left_by ks v.holds) (v.credits - credits) v.claims v.looks v.returns v.lasts
 
-abbrev pub given : List Key → ℕ → View → View
-given ks credits v = view (picked ks v.holds) credits [] [] 0 []
+abbrev pub split_new : List Key → ℕ → View → View
+split_new ks credits v = view (taken_by ks v.holds) credits [] [] 0 []
 
 abbrev pub joined : View → View → View
-joined v w = view (v.holds ++ w.holds) (v.credits + w.credits) (v.claims ++ w.claims) (v.looks ++ w.looks) (v.returns + w.returns) (v.lasts ++ w.lasts)
+joined v w =
+    view (v.holds ++ w.holds) (v.credits + w.credits) (v.claims ++ w.claims) (v.looks ++ w.looks)
+    (v.returns + w.returns) (v.lasts ++ w.lasts)
 
 -- its holds of the buffer are shared from now on
 abbrev pub sharing : ℕ → View → View
@@ -91,3 +106,15 @@ sharing b v = view (map (share b) v.holds) v.credits v.claims v.looks v.returns 
 -- a new hold, paid with a credit
 abbrev pub taking : Holding → View → View
 taking h v = view (v.holds ++ h ∷ []) (v.credits - 1) v.claims v.looks v.returns v.lasts
+
+-- the holds that these keys mean went to another seat
+abbrev pub losing : List Key → View → View
+losing ks v = view (left_by ks v.holds) v.credits v.claims v.looks v.returns v.lasts
+
+-- and these came from another one
+abbrev pub gaining : List Holding → View → View
+gaining hs v = view (v.holds ++ hs) v.credits v.claims v.looks v.returns v.lasts
+
+-- an owner's key
+abbrev pub loose_key : ℕ → Key
+loose_key b = record { buffer = b; pinned = false }

@@ -1,11 +1,12 @@
 -- Any steps by any seats, from the opening on.
-use Rattle.std.specs.Prelude.{◌≡◌, ℕ, ◌^◌, ◌<◌, ◌≤◌, List, [], ◌∷◌, replicate}
+use Rattle.std.specs.Prelude.{◌≡◌, ℕ, ◌^◌, ◌<◌, ◌≤◌, List, [], ◌∷◌, if◌then◌else◌, replicate}
 use mathlib.Core.Option.{some}
 use lib.ListN.{get_elem?}
+use Rattle.view_sums.specs.Total.{total, same}
 use Rattle.pin_core.specs.declared.sizes.Sizes.{Sizes}
-use Rattle.pinned_pool.specs.Views.{opener}
+use Rattle.pinned_pool.specs.Views.{opener, all_claims, all_looks, all_lasts}
 use Rattle.pinned_pool.specs.Rule.{table_words, IsSoundTable}
-use Rattle.pinned_pool.specs.StepKinds.{Kind, Makes}
+use Rattle.pinned_pool.specs.StepKinds.{Kind, wins, misses, peeks, puts, loads, pins, unpins, splits, joins, Makes}
 use Rattle.pinned_pool.specs.declared.view.View.{View}
 
 -- the words, and the views of all seats
@@ -13,8 +14,8 @@ pub record Table : Type 0 where
   pub words : List ℕ
   pub views : List View
 
-abbrev pub opened : Sizes → Table
-opened z = record { words = replicate (table_words z) 0; views = opener z.credits ∷ [] }
+abbrev pub opened_table : Sizes → Table
+opened_table z = record { words = replicate (table_words z) 0; views = opener z.credits ∷ [] }
 
 -- a live seat makes a step
 pub record Steps (z : Sizes) (kind : Kind) (old new : Table) : Type 0 where
@@ -30,4 +31,50 @@ Runs z old [] new = new ≡ old
 Runs z old (kind ∷ kinds) new = (mid : Table) × Steps z kind old mid × Runs z mid kinds new
 
 abbrev pub RunsStaySound : Type 0
-RunsStaySound = (z : Sizes) (kinds : List Kind) (end : Table) → 0 < z.credits → z.credits ≤ 2 ^ 31 → Runs z (opened z) kinds end → IsSoundTable z end.words end.views
+RunsStaySound =
+    (z : Sizes) (kinds : List Kind) (end : Table) → 0 < z.credits → z.credits ≤ 2 ^ 31
+    → Runs z (opened_table z) kinds end → IsSoundTable z end.words end.views
+
+-- 1 for a claim of the buffer that won, for one that was lost, and for the unpin of a pinned hold
+abbrev pub win_of : ℕ → Kind → ℕ
+win_of b (wins c) = same c b
+win_of b (misses c) = 0
+win_of b (peeks c) = 0
+win_of b (puts c i x) = 0
+win_of b (loads c i) = 0
+win_of b (pins c) = 0
+win_of b (unpins k) = 0
+win_of b (splits ks n) = 0
+win_of b (joins other w) = 0
+
+abbrev pub miss_of : ℕ → Kind → ℕ
+miss_of b (wins c) = 0
+miss_of b (misses c) = same c b
+miss_of b (peeks c) = 0
+miss_of b (puts c i x) = 0
+miss_of b (loads c i) = 0
+miss_of b (pins c) = 0
+miss_of b (unpins k) = 0
+miss_of b (splits ks n) = 0
+miss_of b (joins other w) = 0
+
+abbrev pub return_of : Kind → ℕ
+return_of (wins c) = 0
+return_of (misses c) = 0
+return_of (peeks c) = 0
+return_of (puts c i x) = 0
+return_of (loads c i) = 0
+return_of (pins c) = 0
+return_of (unpins k) = if k.pinned then 1 else 0
+return_of (splits ks n) = 0
+return_of (joins other w) = 0
+
+-- what all seats together tell of these steps
+pub record AreTold (kinds : List Kind) (end : Table) : Type 0 where
+  pub claims : (b : ℕ) → all_claims b end.views ≡ total (win_of b) kinds
+  pub looks : (b : ℕ) → all_looks b end.views ≡ total (miss_of b) kinds
+  pub returns : total (λ (v : View). v.returns) end.views ≡ total return_of kinds
+
+-- claims, looks and returns are how many claims won, claims lost and unpins of pinned holds there were
+abbrev pub RunsAreTold : Type 0
+RunsAreTold = (z : Sizes) (kinds : List Kind) (end : Table) → Runs z (opened_table z) kinds end → AreTold kinds end

@@ -1,6 +1,5 @@
 //! The addresses of a pool's buffers.
-ghost use Rattle.std.specs.Prelude.{◌≡◌, ℕ, ◌<◌, IfSome, None};
-ghost use Rattle.pin_core.specs.Buffers.{buffers};
+ghost use Rattle.std.specs.Prelude.{◌≡◌, ℕ, IfSome, None};
 ghost use Rattle.pinned_pool.specs.Addresses.{address_of, Covers};
 
 use crate::name::PoolName;
@@ -9,10 +8,9 @@ use crate::pool::Pool;
 const BASE: u64 = 1_048_576;
 
 impl<N: PoolName> Pool<N> {
-    /// The address of the buffer's first byte. The small buffers stand one after another, 512 bytes each, and behind them the
-    /// large ones, 4,096 bytes each.
+    /// The address of the buffer's first byte. The small buffers stand one after another, 512 bytes each, and behind them
+    /// the large ones, 4,096 bytes each. A number behind the last buffer has the address that a further one would have.
     pub fn address(&self, buffer: u32) -> u64
-        requires { buffer < buffers N.sizes }
         ensures { result ≡ address_of N.sizes buffer }
     {
         let buffer = u64::from(buffer);

@@ -38,15 +38,4 @@ impl<N: PoolName> Hold<N> {
     {
         self.pinned
     }
-
-    /// The same name once more. It adds no hold.
-    pub fn again(&self) -> Hold<N>
-        ensures { result ≡ self.now }
-    {
-        Hold {
-            buffer: self.buffer,
-            pinned: self.pinned,
-            name: PhantomData,
-        }
-    }
 }

@@ -6,25 +6,33 @@ use std::marker::{Brand, PhantomData};
 pub(crate) struct Claim;
 
 impl Play<(), View> for Claim {
-    ghost use Rattle.pinned_pool.specs.Plays.{claimed};
+    ghost use Rattle.pinned_pool.specs.Plays.{claim_tells};
 
-    ghost then = { claimed };
+    ghost then = { claim_tells };
+}
+
+pub(crate) struct Look;
+
+impl Play<(), View> for Look {
+    ghost use Rattle.pinned_pool.specs.Plays.{look_tells};
+
+    ghost then = { look_tells };
 }
 
 pub(crate) struct Pin;
 
 impl Play<(), View> for Pin {
-    ghost use Rattle.pinned_pool.specs.Plays.{pinned};
+    ghost use Rattle.pinned_pool.specs.Plays.{pin_tells};
 
-    ghost then = { pinned };
+    ghost then = { pin_tells };
 }
 
-pub(crate) struct Learn;
+pub(crate) struct TellRule;
 
-impl Play<(), View> for Learn {
-    ghost use Rattle.pinned_pool.specs.Plays.{learned};
+impl Play<(), View> for TellRule {
+    ghost use Rattle.pinned_pool.specs.Plays.{rule_tells};
 
-    ghost then = { learned };
+    ghost then = { rule_tells };
 }
 
 /// The hold that a step is about.
@@ -43,9 +51,9 @@ impl Meant for Brand {
 pub(crate) struct Unpin<K>(PhantomData<K>);
 
 impl<K: Meant> Play<(), View> for Unpin<K> {
-    ghost use Rattle.pinned_pool.specs.Plays.{unpinned};
+    ghost use Rattle.pinned_pool.specs.Plays.{unpin_tells};
 
-    ghost then = { unpinned K.key.pinned };
+    ghost then = { unpin_tells K.key.pinned };
 }
 
 /// The data word that a step is about.
@@ -66,17 +74,17 @@ impl Place for Brand {
 pub(crate) struct Put<W>(PhantomData<W>);
 
 impl<W: Place> Play<(), View> for Put<W> {
-    ghost use Rattle.pinned_pool.specs.Plays.{stored};
+    ghost use Rattle.pinned_pool.specs.Plays.{put_tells};
 
-    ghost then = { stored W.buffer W.index };
+    ghost then = { put_tells W.buffer W.index };
 }
 
 pub(crate) struct Load<W>(PhantomData<W>);
 
 impl<W: Place> Play<(), View> for Load<W> {
-    ghost use Rattle.pinned_pool.specs.Plays.{loaded};
+    ghost use Rattle.pinned_pool.specs.Plays.{load_tells};
 
-    ghost then = { loaded W.buffer W.index };
+    ghost then = { load_tells W.buffer W.index };
 }
 
 /// What a new seat is given.
@@ -97,19 +105,19 @@ impl Gift for Brand {
     ghost credits = { 0 };
 }
 
-pub(crate) struct Cut<G>(PhantomData<G>);
+pub(crate) struct SplitSeat<G>(PhantomData<G>);
 
-impl<G: Gift> Split<View> for Cut<G> {
-    ghost use Rattle.pinned_pool.specs.Moves.{kept, given};
+impl<G: Gift> Split<View> for SplitSeat<G> {
+    ghost use Rattle.pinned_pool.specs.Moves.{split_old, split_new};
 
-    ghost left = { kept G.keys G.credits };
+    ghost left = { split_old G.keys G.credits };
 
-    ghost right = { given G.keys G.credits };
+    ghost right = { split_new G.keys G.credits };
 }
 
-pub(crate) struct Glue;
+pub(crate) struct JoinSeats;
 
-impl Join<View> for Glue {
+impl Join<View> for JoinSeats {
     ghost use Rattle.pinned_pool.specs.Moves.{joined};
     ghost use Rattle.pinned_pool.specs.Views.{nobody};
 

@@ -7,10 +7,10 @@ use pin_core::Sizes;
 pub struct Sound;
 
 impl TableRule<(), View, Sizes> for Sound {
-    ghost use Rattle.pinned_pool.specs.Plays.{Keeps};
+    ghost use Rattle.pinned_pool.specs.Plays.{KeepsRule};
     ghost use Rattle.pinned_pool.specs.Views.{opener};
 
-    ghost holds = { Keeps };
+    ghost holds = { KeepsRule };
 
     ghost first = { λ sizes. opener sizes.credits };
 }

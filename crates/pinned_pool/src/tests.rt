@@ -2,7 +2,7 @@ ghost use Rattle.std.specs.Prelude.{◌≡◌, true, false, ◌+◌, ◌<◌, �
 ghost use Rattle.view_sums.specs.Total.{total};
 ghost use Rattle.pin_core.specs.Holding.{sole_at};
 ghost use Rattle.pinned_pool.specs.Moves.{times, front_of};
-ghost use Rattle.pin_core.specs.Buffers.{buffers, room};
+ghost use Rattle.pin_core.specs.Buffers.{room};
 
 use crate::{
     Class, Held, Hold, Memory, NoBuffer, Pool, PoolBlank, PoolName, PoolSeat, PoolSeats, Unpinned,
@@ -57,15 +57,13 @@ fn claims_go_in_ascending_order(rt: HostRuntime) -> Result<(), Fail> {
 
 // The addresses of the first, second and third buffer.
 fn three_addresses<N: PoolName>(blank: PoolBlank) -> [u64; 3]
-    requires { (blank.table ≡ N.table) × (blank.sizes ≡ N.sizes) × (2 < buffers N.sizes) }
+    requires { (blank.table ≡ N.table) × (blank.sizes ≡ N.sizes) }
 {
     let (pool, _seat) = blank.name::<N>();
     [pool.address(0), pool.address(1), pool.address(2)]
 }
 
-fn addresses_of(blank: PoolBlank) -> [u64; 3]
-    requires { 2 < buffers blank.sizes }
-{
+fn addresses_of(blank: PoolBlank) -> [u64; 3] {
     three_addresses::<Brand>(blank)
 }
 
@@ -99,7 +97,7 @@ fn addresses_are_those_of_the_classes(rt: HostRuntime) -> Result<(), Fail> {
 
 // The last byte of the last buffer, and the address behind it.
 fn last_byte<N: PoolName>(blank: PoolBlank) -> (Option<(u32, u32)>, Option<(u32, u32)>, Held)
-    requires { (blank.table ≡ N.table) × (blank.sizes ≡ N.sizes) × (N.sizes.small ≡ 65536) × (N.sizes.large ≡ 16384) }
+    requires { (blank.table ≡ N.table) × (blank.sizes ≡ N.sizes) }
 {
     let (pool, seat) = blank.name::<N>();
     let end = pool.address(81_919) + 4096;
@@ -107,9 +105,7 @@ fn last_byte<N: PoolName>(blank: PoolBlank) -> (Option<(u32, u32)>, Option<(u32,
     (found.0, found.1, pool.close(seat).held())
 }
 
-fn largest(blank: PoolBlank) -> (Option<(u32, u32)>, Option<(u32, u32)>, Held)
-    requires { (blank.sizes.small ≡ 65536) × (blank.sizes.large ≡ 16384) }
-{
+fn largest(blank: PoolBlank) -> (Option<(u32, u32)>, Option<(u32, u32)>, Held) {
     last_byte::<Brand>(blank)
 }
 
@@ -166,8 +162,7 @@ fn claim_halves<N: PoolName + Send + Sync, R: Threads + Sync>(
     requires { (blank.table ≡ N.table) × (blank.sizes ≡ N.sizes) × (1 < N.sizes.credits) }
 {
     let (pool, mut seat) = blank.name::<N>();
-    let none: [Hold<N>; 0] = [];
-    let other = pool.split(&mut seat, &none, 1);
+    let other = pool.split(&mut seat, (), 1);
     let shared = &pool;
     let (one, two) = join(
         rt,
@@ -286,10 +281,9 @@ fn pin_by_two<N: PoolName + Send + Sync, R: Threads + Sync>(
     requires { (blank.table ≡ N.table) × (blank.sizes ≡ N.sizes) × (10 < N.sizes.credits) }
 {
     let (pool, mut first) = blank.name::<N>();
-    let none: [Hold<N>; 0] = [];
-    let mut second = pool.split(&mut first, &none, 4);
-    let third = pool.split(&mut first, &none, 3);
-    let fourth = pool.split(&mut first, &none, 3);
+    let mut second = pool.split(&mut first, (), 4);
+    let third = pool.split(&mut first, (), 3);
+    let fourth = pool.split(&mut first, (), 3);
     let (hold, pinned) = claim_and_pin(&pool, &mut first, &mut second)?;
     let shared = &pool;
     let ((first, third, hold), (second, fourth, pinned)) = join(
@@ -337,7 +331,7 @@ fn write_and_read<N: PoolName>(blank: PoolBlank) -> Option<[u64; 4]>
     pool.put_word(&mut seat, &hold, 1, 44);
     let first = pool.load_word(&mut seat, &hold, 0);
     let second = pool.load_at(&mut seat, hold.buffer(), 1);
-    let again = pool.load_word(&mut seat, &hold.again(), 1);
+    let again = pool.load_word(&mut seat, &hold, 1);
     Some([first, second, third, again])
 }
 
@@ -357,12 +351,11 @@ fn list_seats<N: PoolName>(alloc: Global, blank: PoolBlank) -> Result<[usize; 4]
     requires { (blank.table ≡ N.table) × (blank.sizes ≡ N.sizes) × (2 < N.sizes.credits) }
 {
     let (pool, mut seat) = blank.name::<N>();
-    let none: [Hold<N>; 0] = [];
     let mut seats = PoolSeats::<N>::with_room(alloc, 2)?;
     let empty = seats.len();
-    let second = pool.split(&mut seat, &none, 1);
+    let second = pool.split(&mut seat, (), 1);
     seats.push(second).map_err(|(memory, _seat)| memory)?;
-    let third = pool.split(&mut seat, &none, 1);
+    let third = pool.split(&mut seat, (), 1);
     seats.push(third).map_err(|(memory, _seat)| memory)?;
     let full = seats.len();
     let mut taken = 0;

@@ -8,36 +8,25 @@ ghost use Rattle.pinned_pool.specs.Moves.{put, front_of};
 
 use crate::hold::Hold;
 use crate::name::PoolName;
-use crate::plays::{Load, Place, Put};
 use crate::pool::Pool;
 use crate::seat::PoolSeat;
 use std::marker::Brand;
 
 impl<N: PoolName> Pool<N> {
-    // Where a buffer's data word stands in the table.
-    fn word_of(&self, buffer: u32, index: u32) -> usize
+    /// Where a buffer's first data word stands in the table.
+    pub(crate) fn first_word(&self, buffer: u32) -> usize
         requires { buffer < buffers N.sizes }
-        ensures { result ≡ word_at N.sizes buffer index }
+        ensures { result ≡ word_at N.sizes buffer 0 }
     {
         let buffer = buffer as usize;
         let small = self.small as usize;
         let large = self.large as usize;
-        let first = if buffer < small {
+        let before = if buffer < small {
             64 * buffer
         } else {
             64 * small + 512 * (buffer - small)
         };
-        small + large + first + index as usize
-    }
-
-    fn put_as<W: Place>(&self, seat: &mut PoolSeat<N>, hold: &Hold<N>, index: u32, word: u64)
-        requires place { (W.buffer ≡ hold.now.buffer) × (W.index ≡ index) }
-        requires exclusive { 0 < total (sole_at hold.now.buffer) seat.old.holds }
-        requires index { (index ≤ length (front_of hold.now.buffer seat.old.holds)) × (index < room N.sizes hold.now.buffer) }
-        ensures { seat.new ≡ put hold.now.buffer index word seat.old }
-    {
-        let at = self.word_of(hold.buffer, index);
-        self.table.shared.store::<Put<W>>(&mut seat.seat, at, word);
+        small + large + before
     }
 
     /// Writes the front's next word, or an earlier one, after which the front ends.
@@ -46,18 +35,9 @@ impl<N: PoolName> Pool<N> {
         requires index { (index ≤ length (front_of hold.now.buffer seat.old.holds)) × (index < room N.sizes hold.now.buffer) }
         ensures { seat.new ≡ put hold.now.buffer index word seat.old }
     {
-        self.put_as::<Brand>(seat, hold, index, word);
-    }
-
-    fn load_as<W: Place>(&self, seat: &mut PoolSeat<N>, buffer: u32, index: u32) -> u64
-        requires place { (W.buffer ≡ buffer) × (W.index ≡ index) }
-        requires held { 0 < total (at buffer) seat.old.holds }
-        requires index { index < length (front_of buffer seat.old.holds) }
-        ensures { (seat.new ≡ seat.old) × (result ≡ slice_index (front_of buffer seat.old.holds) index) }
-    {
-        let at = &mut seat.seat;
-        let word = self.word_of(buffer, index);
-        self.table.shared.load::<Load<W>>(at, word)
+        let buffer = hold.buffer();
+        let first = self.first_word(buffer);
+        self.put_at::<Brand>(seat, buffer, first, index, word);
     }
 
     /// A word of the front of a buffer that the seat holds.
@@ -66,7 +46,9 @@ impl<N: PoolName> Pool<N> {
         requires index { index < length (front_of buffer seat.old.holds) }
         ensures { (seat.new ≡ seat.old) × (result ≡ slice_index (front_of buffer seat.old.holds) index) }
     {
-        self.load_as::<Brand>(seat, buffer, index)
+        seat.is_seat();
+        let first = self.first_word(buffer);
+        self.load_from::<Brand>(seat, buffer, first, index)
     }
 
     /// A word of the hold's front.

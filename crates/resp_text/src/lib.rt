@@ -12,4 +12,5 @@ mod texts;
 pub use errors::error_text;
 pub use lines::line;
 pub use reply::{Items, Reply};
+pub use sizes::line_size;
 pub use texts::text;

@@ -34,8 +34,8 @@ fn digits(n: u64) -> usize
     }
 }
 
-// A mark, the number, and the line end.
-fn line_size(n: u64) -> usize
+/// The length of a line: a mark, the number, and the line end.
+pub fn line_size(n: u64) -> usize
     ensures size { result ≡ length (decimal n) + 3 }
     ensures short { result ≤ 23 }
 {

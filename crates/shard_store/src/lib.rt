@@ -3,8 +3,10 @@
 
 mod hash;
 mod part;
+mod setting;
 #[cfg(test)]
 mod tests;
 
 pub use hash::shard_of;
 pub use part::{Part, PartOp};
+pub use setting::{Setting, When};

@@ -1,3 +1,8 @@
+ghost use Rattle.std.specs.Prelude.{◌≡◌};
+ghost use Rattle.shard_store.specs.Settings.{setting_of};
+
+use crate::{Setting, When};
+
 /// What is done to a key.
 #[derive(Clone, Copy, Debug, PartialEq, Eq)]
 pub enum PartOp {
@@ -17,6 +22,24 @@ pub enum PartOp {
     StrLen,
     /// The bytes from one place to another, both included. Places count from 0, and those below 0 from the value's end.
     GetRange { start: i64, end: i64 },
+}
+
+impl PartOp {
+    /// How the part sets its key, if it does.
+    pub fn setting(self) -> Option<Setting>
+        ensures { result ≡ setting_of self }
+    {
+        let (when, asks) = match self {
+            PartOp::Set => (When::Always, false),
+            PartOp::SetNx => (When::IfMissing, false),
+            PartOp::SetXx => (When::IfPresent, false),
+            PartOp::SetGet => (When::Always, true),
+            PartOp::SetNxGet => (When::IfMissing, true),
+            PartOp::SetXxGet => (When::IfPresent, true),
+            _ => return None,
+        };
+        Some(Setting { when, asks })
+    }
 }
 
 /// What a command asks of one key. The value is empty but for the sets and `Append`.

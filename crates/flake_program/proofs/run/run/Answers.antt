@@ -1,36 +1,62 @@
-use Rattle.std.proofs.Common.{◌≡◌, ◌≢◌, ◌∷◌, [], List, Some, IfSome, sym, ap, ◌∙◌, subst, arith, ⊎_elim}
+use Rattle.std.proofs.Common.{◌≡◌, ◌≢◌, ◌⊎◌, ◌∷◌, [], Some, true, length, map, refl, sym, ap, ◌∙◌, subst, arith}
 use Rattle.std.specs.Option.{option_map}
 use Rattle.std.proofs.lemmas.Grind.{common_steps}
-use Rattle.flake_base.specs.declared.session.End.TheVariants.{Clean}
-use Rattle.flake_model.specs.Resp.{Words, Parses}
+use Rattle.std.proofs.lemmas.List.{length-map}
+use Rattle.flake_base.specs.Causes.{Rose}
+use Rattle.flake_program.specs.declared.outcome.Detail.TheVariants.{Nothing}
+use Rattle.flake_program.specs.Outcome.{done, source_told}
 use Rattle.flake_program.specs.Pump.{EndFaults}
-use Rattle.flake_program.specs.Words.{file_among}
-use Rattle.flake_program.proofs.Refusals.{says_from, only_one}
-use Rattle.flake_program.proofs.Ended.{says_summary, write_fault_of, quiet_of, clean_status, not_five, not_six}
+use Rattle.flake_program.specs.Task.{task_of}
+use Rattle.flake_program.proofs.Unopened.{unopened_all}
+use Rattle.flake_program.proofs.Served.{run_on}
+use Rattle.flake_program.proofs.Ran.{says_since}
+use Rattle.flake_program.proofs.RanAll.{ran_all}
 use Rattle.flake_program.proofs.run.run.Goals as goal
 
-pub returns-clause-write_fault : goal.returns-clause-write_fault
-returns-clause-write_fault g c is =
-    write_fault_of c.serve_source-ran.result.ends.items c.serve_source-ran.result.end _ _ _ _ _ c.serve_source-ran.ensures.ends c.open.ensures.say_faults c.serve_source-ran.ensures.faults (c.report.ensures.failed is)
+pub returns-in_default-open : goal.returns-in_default-open
+returns-in_default-open g c =
+    let file : task_of c.args.words.now ≡ Some c.in-Some-false.name.now = sym c.file_word-file.ensures ∙ ap (option_map (λ file. file.now)) c.in-Some-false.is-0 in
+    let some : c.args.wires.items ≢ [] = λ none. absurd (let count : length c.args.wires.items ≡ 0 = ap length none in grind (arith, common_steps)) in
+    let all = unopened_all _ _ c.in-Some-false.name.now (g.H.Host.host_told c.args.host.now) (g.H.Host.host_told c.open.new.self) _ _ _ _ (record {
+      task_is = file;
+      some_wire = some;
+      refused = c.refuse-in_default-open.ensures;
+      others = c.open.ensures.others;
+      own = c.in_default-open.ensures.failed;
+      opens = c.open.ensures.opens;
+      said = c.open.ensures.said;
+      say_faults = c.open.ensures.say_faults;
+      rose = c.in_default-open.ensures.cause.failed;
+    }) in
+    record { served = all.served; untouched = all.untouched; causes = all.causes; complete = all.complete; said = all.said }
 
-pub returns-clause-quiet : goal.returns-clause-quiet
-returns-clause-quiet g c is =
-    let so = c.report.ensures.by_end (not_five c.report.result is) (not_six c.report.result is) in
-    quiet_of c.serve_source-ran.result.end.failed _ _ _ _ _ so.1 c.open.ensures.say_faults so.2 c.serve_source-ran.ensures.faults
-
-pub returns-clause-said : goal.returns-clause-said
-returns-clause-said g c other =
-    says_summary c.report.result c.serve_source-ran.result.ends.items c.serve_source-ran.result.end _ _ _ _ c.report.ensures.statuses c.serve_source-ran.ensures.ends
-    (says_from _ _ _ _ _ _ _ (c.report.ensures.said other) c.open.ensures.said c.open.ensures.say_faults)
-
-pub returns-clause-complete : goal.returns-clause-complete
-returns-clause-complete g c other some =
-    let file : file_among c.args.words.now ≡ Some c.in-Some-false.name.now = sym c.file_word-file.ensures ∙ ap (option_map (λ file. file.now)) c.in-Some-false.is-0 in
-    rw file (λ opens reads says puts.
-    let fresh = c.in-Ok.ensures.fresh in
-    let pushed : c.push.new.self.items ≡ record { file = 0; source = c.serve_source-ran.result.source } ∷ [] = grind (arith, common_steps) in
-    let none = only_one (λ opened. g.H.In.Source.read_faults opened.source ≡ 0) c.push.new.self.items _ pushed reads in
-    let not_write : c.report.result ≢ 5 = λ five. ⊎_elim says puts (write_fault_of c.serve_source-ran.result.ends.items c.serve_source-ran.result.end _ _ _ _ _ c.serve_source-ran.ensures.ends c.open.ensures.say_faults c.serve_source-ran.ensures.faults (c.report.ensures.failed five)).1 in
-    subst (λ left. IfSome left (λ bytes. (requests : List Words) → Parses bytes requests Clean → c.report.result ≡ 0)) c.in-Ok.ensures.left
-    (clean_status _ c.report.result c.serve_source-ran.result.ends.items c.serve_source-ran.result.end _ _ _ _ c.serve_source-ran.ensures.ends other (c.report.ensures.by_end not_write other).0 c.serve_source-ran.ensures.served
-    (subst (λ n. EndFaults c.serve_source-ran.result.end.end n (g.H.In.Source.read_faults c.serve_source-ran.result.source)) fresh c.serve_source-ran.ensures.reads) none))
+pub returns : goal.returns
+returns g c =
+    let ran = c.serve_source-ran in
+    let file : task_of c.args.words.now ≡ Some c.in-Some-false.name.now = sym c.file_word-file.ensures ∙ ap (option_map (λ file. file.now)) c.in-Some-false.is-0 in
+    let some : c.args.wires.items ≢ [] = λ none. absurd (let count : length c.args.wires.items ≡ 0 = ap length none in grind (arith, common_steps)) in
+    let pushed : c.push.new.self.items ≡ record { file = 0; source = ran.result.source } ∷ [] = grind (arith, common_steps) in
+    let all = ran_all _ (task_of c.args.words.now) c.in-Some-false.name.now (g.H.Host.host_told c.args.host.now) (g.H.Host.host_told c.report.new.host) _ _
+    (done c.report.result Nothing ran.result.ends.items ran.result.journal.items (map (λ s. source_told s.file (g.H.In.Source.left s.source) (g.H.In.Source.read_faults s.source)) c.push.new.self.items)) ran.result.end
+    (source_told 0 (g.H.In.Source.left ran.result.source) (g.H.In.Source.read_faults ran.result.source)) (record {
+      task_is = file;
+      some_wire = some;
+      ends_are = ran.ensures.ends;
+      detail_is = refl;
+      sources_are = ap (map (λ s. source_told s.file (g.H.In.Source.left s.source) (g.H.In.Source.read_faults s.source))) pushed;
+      file_is = refl;
+      run = run_on _ _ _ _ _ _ _ _ c.in-Ok.ensures.left ran.ensures.run;
+      shards = length-map ran.result.journal.items (λ history. history.items) ∙ ran.ensures.shards;
+      reads = subst (λ n. EndFaults ran.result.end.end n (g.H.In.Source.read_faults ran.result.source)) c.in-Ok.ensures.fresh ran.ensures.reads;
+      to_the_end = ran.ensures.to_the_end;
+      opens = c.report.ensures.files.opens ∙ c.open.ensures.opens;
+      holds = λ other differs. c.report.ensures.files.holds other ∙ c.open.ensures.others other differs;
+      open_faults = λ other. c.report.ensures.files.open_faults other ∙ c.in-Ok.ensures.same other;
+      said = λ other. says_since _ _ _ _ c.open.ensures.said c.open.ensures.say_faults (c.report.ensures.said other);
+      statuses = c.report.ensures.statuses;
+      by_end = λ five six. let so = c.report.ensures.by_end five six in (so.0, so.1, so.2 ∙ c.open.ensures.say_faults);
+      failed = λ five.
+          let why = c.report.ensures.failed five in
+          (why.0, subst (λ n. (ran.result.end.failed ≡ true) ⊎ Rose n (g.H.Host.host_told c.report.new.host).say_faults) c.open.ensures.say_faults why.1);
+    }) in
+    record { served = all.served; untouched = all.untouched; causes = all.causes; complete = all.complete; said = all.said }

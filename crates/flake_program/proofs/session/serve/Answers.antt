@@ -1,13 +1,12 @@
 use Rattle.std.proofs.Common.{◌++◌, ◌∷◌, [], arith, refl, sym, ◌∙◌, subst}
 use Rattle.flake_program.specs.Pump.{EndFaults}
 use Rattle.flake_program.proofs.Pumped.{bounded}
-use Rattle.flake_program.proofs.Sessions.{serving_more, sent_more, cause_more, sent_so, grew_nothing}
+use Rattle.flake_program.proofs.Serving.{serving_more, sent_more, sent_out, sent_so, nothing_sent}
 use Rattle.flake_program.proofs.session.serve.Goals as goal
 
 pub loop-text-init : goal.loop-text-init
 loop-text-init g c = record {
-  serving = ([], record { pump_is = c.new-pump.ensures; count = refl; store_is = c.requires.store; sharded = c.requires.histories }, grew_nothing _);
-  puts = refl;
+  serving = ([], record { pump_is = c.new-pump.ensures; count = refl; store_is = c.requires.store; sharded = c.requires.histories }, nothing_sent _);
   shards = refl;
 }
 
@@ -32,21 +31,21 @@ loop-text-preserved g c =
         s.0 ++ r.command ∷ [],
         serving_more _ _ s.0 c.loop-text.replies c.in-Ok.text.items c.step.new.pump c.step.new.store c.step.new.histories s.1.count r,
         sent_more s.0 r.command c.loop-text.failed c.send-failed.result c.as_slice.result.now _ _ _ (c.as_slice.ensures ∙ r.text_is) s.2
-            (λ e. let before = c.send-failed.ensures.before e in (before.0, before.1)) c.send-failed.ensures.whole c.send-failed.ensures.front,
+            c.send-failed.ensures.before c.send-failed.ensures.whole c.send-failed.ensures.front c.send-failed.ensures.cause,
       );
-      puts = cause_more c.loop-text.failed c.send-failed.result _ _ _ c.loop-text.invariant.puts (λ e. let before = c.send-failed.ensures.before e in (before.0, before.2)) c.send-failed.ensures.cause;
       shards = c.step.ensures.shards ∙ c.loop-text.invariant.shards;
     }
 
-pub returns-clause-ran : goal.returns-clause-ran
-returns-clause-ran g c =
+pub returns-clause-served : goal.returns-clause-served
+returns-clause-served g c =
     let s = c.loop-text.invariant.serving in
-    sent_so _ _ s.0 c.in-Err.end c.step.new.pump c.step.new.histories c.loop-text.replies c.taken.result c.loop-text.failed _ _ s.1.count c.taken.ensures (c.in-Err.ensures.end _ _ s.0 s.1) s.2
+    sent_so _ _ _ s.0 c.in-Err.end c.step.new.pump c.step.new.histories c.loop-text.replies c.taken.result c.finish.result _ _ s.1.count c.taken.ensures c.into_source.ensures.left (c.in-Err.ensures.end _ _ s.0 s.1)
+    (sent_out c.loop-text.failed c.finish.result _ _ _ _ s.2 c.finish.ensures.before c.finish.ensures.flushed c.finish.ensures.cause)
 
 pub returns-clause-reads : goal.returns-clause-reads
 returns-clause-reads g c =
     let s = c.loop-text.invariant.serving in
     subst (λ n. EndFaults c.in-Err.end (g.S.Source.read_faults c.args.source) n) (sym c.into_source.ensures.faults) (c.in-Err.ensures.end _ _ s.0 s.1).faults_are
 
-pub returns-clause-in_order : goal.returns-clause-in_order
-returns-clause-in_order g c = let s = c.loop-text.invariant.serving in (c.in-Err.ensures.end _ _ s.0 s.1).in_order
+pub returns-clause-to_the_end : goal.returns-clause-to_the_end
+returns-clause-to_the_end g c = let s = c.loop-text.invariant.serving in (c.in-Err.ensures.end _ _ s.0 s.1).to_the_end

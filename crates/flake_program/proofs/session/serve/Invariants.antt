@@ -1,16 +1,13 @@
 use Rattle.std.proofs.Common.{◌≡◌, ◌+◌, ◌-◌, List, length}
-use Rattle.flake_base.specs.Growth.{Grew}
 use Rattle.flake_model.specs.Command.{Command}
 use Rattle.flake_model.specs.Resp.{judged_bytes}
-use Rattle.flake_model.specs.Wire.{FaultIs}
-use Rattle.flake_program.specs.Session.{texts_to, AreServing}
+use Rattle.flake_program.specs.Serving.{texts_to, AreServing, WasSent}
 use Rattle.flake_program.proofs.session.serve.Given as goal
 
 abbrev pub invariant-loop-text : goal.invariant-loop-text
 invariant-loop-text g l = record {
   serving : (given : List Command) × AreServing (g.S.Source.left l.fn.source) (g.S.Source.read_faults l.fn.source) given l.replies l.pump l.store l.histories
-      × Grew l.failed (texts_to given) ((goal.Wire-dyn g l.fn.wire.now).sent l.fn.wire.now.1) ((goal.Wire-dyn g l.wire.now).sent l.wire.now.1);
-  puts : FaultIs l.failed ((goal.Wire-dyn g l.fn.wire.now).put_faults l.fn.wire.now.1) ((goal.Wire-dyn g l.wire.now).put_faults l.wire.now.1);
+      × WasSent l.failed (texts_to given) ((goal.Wire-dyn g l.fn.wire.now).wire_told l.fn.wire.now.1) ((goal.Wire-dyn g l.wire.now).wire_told l.wire.now.1);
   shards : length l.histories ≡ length l.fn.histories;
 }
 

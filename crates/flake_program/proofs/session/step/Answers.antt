@@ -2,7 +2,7 @@ use Rattle.std.proofs.Common.{◌++◌, inl, inr, refl, subst, take}
 use Rattle.flake_model.specs.Command.{parts}
 use Rattle.flake_model.specs.Journal.{call_steps, session_steps}
 use Rattle.flake_model.specs.OneThread.{IsSharded}
-use Rattle.flake_program.proofs.Sessions.{ended_so, stopped_so, none_entered, replied_so}
+use Rattle.flake_program.proofs.Serving.{ended_so, stopped_so, none_entered, replied_so}
 use Rattle.flake_program.proofs.session.step.Goals as goal
 
 pub returns-in-Err-clause-end : goal.returns-in-Err-clause-end

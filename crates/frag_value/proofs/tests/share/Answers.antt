@@ -13,18 +13,18 @@ pin-hold-requires g c =
     let b = c.frag-2.result.now.hold.buffer in
     let has = c.in-Ok.ensures.written.has in (
       omega (arith, has.held b, uses-at c.in-Ok.value 0 (b, c.frag-2.result.now.len) c.frag-2.ensures.part, ap (λ k. times k c.write.new.seat.holds) c.frag-2.ensures.hold),
-      omega (arith, ap (λ (v : View). v.credits) c.split-second.ensures.given),
+      omega (arith, ap (λ (v : View). v.credits) c.split-second.ensures.new),
     )
 
 pub append-requires : goal.append-requires
 append-requires g c = has_unmarked c.in-Ok.value c.write.new.seat c.pin-hold.new.owner (unmarked-may c.frag-2.result.now.hold.buffer c.write.new.seat c.pin-hold.new.owner (inr c.pin-hold.ensures.owner)) c.in-Ok.ensures.written.has
 
-pub read_frag-requires-clause-filled : goal.read_frag-requires-clause-filled
-read_frag-requires-clause-filled g c =
+pub load_bytes-requires-clause-inside : goal.load_bytes-requires-clause-inside
+load_bytes-requires-clause-inside g c =
     let b = c.frag-2.result.now.hold.buffer in
     let owner = c.write.new.seat.holds in
     let front = front_of b owner in
-    let none : c.split-second.result.holds ≡ [] = ap (λ (v : View). v.holds) c.split-second.ensures.given in
+    let none : c.split-second.result.holds ≡ [] = ap (λ (v : View). v.holds) c.split-second.ensures.new in
     let now : c.pin-hold.new.taker.holds ≡ pinned_hold b front ∷ [] = ap (λ (v : View). v.holds) c.pin-hold.ensures.taker ∙ ap (λ hs. hs ++ pinned_hold b front ∷ []) none in
     let seen : front_of b c.pin-hold.new.taker.holds ≡ front = ap (front_of b) now ∙ front-on b (pinned_hold b front) [] refl in
     let same = one-at c.in-Ok.value 0 (c.frag.result.now.hold.buffer, c.frag.result.now.len) (b, c.frag-2.result.now.len) c.frag.ensures.part c.frag-2.ensures.part in

@@ -18,7 +18,7 @@ returns-clause-operation c =
         | inl is ↦ known Get is (ap (λ m. m.0) w.op-is) (ap (λ m. m.1.now) w.op-is)
         | inr is ↦ known MGet is (ap (λ m. m.0) w.op-is) (ap (λ m. m.1.now) w.op-is)
       ]
-      | in-Set w ↦ known (Set w.in-Set.options) w.in-Set.is (ap (λ m. m.0) w.op-is ∙ w.part_op.ensures) (ap (λ m. m.1.now) w.op-is ∙ w.word.ensures)
+      | in-Set w ↦ known (Set w.in-Set.setting) w.in-Set.is (ap (λ m. m.0) w.op-is ∙ w.part_op.ensures) (ap (λ m. m.1.now) w.op-is ∙ w.word.ensures)
       | in-Append w ↦ known Append w.in-Append.is (ap (λ m. m.0) w.op-is) (ap (λ m. m.1.now) w.op-is ∙ w.word-in-Append.ensures)
       | in-Del w ↦ known Del w.in-Del.is (ap (λ m. m.0) w.op-is) (ap (λ m. m.1.now) w.op-is)
       | in-Exists w ↦ known Exists w.in-Exists.is (ap (λ m. m.0) w.op-is) (ap (λ m. m.1.now) w.op-is)

@@ -7,7 +7,7 @@ use Rattle.flake_program.proofs.pump.Pump.read.Goals as goal
 
 pub returns-in_default-clause-kept : goal.returns-in_default-clause-kept
 returns-in_default-clause-kept g c input before given p =
-    at_fault input before given _ _ _ (ap (λ (v : PumpState). v.stage) c.self.view_is ∙ c.requires.reading) (ap (λ (v : PumpState). v.reader.requests) c.self.view_is ∙ c.requires.none) c.in_default.ensures.cause.failed (subst (IsPump input before given) (sym c.self.view_is) p)
+    at_fault input before given _ _ _ (ap (λ (v : PumpState). v.stage) c.self.view_is ∙ c.requires.reading) (ap (λ (v : PumpState). v.reader.requests) c.self.view_is ∙ c.requires.none) c.in_default.ensures.failed c.in_default.ensures.cause.failed (subst (IsPump input before given) (sym c.self.view_is) p)
 
 pub returns-clause-kept : goal.returns-clause-kept
 returns-clause-kept g c input before given p =

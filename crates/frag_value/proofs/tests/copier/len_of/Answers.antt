@@ -1,7 +1,7 @@
 use Rattle.std.proofs.Common.{arith}
 use Rattle.pinned_pool.proofs.Keys.{some-at}
 use Rattle.pinned_pool.proofs.Within.{front-short}
-use Rattle.frag_value.proofs.Fronts.{room-most}
+use Rattle.pinned_pool.proofs.WordRuns.{room-most}
 use Rattle.frag_value.proofs.tests.copier.len_of.Goals as goal
 
 pub returns-clause-short : goal.returns-clause-short

@@ -1,5 +1,5 @@
 use Rattle.std.proofs.Common.{sym, ◌∙◌, ap, arith}
-use Rattle.pinned_pool.specs.Moves.{given}
+use Rattle.pinned_pool.specs.Moves.{split_new}
 use Rattle.pinned_pool.specs.declared.view.View.{View}
 use Rattle.pinned_pool.proofs.Names.{some_word}
 use Rattle.pinned_pool.proofs.Within.{next_seat, seat_kept, seat_given}
@@ -16,4 +16,4 @@ invariant_of-seat g c = let e = c.split_seat-new.ensures in let was = c.seat.inv
 
 pub invariant_of-result : goal.invariant_of-result
 invariant_of-result g c = let e = c.split_seat-new.ensures in let was = c.seat.invariant in
-    next_seat _ _ _ _ c.seat.inside.seat.me _ _ was e.3 (e.4 ∙ ap (λ l. (given g.G.Gift.keys g.G.Gift.credits c.seat.inside.seat.me.0, l)) (sym was.no_slot)) (seat_given g.N.PoolName.sizes c.seat.inside.seat.me.0 was.kept g.G.Gift.keys g.G.Gift.credits (omega (arith, c.requires.gift.1)))
+    next_seat _ _ _ _ c.seat.inside.seat.me _ _ was e.3 (e.4 ∙ ap (λ l. (split_new g.G.Gift.keys g.G.Gift.credits c.seat.inside.seat.me.0, l)) (sym was.no_slot)) (seat_given g.N.PoolName.sizes c.seat.inside.seat.me.0 was.kept g.G.Gift.keys g.G.Gift.credits (omega (arith, c.requires.gift.1)))

@@ -1,0 +1,38 @@
+-- What a run says of what it served.
+use Rattle.std.specs.Prelude.{◌≡◌, ◌≢◌, ℕ, List, [], ◌∷◌, Option, length, map, drop, All}
+use Rattle.std.specs.Option.{option_to_list}
+use Rattle.flake_base.specs.Calls.{counted}
+use Rattle.flake_base.specs.Told.{HostTold}
+use Rattle.flake_base.specs.declared.session.End.TheVariants.{Left}
+use Rattle.flake_model.specs.Run.{WasServed, missing_writes, wire_texts}
+use Rattle.flake_model.specs.Wire.{FaultsAre, BytesAre, KeptAre}
+use Rattle.flake_program.specs.Task.{Task}
+use Rattle.flake_program.specs.Outside.{Outside, sent_by, bytes_of, kept_by, faults_of}
+use Rattle.flake_program.specs.Outcome.{Done, ways, files_of, lefts_of}
+
+-- what the host held under the names of the files, where it tells that
+abbrev pub inputs_of : Task → HostTold → List (Option (List ℕ))
+inputs_of task host = map host.holds (option_to_list task)
+
+pub record Served {W : Type 0} (task : Task) (before after : Outside W) (done : Done) : Type 0 where
+  -- the journal has the parts that were run, in one history, and the wires were sent the texts of the replies that it
+  -- gives
+  pub run : WasServed (inputs_of task before.host) (lefts_of done.sources) done.ends done.journal
+      (sent_by before) (sent_by after)
+  -- every write has its entry: there is no pool that could be full
+  pub none_missing : missing_writes run.sessions done.journal ≡ 0
+  -- as many bytes were put as the texts have, also on a wire that doesn't tell which
+  pub bytes : BytesAre (wire_texts run.sessions done.journal) (bytes_of before) (bytes_of after)
+  -- a wire that didn't fail keeps none of them back
+  pub flushed : KeptAre (map (λ end. end.failed) done.ends) (kept_by before) (kept_by after)
+  -- a session failed where its wire's count of faults rose, and else that count is as it was
+  pub faults : FaultsAre (map (λ end. end.failed) done.ends) (faults_of before) (faults_of after)
+  -- the wires past the sessions are as handed in
+  pub others : drop (length done.ends) after.wires ≡ drop (length done.ends) before.wires
+  -- each of the 8 shards has its history
+  pub shards : length done.journal ≡ 8
+  -- no session was left before its input ended
+  pub to_the_end : All (λ way. way ≢ Left) (ways done.ends)
+  -- the file was opened once, and its source comes back
+  pub opens : after.host.opens ≡ counted before.host.opens
+  pub sources : files_of done.sources ≡ 0 ∷ []

@@ -1,0 +1,64 @@
+-- A value whose holds go with it, fragment by fragment.
+use Rattle.std.proofs.Common.{◌≡◌, ℕ, suc, ◌+◌, ◌-◌, ◌*◌, ◌<◌, ◌≤◌, List, [], ◌∷◌, ◌++◌, true, Some, length, map, take, sym, refl, ap, ◌∙◌, subst, append_assoc, append-nil, arith}
+use Rattle.pin_core.specs.Holding.{Holding, Key, at}
+use Rattle.pin_core.specs.declared.sizes.Sizes.{Sizes}
+use Rattle.view_sums.specs.Total.{total, same, Each}
+use Rattle.view_sums.proofs.Sums.{total-append}
+use Rattle.pinned_pool.specs.Moves.{times, front_of, without, left_by}
+use Rattle.pinned_pool.specs.Named.{IsSeat}
+use Rattle.pinned_pool.specs.declared.view.View.{View}
+use Rattle.pinned_pool.proofs.Keys.{some-at}
+use Rattle.pinned_pool.proofs.AfterSteps.{left_by-append, front-left_by}
+use Rattle.pinned_pool.specs.Moves.{loose_key}
+use Rattle.frag_value.specs.Values.{keys_of, uses, size_of, IsCut, IsFilled, frag_bytes, HasValue}
+use Rattle.pinned_pool.specs.Bytes.{bytes_of}
+use Rattle.frag_value.specs.Taken.{Placed, Begun, placed_over, over_all, more, IsNext, Loses, HandsOver}
+use Rattle.frag_value.proofs.Sames.{same-yes}
+use Rattle.frag_value.proofs.Hands.{length-frag}
+use Rattle.frag_value.proofs.Released.{left, keys-append}
+
+pub handed_none : (v : View) → HandsOver [] v v
+handed_none v = record { holds = refl; credits = refl; claims = refl; looks = refl; returns = refl; lasts = ([], sym (append-nil v.lasts)) }
+
+pub handed_more : (v : List (ℕ × ℕ)) (p : ℕ × ℕ) (k : Key) (old now new : View) → HandsOver v old now → k ≡ loose_key p.0 → Loses k now new → HandsOver (v ++ p ∷ []) old new
+handed_more v p k old now new was is step = record {
+  holds = step.holds ∙ (λ i. without (is i) (was.holds i)) ∙ sym (left_by-append (keys_of v) (loose_key p.0 ∷ []) old.holds) ∙ ap (λ ks. left_by ks old.holds) (sym (keys-append v (p ∷ [])));
+  credits = step.credits ∙ was.credits;
+  claims = step.claims ∙ was.claims;
+  looks = step.looks ∙ was.looks;
+  returns = step.returns ∙ was.returns;
+  lasts = (was.lasts.0 ++ step.lasts.0, step.lasts.1 ∙ ap (λ l. l ++ step.lasts.0) was.lasts.1 ∙ append_assoc old.lasts was.lasts.0 step.lasts.0);
+}
+
+-- the fragments so far, and the next one
+module _ (z : Sizes) (hs : List Holding) where
+  pub over-more : (v : List (ℕ × ℕ)) (p : ℕ × ℕ) → over_all z hs (v ++ p ∷ []) ≡ over_all z hs v ++ placed_over z hs p ∷ []
+  over-more [] p = refl
+  over-more (q ∷ v) p = ap (λ l. placed_over z hs q ∷ l) (over-more v p)
+
+  pub next_over : (n : ℕ) (done rest : List (ℕ × ℕ)) (p : ℕ × ℕ) → IsCut n (done ++ p ∷ rest) → Each (IsFilled hs) (done ++ p ∷ rest)
+      → (0 < p.1) × (IsFilled hs p) × (Each (λ (f : Placed). length f.bytes ≡ 4096) (over_all z hs done)) × (4096 * length (over_all z hs done) + p.1 ≤ n)
+  next_over n [] rest p cut filled = (omega (arith, cut.0, cut.1), filled.0, tt, omega (arith, cut.1))
+  next_over n (q ∷ done) rest p cut filled =
+      let r = next_over (n - 4096) done rest p cut.2 filled.1 in
+      (r.0, r.1, (omega (arith, length-frag hs q filled.0, cut.1, r.3, r.0), r.2), omega (arith, r.3, r.0))
+
+  pub over-bytes : (v : List (ℕ × ℕ)) → Each (IsFilled hs) v → total (λ (f : Placed). length f.bytes) (over_all z hs v) ≡ size_of v
+  over-bytes [] f = refl
+  over-bytes (p ∷ v) f = omega (arith, length-frag hs p f.0, over-bytes v f.1)
+
+-- the next hold is there, with the front that it had
+module _ (z : Sizes) (seat now : View) (is : IsSeat z seat) (done rest : List (ℕ × ℕ)) (p : ℕ × ℕ) (has : HasValue seat.holds (done ++ p ∷ rest)) (was : now.holds ≡ left_by (keys_of done) seat.holds) where
+  pub held_next : 0 < times (loose_key p.0) now.holds
+  held_next =
+      let parts : uses p.0 (done ++ p ∷ rest) ≡ uses p.0 done + (same p.0 p.0 + uses p.0 rest) = total-append (λ (q : ℕ × ℕ). same q.0 p.0) done (p ∷ rest) in
+      let fewer : (c : ℕ) → uses c done ≤ times (loose_key c) seat.holds = λ c. omega (arith, total-append (λ (q : ℕ × ℕ). same q.0 c) done (p ∷ rest), has.held c) in
+      omega (arith, parts, same-yes p.0 p.0 refl, has.held p.0, left p.0 done seat.holds fewer, ap (times (loose_key p.0)) was)
+
+  pub front_next : front_of p.0 now.holds ≡ front_of p.0 seat.holds
+  front_next =
+      let there : 0 < total (at p.0) (left_by (keys_of done) seat.holds) = some-at (loose_key p.0) (left_by (keys_of done) seat.holds) (subst (λ l. 0 < times (loose_key p.0) l) was held_next) in
+      ap (front_of p.0) was ∙ front-left_by is.fronts.0 p.0 (keys_of done) seat.holds is.fronts.1 there
+
+  pub placed_next : placed_over z now.holds p ≡ placed_over z seat.holds p
+  placed_next = ap (λ f. let r : Placed = record { address = (placed_over z seat.holds p).address; offset = 0; bytes = take p.1 (bytes_of f); over = true } in r) front_next

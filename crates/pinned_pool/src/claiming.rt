@@ -1,0 +1,126 @@
+//! Buffers that are claimed, and claims that are given back.
+ghost use Rattle.std.specs.Prelude.{
+  ◌≡◌,
+  ◌+◌,
+  ◌^◌,
+  ◌<◌,
+  ◌≤◌,
+  List,
+  length,
+  vec_len,
+  vec_capacity,
+  IfOk,
+  IfErr,
+  OnOk,
+  MatchBool,
+  ℕ,
+  [],
+};
+ghost use Rattle.view_sums.specs.Total.{total, Each};
+ghost use Rattle.pin_core.specs.Buffers.{buffers};
+ghost use Rattle.pin_core.specs.Holding.{Holding, Key, at};
+ghost use Rattle.pinned_pool.specs.Moves.{won, lost, loose_key};
+ghost use Rattle.pinned_pool.specs.Claims.{Passed, Wins, first_of, count_of};
+ghost use Rattle.pinned_pool.specs.Claimed.{with_claimed, ClaimsMore, NoneFree, GivesBack};
+ghost use Rattle.pinned_pool.specs.Classes.{just};
+ghost use Rattle.pinned_pool.specs.Sought.{Sought, missing};
+
+use crate::hold::Hold;
+use crate::name::PoolName;
+use crate::pool::{NoBuffer, Pool};
+use crate::seat::PoolSeat;
+use pin_core::Class;
+use std::marker::PhantomData;
+
+impl<N: PoolName> Pool<N> {
+    // A buffer that a look finds held is a lost claim, and only one that seems free is stepped for.
+    fn win(&self, seat: &mut PoolSeat<N>, buffer: u32) -> bool
+        requires { buffer < buffers N.sizes }
+        ensures { MatchBool result ((seat.new ≡ won buffer seat.old) × (total (at buffer) seat.old.holds ≡ 0)) ((found : ℕ) × (0 < found) × (seat.new ≡ lost buffer found seat.old)) }
+    {
+        if self.seems_free(seat, buffer) {
+            self.try_claim(seat, buffer)
+        } else {
+            false
+        }
+    }
+
+    // The first buffer of the class, and how many there are.
+    fn range(&self, class: Class) -> (u32, u32)
+        ensures range { (result.0 ≡ first_of N.sizes class) × (result.1 ≡ count_of N.sizes class) × (result.0 + result.1 ≤ buffers N.sizes) }
+        ensures fits { buffers N.sizes < 2 ^ 32 }
+    {
+        match class {
+            Class::Small => (0, self.small),
+            Class::Large => (self.small, self.large),
+        }
+    }
+
+    // Goes over the buffers of the class in ascending order.
+    fn scan(&self, seat: &mut PoolSeat<N>, class: Class) -> Result<Hold<N>, NoBuffer>
+        ensures won { IfOk result (λ h. Wins N.sizes class h seat.old seat.new) }
+        ensures none { IfErr result (λ e. (e.class ≡ class) × (e.looked ≡ count_of N.sizes class) × Passed (first_of N.sizes class) e.looked seat.old seat.new) }
+    {
+        let (first, count) = self.range(class);
+        for k in 0..count {
+            let buffer = first + k;
+            if self.win(seat, buffer) {
+                return Ok(Hold {
+                    buffer,
+                    pinned: false,
+                    name: PhantomData,
+                });
+            }
+        }
+        Err(NoBuffer {
+            class,
+            looked: count,
+        })
+    }
+
+    /// Takes the first buffer of the class that it finds free, in ascending order. The hold is exclusive, and its front is
+    /// empty.
+    pub fn claim(&self, seat: &mut PoolSeat<N>, class: Class) -> Result<Hold<N>, NoBuffer>
+        ensures won { IfOk result (λ h. Wins N.sizes class h seat.old seat.new) }
+        ensures none { IfErr result (λ e. (e.class ≡ class) × (e.looked ≡ count_of N.sizes class) × Passed (first_of N.sizes class) e.looked seat.old seat.new) }
+        ensures sought { Sought N.sizes (just class 1) (missing result) seat.old seat.new }
+    {
+        self.scan(seat, class)
+    }
+
+    /// Claims so many buffers of the class. Their holds go to the end of the list, also after a refusal.
+    pub fn claim_each(
+        &self,
+        seat: &mut PoolSeat<N>,
+        class: Class,
+        count: usize,
+        holds: &mut Vec<Hold<N>>,
+    ) -> Result<(), NoBuffer>
+        requires room { vec_len holds.old + count ≤ vec_capacity holds.old }
+        ensures claims { ClaimsMore N.sizes class count holds.old.items holds.new.items seat.old seat.new }
+        ensures all { OnOk result (length holds.new.items ≡ length holds.old.items + count) }
+        ensures none { IfErr result (λ e. (e.class ≡ class) × (length holds.new.items < length holds.old.items + count) × NoneFree N.sizes e seat.old seat.new) }
+        ensures sought { Sought N.sizes (just class count) (missing result) seat.old seat.new }
+        ensures capacity { vec_capacity holds.new ≡ vec_capacity holds.old }
+    {
+        let all = holds.len() + count;
+        while holds.len() < all {
+            let hold = self.claim(seat, class)?;
+            holds.push_reserved(hold);
+        }
+        Ok(())
+    }
+
+    /// Gives back what was claimed, the last one first, so that the seat's holds are those from before the claims.
+    pub fn unclaim(&self, seat: &mut PoolSeat<N>, holds: &mut Vec<Hold<N>>)
+        requires loose { Each (λ (k : Key). k ≡ loose_key k.buffer) holds.old.items }
+        requires claimed { (hs : List Holding) × (seat.old.holds ≡ with_claimed holds.old.items hs) }
+        ensures holds { (hs : List Holding) → seat.old.holds ≡ with_claimed holds.old.items hs → seat.new.holds ≡ hs }
+        ensures same { GivesBack seat.old seat.new }
+        ensures none { holds.new.items ≡ [] }
+    {
+        while let Some(hold) = holds.pop() {
+            self.unpin(seat, hold);
+        }
+    }
+}
