@@ -51,6 +51,7 @@ fn take(reader: &mut Reader, tally: &mut Tally)
         for i in 0..request.len() {
             tally.bytes = tally.bytes.saturating_add(request.word(i).len() as u64);
         }
+        reader.give_back(request);
     }
 }
 
