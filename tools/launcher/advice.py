@@ -7,7 +7,7 @@ from launcher.replies import REPLIES, will_serve
 
 JUDGED = 67_108_864
 TYPED = "commands as they are typed become requests by tools/to_resp"
-SAID = "where, the line that it said tells (docs/USE.md, Statuses)"
+SAID = "the program's line says behind how many bytes, and what stands before that was served (docs/USE.md, Statuses)"
 
 
 def after(status, words):
@@ -23,7 +23,8 @@ def bad_words(words):
         return f"nothing was served: to serve {words[0]}, put the word serve before it"
     if words[:1] == ["serve"]:
         return "nothing was served: behind serve stands the name of one file of requests"
-    return f"nothing was served: the program's one command is serve FILE, and not {' '.join(words)[:60]!r} (--help says more)"
+    given = " ".join(words)[:60]
+    return f"nothing was served: the program's one command is serve FILE, and not {given!r} (--help says more)"
 
 
 def cannot_open(words):
@@ -33,17 +34,20 @@ def cannot_open(words):
     except OSError as it:
         why = it.strerror
     earlier = f"; {REPLIES} is of an earlier run" if os.path.lexists(REPLIES) else ""
-    return f"{words[1]}: {why}. Nothing was served{earlier}: name a file of RESP2 requests, which tools/to_resp makes of typed commands"
+    wanted = "name a file of RESP2 requests, which tools/to_resp makes of typed commands"
+    return f"{words[1]}: {why}. Nothing was served{earlier}: {wanted}"
 
 
 def no_requests(words):
     file = words[1]
     begins, size = front_of(file)
     if size > JUDGED:
-        return f"{file}: of its {size} bytes the first {JUDGED} are judged, and what is whole there was served: cut it into several files"
+        judged = f"of its {size} bytes the first {JUDGED} are judged, and what is whole there was served"
+        return f"{file}: {judged}: cut it into several files"
     if begins not in (b"", b"*"):
-        return f"{file}: it begins with {begins.decode('latin-1')!r}, and a RESP2 request with '*': {TYPED}: tools/to_resp {file} > requests.resp"
-    return f"{file}: it isn't whole RESP2 requests to its end, and what stands before that was served; {SAID}; {TYPED}"
+        begins = f"it begins with {begins.decode('latin-1')!r}, and a RESP2 request with '*'"
+        return f"{file}: {begins}: {TYPED}: tools/to_resp {file} > requests.resp"
+    return f"{file}: it isn't whole RESP2 requests to its end; {SAID}; {TYPED}"
 
 
 def front_of(file):
@@ -59,11 +63,13 @@ def front_of(file):
 
 
 def read_fault(words):
-    return f"{words[1]}: a read failed, and what came before it was served" + (": it is a folder" if os.path.isdir(words[1]) else "")
+    why = ": it is a folder" if os.path.isdir(words[1]) else ""
+    return f"{words[1]}: a read failed, and what came before it was served{why}"
 
 
 def write_fault(_words):
-    return f"{REPLIES} or the line couldn't be written whole: is there room on the disk, leave to write in this folder, a standard output?"
+    asked = "is there room on the disk, leave to write in this folder, a standard output?"
+    return f"{REPLIES} or the line couldn't be written whole: {asked}"
 
 
 def out_of_memory(_words):

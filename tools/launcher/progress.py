@@ -11,7 +11,7 @@ EACH = 60  # seconds between lines where none can be written over
 
 
 class Progress:
-    """Shows one line: on a terminal it is written over each second, elsewhere it comes once a minute and for each crate."""
+    """Shows one line: on a terminal it is written over each second; else it comes once a minute and for each crate."""
 
     def __init__(self, crates, voice):
         self.crates = crates
@@ -59,7 +59,7 @@ class Progress:
 
 
 def crates_below(listed, crate):
-    """Returns the repository's crates in the order in which rt proves them, the given one last; `listed` is crates.txt."""
+    """Returns the crates in the order in which rt proves them, the given one last; `listed` is crates.txt."""
     lines = (line.partition(":") for line in listed.splitlines() if line.strip() and not line.startswith("#"))
     uses = {name.split()[0]: names.split() for name, _, names in lines if name.split()}
 

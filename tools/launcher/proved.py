@@ -19,7 +19,7 @@ TOOLCHAIN_MISSING = "no command rt on the PATH: the Rattle toolchain has it, and
 
 
 class Proved:
-    """Sees to it that the program that runs was proved from the sources: it keeps a note of their sum and of its own."""
+    """Sees to it that the program was proved from the sources: it keeps a note of their sum and of its own."""
 
     def __init__(self, children, voice):
         self.children, self.voice = children, voice
@@ -88,7 +88,7 @@ class Proved:
             except OSError as it:
                 raise Refused(
                     f"this clone can't be written ({reason(it)}), so the program can't be proved and built here: "
-                    "nothing was run. Call it in a clone of your own"
+                    "nothing was run. Call it in a clone of your own, or with --unproved"
                 ) from None
             self.run_rt(log)
         if self.sum_of_sources() != self.sum:
@@ -120,7 +120,8 @@ class Proved:
         rt = self.children.start(words, cwd=CRATE_FOLDER, start_new_session=True, **how)
         last = self.follow(rt, log)
         status = rt.wait()
-        self.children.stop_if_asked(self.voice.say, "the program isn't proved yet, and nothing was run; what was proved is kept")
+        left = "the program isn't proved yet, and nothing was run; what was proved is kept"
+        self.children.stop_if_asked(self.voice.say, left)
         if status or not os.access(self.program, os.X_OK):
             with contextlib.suppress(OSError):
                 os.write(2, b"".join(it + b"\n" for it in last))

@@ -16,7 +16,7 @@ def will_serve(words):
 
 
 def lock_folder():
-    """Returns what holds this folder for one run; no file is made, and the lock ends with the last process that has it."""
+    """Returns what holds this folder for one run: no file, and it ends with the last process that has it."""
     try:
         folder = os.open(".", os.O_RDONLY | os.O_DIRECTORY)
         fcntl.flock(folder, fcntl.LOCK_EX | fcntl.LOCK_NB)

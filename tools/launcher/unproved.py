@@ -1,7 +1,7 @@
 """A run of the program as `rt try` compiles it: nothing is proved of it.
 
-rt try runs the program in a folder of its own that goes when it has ended. So the program is given a pipe as its file of
-requests: it waits there until its folder is known, and has a link to the file of replies.
+rt try runs the program in a folder of its own that goes when it has ended. So the program is given a pipe as its file
+of requests: it waits there until its folder is known, and has a link to the file of replies.
 """
 
 import contextlib
@@ -26,7 +26,7 @@ def run(words, folder, children, voice):
     """Returns the program's status; what holds the folder is handed on to rt."""
     if not shutil.which("rt"):
         raise Refused(TOOLCHAIN_MISSING, 127)
-    voice.say("NOTHING IS PROVED of this run: rt try compiles the program, which takes about half a minute, and runs it")
+    voice.say("NOTHING IS PROVED of this run: rt try compiles the program, about half a minute, and then runs it")
     with tempfile.TemporaryDirectory(prefix="vepkhundi-") as room:
         served = words[1] if will_serve(words) and can_be_read(words[1]) else None
         if will_serve(words):
@@ -101,4 +101,4 @@ def folder_of_reader(pipe, rt):
                 if int(process) != os.getpid() and os.readlink(link) == pipe:
                     return os.readlink(f"/proc/{process}/cwd")
         time.sleep(0.02)
-    raise Refused("the folder in which rt try runs the program isn't found, so its replies can't be handed on: nothing was run")
+    raise Refused("the folder in which rt try runs the program isn't found: nothing was run")

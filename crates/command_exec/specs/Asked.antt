@@ -3,9 +3,11 @@ use Rattle.std.specs.Prelude.{◌≡◌, ℕ, ℤ, Bool, true, nat_le, Option, S
 use Rattle.std.specs.List.{list_all}
 use Rattle.flake_base.specs.declared.reply.ErrorKind.TheVariants.{UnknownCommand, NotInteger}
 use Rattle.flake_model.specs.Resp.{Words}
-use Rattle.flake_model.specs.Command.{Command, fault, ping_command, get_command, set_command, mget_command, del_command, exists_command, append_command, strlen_command, get_range_command}
+use Rattle.flake_model.specs.Command.{Command, fault, ping_command, get_command, set_command, mget_command}
+use Rattle.flake_model.specs.Command.{del_command, exists_command, append_command, strlen_command, get_range_command}
 use Rattle.command_exec.specs.declared.name.Name.{Name}
-use Rattle.command_exec.specs.declared.name.Name.TheVariants.{Ping, Get, Set, MGet, Del, Exists, Append, StrLen, GetRange}
+use Rattle.command_exec.specs.declared.name.Name.TheVariants.{Ping, Get, Set, MGet, Del, Exists, Append}
+use Rattle.command_exec.specs.declared.name.Name.TheVariants.{StrLen, GetRange}
 use Rattle.command_exec.specs.declared.asked.Asked.{Asked}
 use Rattle.command_exec.specs.declared.asked.Asked.TheVariants as asked_for
 use Rattle.shard_store.specs.declared.setting.Setting.{Setting}

@@ -8,7 +8,8 @@ use Rattle.resp_reader.specs.declared.request.Request.{Request}
 use Rattle.command_exec.specs.declared.op.Op.{Op}
 use Rattle.command_exec.specs.declared.op.Op.TheVariants as op
 use Rattle.command_exec.specs.declared.asked.Asked.{Asked}
-use Rattle.command_exec.specs.declared.asked.Asked.TheVariants.{Ping, PingWith, Get, Set, MGet, Del, Exists, Append, StrLen, GetRange, Fault}
+use Rattle.command_exec.specs.declared.asked.Asked.TheVariants.{Ping, PingWith, Get, Set, MGet, Del, Exists, Append}
+use Rattle.command_exec.specs.declared.asked.Asked.TheVariants.{StrLen, GetRange, Fault}
 use Rattle.shard_store.specs.Settings.{when_of}
 use Rattle.command_exec.specs.Asked.{are_keys}
 
@@ -74,16 +75,23 @@ command_by (Fault kind) words = model.fault kind
 abbrev pub Between : ℕ → ℕ → Words → Type 0
 Between least most words = (least ≤ length words) × (length words ≤ most)
 
--- what the tests leave: the number of words, and the lengths of keys, values and PING's argument; a fault may have any words
+-- what the tests leave: the number of words, and the lengths of keys, values and PING's argument; a fault may have any
+-- words
 abbrev pub FitsWords : Asked → Words → Type 0
 FitsWords Ping words = Unit {0}
 FitsWords PingWith words = Between 2 2 words × (length (first words) ≤ message_limit)
 FitsWords Get words = Between 2 2 words × (are_keys (first words ∷ []) ≡ true)
-FitsWords (Set setting) words = (3 ≤ length words) × (are_keys (first words ∷ []) ≡ true) × (length (second words) ≤ value_limit)
+FitsWords (Set setting) words =
+    (3 ≤ length words) × (are_keys (first words ∷ []) ≡ true) × (length (second words) ≤ value_limit)
 FitsWords MGet words = Between 2 65 words × (are_keys (arguments words) ≡ true)
 FitsWords Del words = Between 2 65 words × (are_keys (arguments words) ≡ true)
 FitsWords Exists words = Between 2 65 words × (are_keys (arguments words) ≡ true)
-FitsWords Append words = Between 3 3 words × (are_keys (first words ∷ []) ≡ true) × (length (second words) ≤ value_limit)
+FitsWords Append words =
+    Between 3 3 words × (are_keys (first words ∷ []) ≡ true) × (length (second words) ≤ value_limit)
 FitsWords StrLen words = Between 2 2 words × (are_keys (first words ∷ []) ≡ true)
 FitsWords (GetRange start end) words = Between 4 4 words × (are_keys (first words ∷ []) ≡ true)
 FitsWords (Fault kind) words = Unit {0}
+
+-- the keys and values of a command stand among these words
+abbrev pub IsAmong : model.Command → Words → Type 0
+IsAmong command words = (asked : Asked) × (command ≡ command_by asked words)

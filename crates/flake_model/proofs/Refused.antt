@@ -1,19 +1,21 @@
 -- Outcomes that no run has, and why.
-use Rattle.std.proofs.Common.{◌≡◌, ℕ, ◌+◌, ◌≤◌, ◌⊎◌, inl, inr, true, false, List, [], ◌∷◌, ◌++◌, Option, Some, length, map, arith, refl, ap, sym, ◌∙◌, subst, append-nil, lit≤}
+use Rattle.std.proofs.Common.{◌≡◌, ℕ, ◌+◌, ◌≤◌, ◌⊎◌, inl, inr, true, false, List, [], ◌∷◌, ◌++◌, Option, Some, length, map, arith, refl, ap, sym, ◌∙◌, subst, append-nil, lit≤, Bool, cond, is_none}
 use Rattle.std.proofs.lemmas.List.{length-append}
+use Rattle.std.proofs.lemmas.List.Sums.{sum_by-cons}
 use Rattle.std.specs.Prelude.{codes}
 use Rattle.std.specs.Fmt.{digits}
-use Rattle.std.specs.List.{AllByRecursion}
+use Rattle.std.specs.List.{AllByRecursion, count_by}
 use Rattle.flake_base.specs.declared.journal.Entry.{Entry}
 use Rattle.flake_base.specs.declared.session.SessionEnd.{SessionEnd}
 use Rattle.flake_base.specs.declared.session.End.{End}
 use Rattle.flake_base.specs.declared.session.End.TheVariants.{Clean, Protocol, Truncated, TooLong, ReadFault, Memory, Left}
 use Rattle.flake_model.specs.Resp.{Words, Parses, array}
+use Rattle.flake_model.specs.Journal.{answers_of, answer_at}
 use Rattle.flake_model.specs.Store.{always}
 use Rattle.flake_model.specs.Command.{Command, set}
 use Rattle.flake_model.specs.Input.{commands_in}
 use Rattle.flake_model.specs.Session.{Session, IsTold, is_stopped, HasNoError, EndsAs, IsReadOut, IsReplied, taken_of, IsSession}
-use Rattle.flake_model.specs.Run.{WasServed, missing_writes}
+use Rattle.flake_model.specs.Run.{WasServed, all_commands, served_steps, missing_writes}
 use Rattle.flake_model.specs.Refused.{ended, nothing_done, one_set, bad_length}
 use Rattle.flake_model.proofs.Faults.{error_stays, long_stays}
 use Rattle.flake_model.proofs.OneParse.{one_parse, requests_go_on}
@@ -161,3 +163,19 @@ whole_input input session input_is own is =
     by_end ReadFault own shown ends none parsed = absurd (cc)
     by_end Memory own shown ends none parsed = absurd (cc)
     by_end Left own shown ends none parsed = absurd (cc)
+
+-- where nothing is counted each is counted out
+all_out : {A : Type 0} (test : A → Bool) (xs : List A) → count_by test xs ≡ 0 → AllByRecursion (λ x. test x ≡ false) xs
+all_out test [] none = tt
+all_out test (x ∷ xs) none = out (test x) refl (sym (sum_by-cons (λ y. cond (test y) 1 0) x xs) ∙ none) (λ rest. all_out test xs rest) where
+  out : (yes : Bool) → test x ≡ yes → cond (test x) 1 0 + count_by test xs ≡ 0 → (count_by test xs ≡ 0 → AllByRecursion (λ y. test y ≡ false) xs)
+      → AllByRecursion (λ y. test y ≡ false) (x ∷ xs)
+  out true is none behind =
+      let n : ℕ = cond (test x) 1 0 in
+      let one : n ≡ 1 = ap (λ b. cond {A = ℕ} b 1 0) is in
+      absurd (omega (arith, none, one))
+  out false is none behind = (is, behind (omega (arith, none)))
+
+pub all_entered : (sessions : List Session) (journal : List (List Entry)) → missing_writes sessions journal ≡ 0
+    → AllByRecursion (λ step. is_none (answer_at step.0 (answers_of (all_commands sessions) journal)) ≡ false) (served_steps 0 sessions)
+all_entered sessions journal none = all_out (λ step. is_none (answer_at step.0 (answers_of (all_commands sessions) journal))) (served_steps 0 sessions) none

@@ -2,7 +2,8 @@
 use Rattle.std.specs.Prelude.{◌≡◌, ◌≢◌, ◌⊎◌, ◌↔◌, ◌≤◌, ◌∷◌, [], ℕ, List, length, map, slice_index, All, IsNone, IfSome}
 use Rattle.flake_base.specs.Causes.{Rose}
 use Rattle.flake_base.specs.declared.session.End.{End}
-use Rattle.flake_base.specs.declared.session.End.TheVariants.{Clean, Protocol, Truncated, TooLong, ReadFault, Memory, Left}
+use Rattle.flake_base.specs.declared.session.End.TheVariants.{Clean, Protocol, Truncated, TooLong, ReadFault, Memory}
+use Rattle.flake_base.specs.declared.session.End.TheVariants.{Left}
 use Rattle.flake_program.specs.Pump.{EndFaults}
 use Rattle.flake_program.specs.Task.{Task}
 use Rattle.flake_program.specs.Outside.{Outside, faults_of}
@@ -30,7 +31,8 @@ abbrev pub FirstPutFailed : {W : Type 0} → Outside W → Outside W → Type 0
 FirstPutFailed before after = Rose (slice_index (faults_of before) 0) (slice_index (faults_of after) 0)
 
 pub record Causes {W : Type 0} (task : Task) (before after : Outside W) (done : Done) : Type 0 where
-  pub statuses : (done.status ≡ 0) ⊎ (done.status ≡ 1) ⊎ (done.status ≡ 2) ⊎ (done.status ≡ 3) ⊎ (done.status ≡ 4) ⊎ (done.status ≡ 5) ⊎ (done.status ≡ 6)
+  pub statuses : (done.status ≡ 0) ⊎ (done.status ≡ 1) ⊎ (done.status ≡ 2) ⊎ (done.status ≡ 3)
+      ⊎ (done.status ≡ 4) ⊎ (done.status ≡ 5) ⊎ (done.status ≡ 6)
   -- where the words are accepted, the file was opened and memory was not wanting, the session has its end
   pub served : (done.status ≡ 0) ⊎ (done.status ≡ 3) ⊎ (done.status ≡ 4) ⊎ (done.status ≡ 5) → length done.ends ≡ 1
   pub one_session : length done.ends ≤ 1
@@ -39,16 +41,19 @@ pub record Causes {W : Type 0} (task : Task) (before after : Outside W) (done : 
   -- 1 comes exactly where the words are no command or there is no wire
   pub bad_words : (done.status ≡ 1) ↔ (IsNone task ⊎ (before.wires ≡ []))
   -- 2 only where an open of the file failed
-  pub open_fault : done.status ≡ 2 → IfSome task (λ name. Rose (before.host.open_faults name) (after.host.open_faults name))
+  pub open_fault : done.status ≡ 2
+      → IfSome task (λ name. Rose (before.host.open_faults name) (after.host.open_faults name))
   -- and with every other status but 6 none did
-  pub opened : done.status ≢ 2 → done.status ≢ 6 → (name : List ℕ) → after.host.open_faults name ≡ before.host.open_faults name
+  pub opened : done.status ≢ 2 → done.status ≢ 6
+      → (name : List ℕ) → after.host.open_faults name ≡ before.host.open_faults name
   -- a read failed exactly where the end says so
   pub reads : done.ends ≢ [] → AreCountsOf (ways done.ends) (read_faults_of done.sources)
   -- 5 only where a put or a say failed, and memory was not wanting
   pub write_fault : done.status ≡ 5 → All (λ way. status_by way ≢ 6) (ways done.ends)
       × (Rose before.host.say_faults after.host.say_faults ⊎ FirstPutFailed before after)
   -- and with 0, 3 and 4 none did
-  pub written : (done.status ≡ 0) ⊎ (done.status ≡ 3) ⊎ (done.status ≡ 4) → (after.host.say_faults ≡ before.host.say_faults) × (faults_of after ≡ faults_of before)
+  pub written : (done.status ≡ 0) ⊎ (done.status ≡ 3) ⊎ (done.status ≡ 4)
+      → (after.host.say_faults ≡ before.host.say_faults) × (faults_of after ≡ faults_of before)
   -- the detail names the file that did not open
   pub detail : done.status ≡ 2 → done.detail ≡ File 0
   pub no_detail : done.status ≢ 2 → done.detail ≡ Nothing

@@ -24,7 +24,8 @@ abbrev pub source_told : ℕ → Option (List ℕ) → ℕ → SourceTold
 source_told file left faults = record { file = file; left = left; faults = faults }
 
 abbrev pub done : ℕ → Detail → List SessionEnd → List (Roomy Entry) → List SourceTold → Done
-done status detail ends journal sources = record { status = status; detail = detail; ends = ends; journal = histories journal; sources = sources }
+done status detail ends journal sources =
+    record { status = status; detail = detail; ends = ends; journal = histories journal; sources = sources }
 
 abbrev pub ways : List SessionEnd → List End
 ways ends = map (λ end. end.end) ends

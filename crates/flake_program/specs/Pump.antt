@@ -1,8 +1,10 @@
 -- A pump: what its source gave, and which commands it has given of that.
-use Rattle.std.specs.Prelude.{◌≡◌, ◌≢◌, ℕ, ◌+◌, ◌-◌, ◌^◌, ◌≤◌, min, Bool, List, [], ◌∷◌, ◌++◌, Option, None, IfSome, length, map}
+use Rattle.std.specs.Prelude.{◌≡◌, ◌≢◌, ℕ, ◌+◌, ◌-◌, ◌^◌, ◌≤◌, min, Bool, List, [], ◌∷◌, ◌++◌, length, map}
+use Rattle.std.specs.Prelude.{Option, None, IfSome}
 use Rattle.flake_base.specs.Causes.{Rose}
 use Rattle.flake_base.specs.declared.session.End.{End}
-use Rattle.flake_base.specs.declared.session.End.TheVariants.{Clean, Protocol, Truncated, TooLong, ReadFault, Memory, Left}
+use Rattle.flake_base.specs.declared.session.End.TheVariants.{Clean, Protocol, Truncated, TooLong, ReadFault, Memory}
+use Rattle.flake_base.specs.declared.session.End.TheVariants.{Left}
 use Rattle.flake_model.specs.Resp.{Words, Parses, judged_bytes}
 use Rattle.flake_model.specs.Command.{Command, fault, command_of}
 use Rattle.flake_base.specs.declared.session.SessionEnd.{SessionEnd}
@@ -83,19 +85,26 @@ pub record AreFirst (bytes : List ℕ) (requests : List Words) : Type 0 where
 
 -- What the bytes of an ended input mean: the requests that were given and those that are still to be given are theirs.
 abbrev pub IsEnded : End → Option (List ℕ) → List ℕ → List Words → List Command → Progress → Type 0
-IsEnded Clean left bytes requests given reader = IsDone left × Parses bytes (requests ++ reader.requests) Clean × (given ≡ map command_of requests)
+IsEnded Clean left bytes requests given reader =
+    IsDone left × Parses bytes (requests ++ reader.requests) Clean × (given ≡ map command_of requests)
 IsEnded (Protocol kind place) left bytes requests given reader =
-    Parses bytes requests (Protocol kind place) × (reader.requests ≡ []) × (given ≡ map command_of requests ++ fault (protocol_error kind) ∷ [])
+    Parses bytes requests (Protocol kind place) × (reader.requests ≡ [])
+    × (given ≡ map command_of requests ++ fault (protocol_error kind) ∷ [])
 IsEnded (Truncated place) left bytes requests given reader =
     IsDone left × Parses bytes (requests ++ reader.requests) (Truncated place) × (given ≡ map command_of requests)
-IsEnded TooLong left bytes requests given reader = Parses bytes (requests ++ reader.requests) TooLong × (given ≡ map command_of requests)
-IsEnded ReadFault left bytes requests given reader = AreRead bytes (requests ++ reader.requests) × (reader.requests ≡ []) × (given ≡ map command_of requests)
-IsEnded Memory left bytes requests given reader = AreFirst bytes (requests ++ reader.requests) × (given ≡ map command_of requests)
+IsEnded TooLong left bytes requests given reader =
+    Parses bytes (requests ++ reader.requests) TooLong × (given ≡ map command_of requests)
+IsEnded ReadFault left bytes requests given reader =
+    AreRead bytes (requests ++ reader.requests) × (reader.requests ≡ []) × (given ≡ map command_of requests)
+IsEnded Memory left bytes requests given reader =
+    AreFirst bytes (requests ++ reader.requests) × (given ≡ map command_of requests)
 IsEnded Left left bytes requests given reader = ⊥
 
 abbrev pub IsAt : Stage → Option (List ℕ) → List ℕ → List Words → List Command → Progress → Type 0
-IsAt Reading left bytes requests given reader = Reads bytes requests reader × (reader.closed ≡ None) × (given ≡ map command_of requests)
-IsAt (Refused kind place) left bytes requests given reader = Parses bytes (requests ++ reader.requests) (Protocol kind place) × (given ≡ map command_of requests)
+IsAt Reading left bytes requests given reader =
+    Reads bytes requests reader × (reader.closed ≡ None) × (given ≡ map command_of requests)
+IsAt (Refused kind place) left bytes requests given reader =
+    Parses bytes (requests ++ reader.requests) (Protocol kind place) × (given ≡ map command_of requests)
 IsAt (Ended end) left bytes requests given reader = IsEnded end left bytes requests given reader
 
 -- Of an input, and from a count of faults on, these commands were given.
@@ -119,11 +128,14 @@ abbrev pub ended_at : End → ℕ → ℕ → Bool → SessionEnd
 ended_at end taken replies failed = record { end = end; taken = taken; replies = replies; failed = failed }
 
 abbrev pub session_at : Option (List ℕ) → Option (List ℕ) → List Command → SessionEnd → ℕ → Session
-session_at input left commands end begun = record { input = input; left = left; commands = commands; end = end; begun = begun }
+session_at input left commands end begun =
+    record { input = input; left = left; commands = commands; end = end; begun = begun }
 
 -- Of an input, these commands were given, and it ended so; where memory was wanting there may be more.
-pub record HasEnded (input : Option (List ℕ)) (before : ℕ) (given : List Command) (end : End) (pump : PumpState) : Type 0 where
+pub record HasEnded (input : Option (List ℕ)) (before : ℕ) (given : List Command) (end : End)
+    (pump : PumpState) : Type 0 where
   pub faults_are : EndFaults end before pump.faults
   pub to_the_end : end ≢ Left
   pub more : List Command
-  pub session : (failed : Bool) → IsSession (session_at input pump.left (given ++ more) (ended_at end pump.taken (length given) failed) 0)
+  pub session : (failed : Bool)
+      → IsSession (session_at input pump.left (given ++ more) (ended_at end pump.taken (length given) failed) 0)

@@ -15,8 +15,10 @@ abbrev pub inputs_of : Task → HostTold → List (Option (List ℕ))
 inputs_of task host = map host.holds (option_to_list task)
 
 pub record Served {W : Type 0} (task : Task) (before after : Outside W) (done : Done) : Type 0 where
-  -- the journal has the parts that were run, in one history, and the wires were sent the texts of the replies that it gives
-  pub run : WasServed (inputs_of task before.host) (lefts_of done.sources) done.ends done.journal (sent_by before) (sent_by after)
+  -- the journal has the parts that were run, in one history, and the wires were sent the texts of the replies that it
+  -- gives
+  pub run : WasServed (inputs_of task before.host) (lefts_of done.sources) done.ends done.journal
+      (sent_by before) (sent_by after)
   -- every write has its entry: there is no pool that could be full
   pub none_missing : missing_writes run.sessions done.journal ≡ 0
   -- as many bytes were put as the texts have, also on a wire that doesn't tell which

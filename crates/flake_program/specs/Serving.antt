@@ -29,16 +29,16 @@ pub record WasSent (failed : Bool) (text : List ℕ) (old new : WireTold) : Type
   pub faults : FaultIs failed old.faults new.faults
 
 -- a session that has given these commands, run them, and entered their parts
-pub record AreServing (input : Option (List ℕ)) (before : ℕ) (given : List Command) (call : ℕ) (pump : PumpState) (tables : Tables)
-    (journal : List (List Entry)) : Type 0 where
+pub record AreServing (input : Option (List ℕ)) (before : ℕ) (given : List Command) (call : ℕ)
+    (pump : PumpState) (tables : Tables) (journal : List (List Entry)) : Type 0 where
   pub pump_is : IsPump input before given pump
   pub count : call ≡ length given
   pub store_is : Holds tables (store_on finite.empty given)
   pub sharded : IsSharded (session_steps 0 0 given) journal
 
 -- it gave one command more, whose reply has this text
-pub record HasReplied (input : Option (List ℕ)) (before : ℕ) (given : List Command) (text : List ℕ) (pump : PumpState) (tables : Tables)
-    (journal : List (List Entry)) : Type 0 where
+pub record HasReplied (input : Option (List ℕ)) (before : ℕ) (given : List Command) (text : List ℕ)
+    (pump : PumpState) (tables : Tables) (journal : List (List Entry)) : Type 0 where
   pub command : Command
   pub text_is : text ≡ reply_text (reply_on (store_on finite.empty given) command)
   pub serving : AreServing input before (given ++ command ∷ []) (length given + 1) pump tables journal
@@ -52,11 +52,13 @@ pub record HasStopped (input : Option (List ℕ)) (before : ℕ) (given : List C
   -- how many parts of the call behind the last reply were run
   pub begun : ℕ
   pub first : take (length given) commands ≡ given
-  pub session : (failed : Bool) → IsSession (session_at input pump.left commands (ended_at end pump.taken (length given) failed) begun)
+  pub session : (failed : Bool)
+      → IsSession (session_at input pump.left commands (ended_at end pump.taken (length given) failed) begun)
   pub sharded : IsSharded (ran_steps 0 commands (length given) begun) journal
 
 -- Of an input, commands were run: the shards have their parts, and the wire was sent their replies.
-pub record HasServed (input left : Option (List ℕ)) (end : SessionEnd) (journal : List (List Entry)) (old new : WireTold) : Type 0 where
+pub record HasServed (input left : Option (List ℕ)) (end : SessionEnd) (journal : List (List Entry))
+    (old new : WireTold) : Type 0 where
   pub commands : List Command
   pub begun : ℕ
   pub session : IsSession (session_at input left commands end begun)
@@ -64,11 +66,14 @@ pub record HasServed (input left : Option (List ℕ)) (end : SessionEnd) (journa
   pub wire : WasSent end.failed (texts_to (take end.replies commands)) old new
 
 -- A source was served: its session's parts make the journal, and the first wire was sent its replies.
-pub record IsRun {W : Type 0} (input left : Option (List ℕ)) (end : SessionEnd) (journal : List (List Entry)) (olds news : List W)
-    (told : W → WireTold) : Type 0 where
-  pub run : WasServed (input ∷ []) (left ∷ []) (end ∷ []) journal (map (λ wire. (told wire).sent) olds) (map (λ wire. (told wire).sent) news)
+pub record IsRun {W : Type 0} (input left : Option (List ℕ)) (end : SessionEnd) (journal : List (List Entry))
+    (olds news : List W) (told : W → WireTold) : Type 0 where
+  pub run : WasServed (input ∷ []) (left ∷ []) (end ∷ []) journal
+      (map (λ wire. (told wire).sent) olds) (map (λ wire. (told wire).sent) news)
   pub none_missing : missing_writes run.sessions journal ≡ 0
-  pub bytes : BytesAre (wire_texts run.sessions journal) (map (λ wire. (told wire).bytes) olds) (map (λ wire. (told wire).bytes) news)
-  pub faults : FaultsAre (end.failed ∷ []) (map (λ wire. (told wire).faults) olds) (map (λ wire. (told wire).faults) news)
+  pub bytes : BytesAre (wire_texts run.sessions journal)
+      (map (λ wire. (told wire).bytes) olds) (map (λ wire. (told wire).bytes) news)
+  pub faults : FaultsAre (end.failed ∷ [])
+      (map (λ wire. (told wire).faults) olds) (map (λ wire. (told wire).faults) news)
   pub flushed : KeptAre (end.failed ∷ []) (map (λ wire. (told wire).kept) olds) (map (λ wire. (told wire).kept) news)
   pub others : drop 1 news ≡ drop 1 olds

@@ -18,7 +18,8 @@ entries_of_tables tables = map (λ table. table.entries) tables
 -- each shard's table has the keys of its shard, as the store has them
 pub record Holds (tables : Tables) (store : Store) : Type 0 where
   pub count : length tables ≡ 8
-  pub each : (shard : ℕ) (entries : List (Vec ℕ × Vec ℕ)) → slice_get tables shard ≡ Some entries → (key : List ℕ) → shard_of (length tables) key ≡ shard → bytes_at key entries ≡ finite.get store key
+  pub each : (shard : ℕ) (entries : List (Vec ℕ × Vec ℕ)) → slice_get tables shard ≡ Some entries
+      → (key : List ℕ) → shard_of (length tables) key ≡ shard → bytes_at key entries ≡ finite.get store key
 
 -- what a part's answer stands for
 abbrev pub answer_meant : PartAnswer → Answer

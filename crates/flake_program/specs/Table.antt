@@ -14,11 +14,13 @@ same_bytes = pointwise nat_eq
 
 -- the bytes at a key
 abbrev pub bytes_at : List ℕ → Entries → Option (List ℕ)
-bytes_at key entries = option_map (λ (value : Vec ℕ). value.items) (lookup (λ (name : Vec ℕ). same_bytes key name.items) entries)
+bytes_at key entries =
+    option_map (λ (value : Vec ℕ). value.items) (lookup (λ (name : Vec ℕ). same_bytes key name.items) entries)
 
 -- the new entries have this at the key, and at each other key what the old ones have
 abbrev pub HasChanged : List ℕ → Option (List ℕ) → Entries → Entries → Type 0
-HasChanged key value old new = (other : List ℕ) → bytes_at other new ≡ (if same_bytes key other then value else bytes_at other old)
+HasChanged key value old new = (other : List ℕ)
+    → bytes_at other new ≡ (if same_bytes key other then value else bytes_at other old)
 
 -- the new entries have at each key what the old ones have
 abbrev pub HasKept : Entries → Entries → Type 0
@@ -40,3 +42,7 @@ left_by removes old = None
 
 abbrev pub value_after : Option (List ℕ) → Operation → Option (List ℕ)
 value_after old operation = left_by (change_on old operation) old
+
+-- the entries after an operation at its key
+abbrev pub HasDone : List ℕ → Operation → Entries → Entries → Type 0
+HasDone key operation old new = HasChanged key (value_after (bytes_at key old) operation) old new

@@ -15,8 +15,10 @@ use std::alloc::Global;
 
 /// Runs a command's parts in order, and gives its reply's text.
 pub fn execute(alloc: Global, store: &mut Store, command: &Command) -> Result<Bytes, Memory>
-    ensures text { (meaning : Meaning) → Holds store.old meaning → IfOk result (λ text. text.items ≡ reply_text (reply_on meaning command.now)) }
-    ensures store { (meaning : Meaning) → Holds store.old meaning → OnOk result (Holds store.new (after_all meaning (parts command.now))) }
+    ensures text { (meaning : Meaning) → Holds store.old meaning
+        → IfOk result (λ text. text.items ≡ reply_text (reply_on meaning command.now)) }
+    ensures store { (meaning : Meaning) → Holds store.old meaning
+        → OnOk result (Holds store.new (after_all meaning (parts command.now))) }
     ensures some { IfOk result (λ text. 0 < length text.items) }
 {
     let reply = reply(alloc, store, command)?;
@@ -25,8 +27,10 @@ pub fn execute(alloc: Global, store: &mut Store, command: &Command) -> Result<By
 
 // Runs a command's parts in order, and gives its reply.
 fn reply(alloc: Global, store: &mut Store, command: &Command) -> Result<Reply, Memory>
-    ensures reply { (model : Meaning) → Holds store.old model → IfOk result (λ r. meaning r ≡ reply_on model command.now) }
-    ensures store { (model : Meaning) → Holds store.old model → OnOk result (Holds store.new (after_all model (parts command.now))) }
+    ensures reply { (model : Meaning) → Holds store.old model
+        → IfOk result (λ r. meaning r ≡ reply_on model command.now) }
+    ensures store { (model : Meaning) → Holds store.old model
+        → OnOk result (Holds store.new (after_all model (parts command.now))) }
 {
     match command.op() {
         Op::Ping => Ok(Reply::Pong),
@@ -43,8 +47,10 @@ fn reply(alloc: Global, store: &mut Store, command: &Command) -> Result<Reply, M
 // Runs the only part of a command, whose answer is the reply.
 fn only_reply(alloc: Global, store: &mut Store, command: &Command) -> Result<Reply, Memory>
     requires { length (parts command.now) ≡ 1 }
-    ensures reply { (model : Meaning) → Holds store.old model → IfOk result (λ r. meaning r ≡ reply_to (only (map Some (answers_to model (parts command.now))))) }
-    ensures store { (model : Meaning) → Holds store.old model → OnOk result (Holds store.new (after_all model (parts command.now))) }
+    ensures reply { (model : Meaning) → Holds store.old model
+        → IfOk result (λ r. meaning r ≡ reply_to (only (map Some (answers_to model (parts command.now))))) }
+    ensures store { (model : Meaning) → Holds store.old model
+        → OnOk result (Holds store.new (after_all model (parts command.now))) }
 {
     let part = command.part(0);
     let answer = store.run(alloc, &part)?;
@@ -66,8 +72,11 @@ fn answer_reply(answer: PartAnswer) -> Reply
 
 // Runs a command's parts, and gives the values that they answered.
 fn values(alloc: Global, store: &mut Store, command: &Command) -> Result<Items, Memory>
-    ensures items { (model : Meaning) → Holds store.old model → IfOk result (λ items. map item_meaning items.items ≡ map item_of (map Some (answers_to model (parts command.now)))) }
-    ensures store { (model : Meaning) → Holds store.old model → OnOk result (Holds store.new (after_all model (parts command.now))) }
+    ensures items { (model : Meaning) → Holds store.old model
+        → IfOk result (λ items. map item_meaning items.items
+            ≡ map item_of (map Some (answers_to model (parts command.now)))) }
+    ensures store { (model : Meaning) → Holds store.old model
+        → OnOk result (Holds store.new (after_all model (parts command.now))) }
 {
     let count = command.count();
     let mut items = Items::with_room(alloc, count)?;
@@ -90,8 +99,10 @@ fn value_found(answer: PartAnswer) -> Option<Bytes>
 
 // Runs a command's parts, and counts those that answered that the key was there.
 fn yes_count(alloc: Global, store: &mut Store, command: &Command) -> Result<u64, Memory>
-    ensures count { (model : Meaning) → Holds store.old model → IfOk result (λ n. n ≡ count_by is_yes (map Some (answers_to model (parts command.now)))) }
-    ensures store { (model : Meaning) → Holds store.old model → OnOk result (Holds store.new (after_all model (parts command.now))) }
+    ensures count { (model : Meaning) → Holds store.old model
+        → IfOk result (λ n. n ≡ count_by is_yes (map Some (answers_to model (parts command.now)))) }
+    ensures store { (model : Meaning) → Holds store.old model
+        → OnOk result (Holds store.new (after_all model (parts command.now))) }
 {
     let mut yes = 0;
     for j in 0..command.count() {

@@ -44,7 +44,8 @@ impl Histories {
 
     // Puts a part's entry behind the others of the shard that its key belongs to.
     fn enter_part(&mut self, entry: Entry, key: &[u8]) -> Result<(), Memory>
-        ensures ok { (steps : List Step) (operation : Operation) → key_of operation ≡ key.now → IsSharded steps self.old → OnOk result (IsSharded (steps ++ (entry, operation) ∷ []) self.new) }
+        ensures ok { (steps : List Step) (operation : Operation) → key_of operation ≡ key.now
+            → IsSharded steps self.old → OnOk result (IsSharded (steps ++ (entry, operation) ∷ []) self.new) }
         ensures err { OnErr result (self.new ≡ self.old) }
         ensures count { length self.new ≡ length self.old }
     {
@@ -56,8 +57,11 @@ impl Histories {
     /// Enters the parts of a call of session 0 in the histories of their shards, in order. After want of memory some
     /// of the first parts are entered, and not all.
     pub fn enter(&mut self, call: u32, command: &Command) -> Result<(), Memory>
-        ensures ok { (steps : List Step) → IsSharded steps self.old → OnOk result (IsSharded (steps ++ call_steps 0 call 0 (parts command.now)) self.new) }
-        ensures err { (steps : List Step) → IsSharded steps self.old → OnErr result ((cut : ℕ) × (cut < length (parts command.now)) × IsSharded (steps ++ call_steps 0 call 0 (take cut (parts command.now))) self.new) }
+        ensures ok { (steps : List Step) → IsSharded steps self.old
+            → OnOk result (IsSharded (steps ++ call_steps 0 call 0 (parts command.now)) self.new) }
+        ensures err { (steps : List Step) → IsSharded steps self.old
+            → OnErr result ((cut : ℕ) × (cut < length (parts command.now))
+            × IsSharded (steps ++ call_steps 0 call 0 (take cut (parts command.now))) self.new) }
         ensures count { length self.new ≡ length self.old }
     {
         for j in 0..command.count() {

@@ -1,5 +1,5 @@
 // Commands from a source.
-ghost use Rattle.std.specs.Prelude.{◌≡◌, ◌<◌, ◌⊎◌, ◌++◌, ◌∷◌, [], List, ℕ, Option, None, IfOk, IfErr, Err};
+ghost use Rattle.std.specs.Prelude.{◌≡◌, ◌<◌, ◌⊎◌, ◌++◌, ◌∷◌, [], List, ℕ, Option, None, Some, IfOk, IfErr, Err};
 ghost use Rattle.flake_model.specs.Command.{Command as Meaning};
 ghost use Rattle.flake_model.specs.Resp.{Words, Parses};
 ghost use Rattle.flake_model.specs.Input.{protocol_error};
@@ -45,7 +45,13 @@ impl<S: Source> Model for Pump<S> {
 
     ghost Value = { PumpState };
 
-    ghost view = { λ p. record { left = S.left p.source; faults = S.read_faults p.source; reader = p.reader; stage = p.stage; taken = p.taken } };
+    ghost view = { λ p. record {
+      left = S.left p.source;
+      faults = S.read_faults p.source;
+      reader = p.reader;
+      stage = p.stage;
+      taken = p.taken;
+    } };
 
     ghost invariant = { λ p. p.stage ≡ Stage.Reading → IsOpen p.reader p.taken };
 }
@@ -90,7 +96,8 @@ fn taken_at(end: End, given: u64) -> u64
 // How an input ended that was read whole.
 fn input_end(reader: Reader) -> End
     requires { reader.closed ≡ None }
-    ensures parsed { (bytes : List ℕ) (given : List Words) → Reads bytes given reader → Parses bytes (given ++ reader.requests) result }
+    ensures parsed { (bytes : List ℕ) (given : List Words) → Reads bytes given reader
+        → Parses bytes (given ++ reader.requests) result }
     ensures ends { (result ≡ End.Clean) ⊎ ((place : ℕ) × (result ≡ End.Truncated place)) }
 {
     match reader.end() {
@@ -116,9 +123,11 @@ impl<S: Source> Pump<S> {
     /// The next command, or how the input ended, which later calls answer again and change nothing. A byte that no
     /// request has there makes one command of its own.
     pub fn next(&mut self) -> Result<Command, End>
-        ensures command { IfOk result (λ command. (input : Option (List ℕ)) (before : ℕ) (given : List Meaning) → IsPump input before given self.old
+        ensures command { IfOk result (λ command. (input : Option (List ℕ)) (before : ℕ) (given : List Meaning)
+            → IsPump input before given self.old
             → IsPump input before (given ++ command ∷ []) self.new × (self.new.faults ≡ before)) }
-        ensures end { IfErr result (λ end. (input : Option (List ℕ)) (before : ℕ) (given : List Meaning) → IsPump input before given self.old
+        ensures end { IfErr result (λ end. (input : Option (List ℕ)) (before : ℕ) (given : List Meaning)
+            → IsPump input before given self.old
             → HasEnded input before given end self.new) }
         ensures over { IfErr result (λ end. IsOver end self.new) }
         ensures again { (end : End) → IsOver end self.old → (result ≡ Err end) × (self.new ≡ self.old) }
@@ -145,7 +154,8 @@ impl<S: Source> Pump<S> {
     fn read(&mut self)
         requires reading { self.old.stage ≡ Stage.Reading }
         requires none { self.old.reader.requests ≡ [] }
-        ensures kept { (input : Option (List ℕ)) (before : ℕ) (given : List Meaning) → IsPump input before given self.old → IsPump input before given self.new }
+        ensures kept { (input : Option (List ℕ)) (before : ℕ) (given : List Meaning)
+            → IsPump input before given self.old → IsPump input before given self.new }
         ensures further { self.new.stage ≡ Stage.Reading → self.old.taken < self.new.taken }
     {
         let Ok(count) = self.source.read(&mut self.room) else {
@@ -175,5 +185,97 @@ impl<S: Source> Pump<S> {
         ensures faults { S.read_faults result ≡ self.faults }
     {
         self.source
+    }
+}
+
+#[cfg(test)]
+mod tests {
+    use super::*;
+    use flake_base::{Bytes, Fails, MemorySource};
+    use std::process::Abort;
+    use std::test::Fail;
+
+    /// Counts the reads of a source, and keeps the longest room.
+    #[derive(Drop)]
+    struct CountedSource {
+        source: MemorySource,
+        reads: u64,
+        longest: usize,
+    }
+
+    impl Source for CountedSource {
+        ghost left = { λ s. Some s.source.left };
+
+        ghost read_faults = { λ s. s.source.faults };
+
+        fn read(&mut self, room: &mut [u8]) -> Result<usize, Failed> {
+            self.reads = self.reads.saturating_add(1);
+            self.longest = self.longest.max(room.len());
+            self.source.read(room)
+        }
+    }
+
+    fn counted(alloc: Global, input: Bytes) -> Pump<CountedSource> {
+        let source = CountedSource {
+            source: MemorySource::new(input, 1_000_000, Fails::new(alloc)),
+            reads: 0,
+            longest: 0,
+        };
+        Pump::new(alloc, source)
+    }
+
+    // How the input ended, if no command is left.
+    fn end_of(pump: &mut Pump<CountedSource>) -> Option<End> {
+        match pump.next() {
+            Ok(_) => None,
+            Err(end) => Some(end),
+        }
+    }
+
+    // The end comes behind so many commands, after so many reads, and again without any.
+    fn check_end(
+        rt: &impl Abort,
+        pump: &mut Pump<CountedSource>,
+        commands: usize,
+        end: End,
+        taken: u64,
+        reads: u64,
+    ) {
+        for _ in 0..commands {
+            assert_eq!(rt; end_of(pump), None);
+        }
+        for _ in 0..3 {
+            assert_eq!(rt; end_of(pump), Some(end));
+            assert_eq!(rt; pump.taken, taken);
+            assert_eq!(rt; pump.source.reads, reads);
+        }
+    }
+
+    #[test]
+    fn reads_are_of_at_most_4096_bytes(rt: HostRuntime) -> Result<(), Fail> {
+        let alloc = rt.alloc();
+        let mut pings = Bytes::new(alloc);
+        for _ in 0..715 {
+            pings.append(b"*1\r\n$4\r\nPING\r\n")?;
+        }
+        let mut pump = counted(alloc, pings);
+        check_end(&rt, &mut pump, 715, End::Clean, 10_010, 4);
+        assert_eq!(rt; pump.source.longest, 4096);
+        Ok(())
+    }
+
+    #[test]
+    fn an_error_is_answered_once(rt: HostRuntime) -> Result<(), Fail> {
+        let alloc = rt.alloc();
+        let mut pump = counted(alloc, Bytes::from_slice(alloc, b"*1\r\n$01\r\n")?);
+        check_end(
+            &rt,
+            &mut pump,
+            1,
+            End::Protocol { kind: 3, place: 6 },
+            7,
+            1,
+        );
+        Ok(())
     }
 }

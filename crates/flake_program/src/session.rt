@@ -53,9 +53,11 @@ fn step<S: Source>(
     histories: &mut Histories,
     call: u32,
 ) -> Result<Bytes, End>
-    ensures reply { IfOk result (λ text. (input : Option (List ℕ)) (before : ℕ) (given : List Command) → AreServing input before given call pump.old store.old histories.old
+    ensures reply { IfOk result (λ text. (input : Option (List ℕ)) (before : ℕ) (given : List Command)
+        → AreServing input before given call pump.old store.old histories.old
         → HasReplied input before given text.items pump.new store.new histories.new) }
-    ensures end { IfErr result (λ end. (input : Option (List ℕ)) (before : ℕ) (given : List Command) → AreServing input before given call pump.old store.old histories.old
+    ensures end { IfErr result (λ end. (input : Option (List ℕ)) (before : ℕ) (given : List Command)
+        → AreServing input before given call pump.old store.old histories.old
         → HasStopped input before given end pump.new histories.new) }
     ensures some { IfOk result (λ text. 0 < length text.items) }
     ensures shards { length histories.new ≡ length histories.old }
@@ -84,7 +86,8 @@ pub fn serve<S: Source>(
 ) -> Served<S>
     requires store { Holds store finite.empty }
     requires histories { IsSharded [] histories }
-    ensures served { HasServed (S.left source) (S.left result.source) result.end result.histories (wire_told wire.old) (wire_told wire.new) }
+    ensures served { HasServed (S.left source) (S.left result.source) result.end result.histories
+        (wire_told wire.old) (wire_told wire.new) }
     ensures reads { EndFaults result.end.end (S.read_faults source) (S.read_faults result.source) }
     ensures flushed { result.end.failed ≡ false → (wire_told wire.new).kept ≡ 0 }
     ensures to_the_end { result.end.end ≢ End.Left }

@@ -53,7 +53,8 @@ fn serve_boxed<S: Source>(
 ) -> Served<S>
     requires store { Holds store finite.empty }
     requires histories { IsSharded [] histories }
-    ensures served { HasServed (S.left source) (S.left result.source) result.end result.histories (wire_told wire.old) (wire_told wire.new) }
+    ensures served { HasServed (S.left source) (S.left result.source) result.end result.histories
+        (wire_told wire.old) (wire_told wire.new) }
     ensures reads { EndFaults result.end.end (S.read_faults source) (S.read_faults result.source) }
     ensures flushed { result.end.failed ≡ false → (wire_told wire.new).kept ≡ 0 }
     ensures to_the_end { result.end.end ≢ End.Left }
@@ -71,7 +72,8 @@ pub fn serve_source<S: Source>(
 ) -> Ran<S>
     requires wires { 0 < length wires.old.items }
     requires room { IsFresh room }
-    ensures run { IsRun (S.left source) (S.left result.source) result.end (histories result.journal.items) wires.old.items wires.new.items (λ w. wire_told w) }
+    ensures run { IsRun (S.left source) (S.left result.source) result.end (histories result.journal.items)
+        wires.old.items wires.new.items (λ w. wire_told w) }
     ensures ends { result.ends.items ≡ result.end ∷ [] }
     ensures reads { EndFaults result.end.end (S.read_faults source) (S.read_faults result.source) }
     ensures to_the_end { result.end.end ≢ End.Left }

@@ -2,11 +2,11 @@
 ghost use Rattle.std.specs.Prelude.{◌≡◌, ◌<◌, IfOk, OnOk, OnErr, length};
 ghost use Rattle.std.specs.FinMap as finite;
 ghost use Rattle.flake_model.specs.Store as model;
-ghost use Rattle.flake_model.specs.Store.{Store as Meaning, Operation, set, value, found, answer, answer_on, after};
+ghost use Rattle.flake_model.specs.Store.{Store as Meaning, Operation, value, found, answer, answer_on, after};
 ghost use Rattle.flake_model.specs.Range.{range_of};
 ghost use Rattle.shard_store.specs.Parts.{operation_of};
-ghost use Rattle.shard_store.specs.Settings.{when_of};
-ghost use Rattle.flake_program.specs.Table.{bytes_at, value_after, HasChanged, HasKept};
+ghost use Rattle.shard_store.specs.Settings.{set_by};
+ghost use Rattle.flake_program.specs.Table.{bytes_at, HasDone, HasKept};
 ghost use Rattle.flake_program.specs.Store.{Holds, answer_meant};
 
 use crate::table::{Table, append, contains, get, put, remove};
@@ -66,8 +66,10 @@ impl Store {
 
     /// Does a part in the table of its key's shard. After want of memory the store is as it was.
     pub fn run(&mut self, alloc: Global, part: &Part<'_>) -> Result<PartAnswer, Memory>
-        ensures answer { (store : Meaning) → Holds self.old store → IfOk result (λ a. answer_meant a ≡ answer store (operation_of part.now)) }
-        ensures after { (store : Meaning) → Holds self.old store → OnOk result (Holds self.new (after store (operation_of part.now))) }
+        ensures answer { (store : Meaning) → Holds self.old store
+            → IfOk result (λ a. answer_meant a ≡ answer store (operation_of part.now)) }
+        ensures after { (store : Meaning) → Holds self.old store
+            → OnOk result (Holds self.new (after store (operation_of part.now))) }
         ensures memory { (store : Meaning) → Holds self.old store → OnErr result (Holds self.new store) }
     {
         let shard = shard_of(part.key, SHARDS) as usize;
@@ -78,8 +80,10 @@ impl Store {
 
 // Does a part in a table.
 fn run_on(alloc: Global, table: &mut Table, part: &Part<'_>) -> Result<PartAnswer, Memory>
-    ensures answer { IfOk result (λ a. answer_meant a ≡ answer_on (bytes_at part.now.key.now table.old.entries) (operation_of part.now)) }
-    ensures after { OnOk result (HasChanged part.now.key.now (value_after (bytes_at part.now.key.now table.old.entries) (operation_of part.now)) table.old.entries table.new.entries) }
+    ensures answer { IfOk result (λ a. answer_meant a
+        ≡ answer_on (bytes_at part.now.key.now table.old.entries) (operation_of part.now)) }
+    ensures after { OnOk result
+        (HasDone part.now.key.now (operation_of part.now) table.old.entries table.new.entries) }
     ensures memory { OnErr result (HasKept table.old.entries table.new.entries) }
 {
     if let Some(setting) = part.op.setting() {
@@ -107,8 +111,10 @@ fn set_as(
     value: &[u8],
     setting: Setting,
 ) -> Result<PartAnswer, Memory>
-    ensures answer { IfOk result (λ a. answer_meant a ≡ answer_on (bytes_at key.now table.old.entries) (set (when_of setting.when) setting.asks key.now value.now)) }
-    ensures after { OnOk result (HasChanged key.now (value_after (bytes_at key.now table.old.entries) (set (when_of setting.when) setting.asks key.now value.now)) table.old.entries table.new.entries) }
+    ensures answer { IfOk result (λ a. answer_meant a
+        ≡ answer_on (bytes_at key.now table.old.entries) (set_by setting key.now value.now)) }
+    ensures after { OnOk result
+        (HasDone key.now (set_by setting key.now value.now) table.old.entries table.new.entries) }
     ensures memory { OnErr result (HasKept table.old.entries table.new.entries) }
 {
     let stores = setting.when.stores(contains(table, key));
@@ -151,7 +157,8 @@ fn range_copied(
     start: i64,
     end: i64,
 ) -> Result<PartAnswer, Memory>
-    ensures { IfOk result (λ a. answer_meant a ≡ value (range_of (model.bytes_of (bytes_at key.now table.now.entries)) start end)) }
+    ensures { IfOk result (λ a. answer_meant a
+        ≡ value (range_of (model.bytes_of (bytes_at key.now table.now.entries)) start end)) }
 {
     let bytes = bytes_of(table, key);
     let Span { from, len } = span(bytes.len() as u64, start, end);

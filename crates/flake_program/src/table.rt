@@ -59,7 +59,8 @@ pub fn append(
     bytes: &[u8],
 ) -> Result<Option<u64>, Memory>
     ensures length { IfOk result (λ count. count ≡ appended_length (bytes_at key.now table.old.entries) bytes.now) }
-    ensures ok { OnOk result (HasChanged key.now (after_append (bytes_at key.now table.old.entries) bytes.now) table.old.entries table.new.entries) }
+    ensures ok { OnOk result (HasChanged key.now (after_append (bytes_at key.now table.old.entries) bytes.now)
+        table.old.entries table.new.entries) }
     ensures err { OnErr result (HasKept table.old.entries table.new.entries) }
 {
     match table.get_mut(key) {

@@ -1,6 +1,8 @@
+ghost use Rattle.std.specs.Prelude.{None};
+
 use crate::outcome::Detail;
 use crate::run::run;
-use flake_base::{Bytes, Entry, Fails, Files, Journal, MemoryHost, MemoryWire, Wire};
+use flake_base::{Bytes, Entry, Failed, Fails, Files, Journal, MemoryHost, MemoryWire, Wire};
 use std::alloc::Global;
 use std::process::Abort;
 use std::test::Fail;
@@ -66,6 +68,7 @@ struct Seen {
     status: u8,
     detail: Detail,
     is_unserved: bool,
+    sources: usize,
     journal: Journal,
     wires: Vec<Box<dyn Wire>>,
 }
@@ -83,6 +86,7 @@ fn ran(
         status: outcome.status,
         detail: outcome.detail,
         is_unserved: outcome.ends.is_empty(),
+        sources: outcome.sources.len(),
         journal: outcome.journal,
         wires: outcome.wires,
     }
@@ -174,6 +178,8 @@ fn check_input(rt: &impl Abort, alloc: Global, row: &Row, input: Bytes) -> Resul
     assert_eq!(rt; seen.wires.len(), 1);
     expect_sent(rt, seen.wires.as_slice(), row.sent);
     assert_eq!(rt; seen.is_unserved, row.parts.is_none());
+    assert_eq!(rt; seen.sources, if row.parts.is_none() { 0 } else { 1 });
+    assert_eq!(rt; host.opens(), if row.status == 1 { 0 } else { 1 });
     expect_journal(rt, &seen.journal, row.parts);
     Ok(())
 }
@@ -208,7 +214,7 @@ fn a_set_and_a_get(rt: HostRuntime) -> Result<(), Fail> {
 }
 
 /// What each command answers, and where its parts stand.
-static COMMANDS: [Row; 7] = [
+static COMMANDS: [Row; 10] = [
     Row {
         input: b"",
         said: "session 0 clean taken 0 replies 0 wire whole\n",
@@ -274,6 +280,47 @@ static COMMANDS: [Row; 7] = [
         parts: Some(&[(4, 0, 0)]),
         ..SERVED
     },
+    // SET a 1 NX, SET a 2 NX, SET a 3 XX GET, SET b 4 XX, SET b 5 GET, SET a 6 nx get, SET a 7 NX XX
+    Row {
+        input: b"*4\r\n$3\r\nSET\r\n$1\r\na\r\n$1\r\n1\r\n$2\r\nNX\r\n*4\r\n$3\r\nSET\r\n$1\r\na\r\n$1\r\n2\r\n$2\r\nNX\r\n*5\r\n$3\r\nSET\r\n$1\r\na\r\n$1\r\n3\r\n$2\r\nXX\r\n$3\r\nGET\r\n*4\r\n$3\r\nSET\r\n$1\r\nb\r\n$1\r\n4\r\n$2\r\nXX\r\n*4\r\n$3\r\nSET\r\n$1\r\nb\r\n$1\r\n5\r\n$3\r\nGET\r\n*5\r\n$3\r\nSET\r\n$1\r\na\r\n$1\r\n6\r\n$2\r\nnx\r\n$3\r\nget\r\n*5\r\n$3\r\nSET\r\n$1\r\na\r\n$1\r\n7\r\n$2\r\nNX\r\n$2\r\nXX\r\n",
+        said: "session 0 clean taken 272 replies 7 wire whole\n",
+        sent: b"+OK\r\n$-1\r\n$1\r\n1\r\n$-1\r\n$-1\r\n$1\r\n3\r\n-ERR syntax error\r\n",
+        parts: Some(&[
+            (4, 0, 0),
+            (4, 1, 0),
+            (4, 2, 0),
+            (4, 5, 0),
+            (5, 3, 0),
+            (5, 4, 0),
+        ]),
+        ..SERVED
+    },
+    // SET k abcdef, GETRANGE k with 1 3, -3 -1, 4 99 and 3 1, GETRANGE x 0 -1, STRLEN k, STRLEN x, GETRANGE k 0 01
+    Row {
+        input: b"*3\r\n$3\r\nSET\r\n$1\r\nk\r\n$6\r\nabcdef\r\n*4\r\n$8\r\nGETRANGE\r\n$1\r\nk\r\n$1\r\n1\r\n$1\r\n3\r\n*4\r\n$8\r\nGETRANGE\r\n$1\r\nk\r\n$2\r\n-3\r\n$2\r\n-1\r\n*4\r\n$8\r\nGETRANGE\r\n$1\r\nk\r\n$1\r\n4\r\n$2\r\n99\r\n*4\r\n$8\r\nGETRANGE\r\n$1\r\nk\r\n$1\r\n3\r\n$1\r\n1\r\n*4\r\n$8\r\nGETRANGE\r\n$1\r\nx\r\n$1\r\n0\r\n$2\r\n-1\r\n*2\r\n$6\r\nSTRLEN\r\n$1\r\nk\r\n*2\r\n$6\r\nSTRLEN\r\n$1\r\nx\r\n*4\r\n$8\r\nGETRANGE\r\n$1\r\nk\r\n$1\r\n0\r\n$2\r\n01\r\n",
+        said: "session 0 clean taken 317 replies 9 wire whole\n",
+        sent: b"+OK\r\n$3\r\nbcd\r\n$3\r\ndef\r\n$2\r\nef\r\n$0\r\n\r\n$0\r\n\r\n:6\r\n:0\r\n-ERR value is not an integer or out of range\r\n",
+        parts: Some(&[
+            (2, 0, 0),
+            (2, 1, 0),
+            (2, 2, 0),
+            (2, 3, 0),
+            (2, 4, 0),
+            (2, 6, 0),
+            (7, 5, 0),
+            (7, 7, 0),
+        ]),
+        ..SERVED
+    },
+    // SET a 1 with NX XX, EX 9 and nx nx get; GETRANGE a with 01 0, -0 0, 0 and an empty word, 0 2^63, and
+    // from -2^63 to 2^63 - 1; strlen a
+    Row {
+        input: b"*5\r\n$3\r\nSET\r\n$1\r\na\r\n$1\r\n1\r\n$2\r\nNX\r\n$2\r\nXX\r\n*5\r\n$3\r\nSET\r\n$1\r\na\r\n$1\r\n1\r\n$2\r\nEX\r\n$1\r\n9\r\n*6\r\n$3\r\nSET\r\n$1\r\na\r\n$1\r\n1\r\n$2\r\nnx\r\n$2\r\nnx\r\n$3\r\nget\r\n*4\r\n$8\r\nGETRANGE\r\n$1\r\na\r\n$2\r\n01\r\n$1\r\n0\r\n*4\r\n$8\r\nGETRANGE\r\n$1\r\na\r\n$2\r\n-0\r\n$1\r\n0\r\n*4\r\n$8\r\nGETRANGE\r\n$1\r\na\r\n$1\r\n0\r\n$0\r\n\r\n*4\r\n$8\r\nGETRANGE\r\n$1\r\na\r\n$1\r\n0\r\n$19\r\n9223372036854775808\r\n*4\r\n$8\r\nGETRANGE\r\n$1\r\na\r\n$20\r\n-9223372036854775808\r\n$19\r\n9223372036854775807\r\n*2\r\n$6\r\nstrlen\r\n$1\r\na\r\n",
+        said: "session 0 clean taken 414 replies 9 wire whole\n",
+        sent: b"-ERR syntax error\r\n-ERR syntax error\r\n$-1\r\n-ERR value is not an integer or out of range\r\n-ERR value is not an integer or out of range\r\n-ERR value is not an integer or out of range\r\n-ERR value is not an integer or out of range\r\n$1\r\n1\r\n:1\r\n",
+        parts: Some(&[(4, 2, 0), (4, 7, 0), (4, 8, 0)]),
+        ..SERVED
+    },
     // the empty and the null array are skipped
     Row {
         input: b"*0\r\n*-1\r\n*1\r\n$4\r\nPING\r\n",
@@ -293,6 +340,13 @@ const BAD_INPUT: Row = Row {
     status: 3,
     parts: Some(&[]),
     ..SERVED
+};
+
+const INLINE: Row = Row {
+    input: b"PING\r\n",
+    said: "session 0 protocol 4 at 0 taken 1 replies 1 wire whole\n",
+    sent: b"-ERR Protocol error: inline commands are not supported\r\n",
+    ..BAD_INPUT
 };
 
 /// Inputs that aren't whole requests: what came before is served.
@@ -321,12 +375,7 @@ static BAD_INPUTS: [Row; 6] = [
         sent: b"-ERR Protocol error: expected '$'\r\n",
         ..BAD_INPUT
     },
-    Row {
-        input: b"PING\r\n",
-        said: "session 0 protocol 4 at 0 taken 1 replies 1 wire whole\n",
-        sent: b"-ERR Protocol error: inline commands are not supported\r\n",
-        ..BAD_INPUT
-    },
+    INLINE,
     Row {
         input: b"*1\r\n$4\r\nPING\r\n*1\r\n$4\r\nPINGX",
         said: "session 0 protocol 3 at 26 taken 27 replies 2 wire whole\n",
@@ -344,8 +393,8 @@ fn bad_inputs(rt: HostRuntime) -> Result<(), Fail> {
 }
 
 /// Put 1 keeps the first half of its seven bytes. The open has number 0 and the say number 1. Of the statuses 3, 4
-/// and 5 the highest is answered.
-static FAULTS: [Row; 6] = [
+/// and 5 the highest is answered. An error in what was read is answered before a later read is made.
+static FAULTS: [Row; 9] = [
     Row {
         put_fails: Some(1),
         status: 5,
@@ -385,6 +434,27 @@ static FAULTS: [Row; 6] = [
         sent: b"+O",
         parts: Some(&[(4, 0, 0)]),
         ..SERVED
+    },
+    Row {
+        read_fails: Some(1),
+        ..INLINE
+    },
+    Row {
+        input: b"*1\r\n$01\r\n",
+        step: 7,
+        read_fails: Some(1),
+        said: "session 0 protocol 3 at 6 taken 7 replies 1 wire whole\n",
+        sent: b"-ERR Protocol error: invalid bulk length\r\n",
+        ..BAD_INPUT
+    },
+    Row {
+        input: b"*1\r\n$01\r\n",
+        step: 6,
+        read_fails: Some(1),
+        status: 4,
+        said: "session 0 readfault taken 6 replies 0 wire whole\n",
+        sent: b"",
+        ..BAD_INPUT
     },
     Row {
         input: b"PING\r\n",
@@ -456,6 +526,72 @@ fn no_wire(rt: HostRuntime) -> Result<(), Fail> {
     Ok(())
 }
 
+/// Keeps all back that is put, until it is flushed; its flushes fail if they are to.
+#[derive(Drop)]
+struct KeepingWire {
+    bytes: u64,
+    kept: u64,
+    faults: u64,
+    flush_fails: bool,
+}
+
+impl Wire for KeepingWire {
+    ghost wire_told = { λ w. record { sent = None; bytes = w.bytes; kept = w.kept; faults = w.faults } };
+
+    fn put(&mut self, piece: &[u8]) -> Result<(), Failed> {
+        self.bytes = self.bytes.saturating_add(piece.len() as u64);
+        self.kept = self.kept.saturating_add(piece.len() as u64);
+        Ok(())
+    }
+
+    fn flush(&mut self) -> Result<(), Failed> {
+        if self.flush_fails {
+            self.faults = self.faults.saturating_add(1);
+            return Err(Failed);
+        }
+        self.kept = 0;
+        Ok(())
+    }
+
+    fn shown(&self) -> Option<&[u8]> {
+        None
+    }
+}
+
+// A run over one wire that keeps back what is put.
+fn check_flush(
+    rt: &impl Abort,
+    alloc: Global,
+    flush_fails: bool,
+    status: u8,
+    said: &str,
+) -> Result<(), Fail> {
+    let mut host = memory_host(alloc, &SERVED, Bytes::from_slice(alloc, PAIR)?)?;
+    let words = typed(alloc, SERVED.words)?;
+    let mut wires: Vec<Box<dyn Wire>> = Vec::with_capacity(alloc, 1)?;
+    let wire = KeepingWire {
+        bytes: 0,
+        kept: 0,
+        faults: 0,
+        flush_fails,
+    };
+    wires.push(Box::new(alloc, wire)?)?;
+    let seen = ran(rt, alloc, words.as_slice(), &mut host, wires);
+    assert_eq!(rt; seen.status, status);
+    assert_eq!(rt; host.said(), said.as_bytes());
+    Ok(())
+}
+
+// A failed flush is a failed wire.
+#[test]
+fn a_wire_is_flushed_at_the_end(rt: HostRuntime) -> Result<(), Fail> {
+    let alloc = rt.alloc();
+    let whole = "session 0 clean taken 47 replies 2 wire whole\n";
+    check_flush(&rt, alloc, false, 0, whole)?;
+    let failed = "session 0 clean taken 47 replies 2 wire failed\n";
+    check_flush(&rt, alloc, true, 5, failed)
+}
+
 // Adds a word of so many bytes.
 fn add_word(input: &mut Bytes, head: &[u8], byte: u8, count: usize) -> Result<(), Fail> {
     input.append(head)?;
@@ -493,7 +629,7 @@ const LONG_KEY: Row = Row {
 };
 
 const LONG_VALUE: Row = Row {
-    said: "session 0 clean taken 16429 replies 2 wire whole\n",
+    said: "session 0 clean taken 65581 replies 2 wire whole\n",
     sent: b"-ERR value too long\r\n+PONG\r\n",
     parts: Some(&[]),
     ..SERVED
@@ -521,26 +657,54 @@ fn a_key_that_is_too_long(rt: HostRuntime) -> Result<(), Fail> {
 fn a_value_that_is_too_long(rt: HostRuntime) -> Result<(), Fail> {
     let alloc = rt.alloc();
     let mut input = Bytes::from_slice(alloc, b"*3\r\n$3\r\nSET\r\n$1\r\nk\r\n")?;
-    add_word(&mut input, b"$16385\r\n", b'v', 16_385)?;
+    add_word(&mut input, b"$65537\r\n", b'v', 65_537)?;
     input.append(PING)?;
     check_input(&rt, alloc, &LONG_VALUE, input)
 }
 
+const LONG_MESSAGE: Row = Row {
+    said: "session 0 clean taken 16423 replies 2 wire whole\n",
+    ..LONG_VALUE
+};
+
+#[test]
+fn a_message_that_is_too_long(rt: HostRuntime) -> Result<(), Fail> {
+    let alloc = rt.alloc();
+    let mut input = Bytes::from_slice(alloc, b"*2\r\n$4\r\nPING\r\n")?;
+    add_word(&mut input, b"$16385\r\n", b'v', 16_385)?;
+    input.append(PING)?;
+    check_input(&rt, alloc, &LONG_MESSAGE, input)
+}
+
 /// A value as long as may be, and a byte more: both calls have their entry.
 const LONGEST_VALUE: Row = Row {
-    said: "session 0 clean taken 16444 replies 2 wire whole\n",
+    said: "session 0 clean taken 65596 replies 2 wire whole\n",
     sent: b"+OK\r\n-ERR value too long\r\n",
     parts: Some(&[(2, 0, 0), (2, 1, 0)]),
     ..SERVED
 };
 
+const SHORTER_VALUE: Row = Row {
+    said: "session 0 clean taken 16444 replies 2 wire whole\n",
+    sent: b"+OK\r\n:16385\r\n",
+    ..LONGEST_VALUE
+};
+
+// A SET of a value of so many bytes, and an APPEND of one.
+fn set_and_append(alloc: Global, head: &[u8], count: usize) -> Result<Bytes, Fail> {
+    let mut input = Bytes::from_slice(alloc, b"*3\r\n$3\r\nSET\r\n$1\r\nk\r\n")?;
+    add_word(&mut input, head, b'A', count)?;
+    input.append(b"*3\r\n$6\r\nAPPEND\r\n$1\r\nk\r\n$1\r\nB\r\n")?;
+    Ok(input)
+}
+
 #[test]
 fn the_longest_value(rt: HostRuntime) -> Result<(), Fail> {
     let alloc = rt.alloc();
-    let mut input = Bytes::from_slice(alloc, b"*3\r\n$3\r\nSET\r\n$1\r\nk\r\n")?;
-    add_word(&mut input, b"$16384\r\n", b'A', 16_384)?;
-    input.append(b"*3\r\n$6\r\nAPPEND\r\n$1\r\nk\r\n$1\r\nB\r\n")?;
-    check_input(&rt, alloc, &LONGEST_VALUE, input)
+    let longest = set_and_append(alloc, b"$65536\r\n", 65_536)?;
+    check_input(&rt, alloc, &LONGEST_VALUE, longest)?;
+    let shorter = set_and_append(alloc, b"$16384\r\n", 16_384)?;
+    check_input(&rt, alloc, &SHORTER_VALUE, shorter)
 }
 
 // 64 PINGs with an argument of 1,048,576 bytes.

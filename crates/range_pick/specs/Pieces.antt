@@ -1,5 +1,6 @@
 -- The parts of a value's fragments that bytes of it lie in.
-use Rattle.std.specs.Prelude.{◌≡◌, ℕ, zero, suc, ◌+◌, ◌-◌, ◌/◌, ◌%◌, ◌<◌, ◌≤◌, min, List, [], ◌∷◌, Some, take, drop, slice_get, slice_index_or}
+use Rattle.std.specs.Prelude.{◌≡◌, ℕ, zero, suc, ◌+◌, ◌-◌, ◌/◌, ◌%◌, ◌<◌, ◌≤◌, min}
+use Rattle.std.specs.Prelude.{List, [], ◌∷◌, Some, take, drop, slice_get, slice_index_or}
 use Rattle.std.specs.List.{flat_map}
 use Rattle.flake_model.specs.Fragments.{fragment_limit, fragments_of}
 use Rattle.range_pick.specs.declared.pieces.Piece.{Piece}
@@ -13,13 +14,18 @@ abbrev pub touched : ℕ → ℕ → ℕ
 touched from zero = 0
 touched from (suc more) = (from + suc more + 4095) / fragment_limit
 
--- the pieces of bytes in so many fragments, from this place of this fragment on: each but the last goes to its fragment's end
+-- the pieces of bytes in so many fragments, from this place of this fragment on: each but the last goes to its
+-- fragment's end
 abbrev pub pieces_over : ℕ → ℕ → ℕ → ℕ → List Piece
 pieces_over zero frag from len = []
-pieces_over (suc more) frag from len = piece_at frag from (min len (fragment_limit - from)) ∷ pieces_over more (frag + 1) 0 (len - (fragment_limit - from))
+pieces_over (suc more) frag from len =
+    let most = fragment_limit - from in
+    piece_at frag from (min len most) ∷ pieces_over more (frag + 1) 0 (len - most)
 
 abbrev pub pieces_of : Span → List Piece
-pieces_of span = pieces_over (touched (span.from % fragment_limit) span.len) (span.from / fragment_limit) (span.from % fragment_limit) span.len
+pieces_of span =
+    let from = span.from % fragment_limit in
+    pieces_over (touched from span.len) (span.from / fragment_limit) from span.len
 
 -- a piece's bytes, in the fragment of its number
 abbrev pub bytes_in : List ℕ → Piece → List ℕ
@@ -31,8 +37,9 @@ pub record IsPiece (frag number : ℕ) (piece : Piece) : Type 0 where
   pub in_turn : piece.frag ≡ frag + number
   pub within : piece.from + piece.len ≤ fragment_limit
 
--- The pieces of a span lie in the fragments that it touches, one in each, in their order. None is empty, and joined they are the
--- span's bytes, whichever value it is one of.
+-- The pieces of a span lie in the fragments that it touches, one in each, in their order. None is empty, and joined
+-- they are the span's bytes, whichever value it is one of.
 pub record ArePieces (span : Span) (pieces : List Piece) : Type 0 where
-  pub each : (number : ℕ) (piece : Piece) → slice_get pieces number ≡ Some piece → IsPiece (span.from / fragment_limit) number piece
+  pub each : (number : ℕ) (piece : Piece) → slice_get pieces number ≡ Some piece
+      → IsPiece (span.from / fragment_limit) number piece
   pub joined : (value : List ℕ) → flat_map (bytes_in value) pieces ≡ take span.len (drop span.from value)

@@ -10,7 +10,8 @@ pub fn span(len: u64, start: i64, end: i64) -> Span
     ensures from { result.from ≡ min (first_place len start) len }
     ensures len { result.len ≡ end_place len end - first_place len start }
     ensures within { result.from + result.len ≤ len }
-    ensures range { (bytes : List ℕ) → length bytes ≡ len → take result.len (drop result.from bytes) ≡ range_of bytes start end }
+    ensures range { (bytes : List ℕ) → length bytes ≡ len
+        → take result.len (drop result.from bytes) ≡ range_of bytes start end }
 {
     let from = first_byte(len, start).min(len);
     let len = byte_behind(len, end).saturating_sub(from);

@@ -4,7 +4,8 @@ use Rattle.flake_model.specs.Store as store
 use Rattle.flake_model.specs.Store.{Operation}
 use Rattle.shard_store.specs.declared.part.Part.{Part}
 use Rattle.shard_store.specs.declared.part.PartOp.{PartOp}
-use Rattle.shard_store.specs.declared.part.PartOp.TheVariants.{Get, Set, SetNx, SetXx, SetGet, SetNxGet, SetXxGet, Append, Del, Exists, StrLen, GetRange}
+use Rattle.shard_store.specs.declared.part.PartOp.TheVariants.{Set, SetNx, SetXx, SetGet, SetNxGet, SetXxGet}
+use Rattle.shard_store.specs.declared.part.PartOp.TheVariants.{Get, Append, Del, Exists, StrLen, GetRange}
 
 -- the operation on a key, with a value where it takes one
 abbrev pub operation_by : PartOp → List ℕ → List ℕ → Operation

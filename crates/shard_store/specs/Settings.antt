@@ -1,8 +1,9 @@
 -- How parts set their keys.
-use Rattle.std.specs.Prelude.{Bool, true, false, Option, Some, None}
+use Rattle.std.specs.Prelude.{ℕ, Bool, true, false, List, Option, Some, None}
 use Rattle.flake_model.specs.Store as store
 use Rattle.shard_store.specs.declared.part.PartOp.{PartOp}
-use Rattle.shard_store.specs.declared.part.PartOp.TheVariants.{Get, Set, SetNx, SetXx, SetGet, SetNxGet, SetXxGet, Append, Del, Exists, StrLen, GetRange}
+use Rattle.shard_store.specs.declared.part.PartOp.TheVariants.{Set, SetNx, SetXx, SetGet, SetNxGet, SetXxGet}
+use Rattle.shard_store.specs.declared.part.PartOp.TheVariants.{Get, Append, Del, Exists, StrLen, GetRange}
 use Rattle.shard_store.specs.declared.setting.When.{When}
 use Rattle.shard_store.specs.declared.setting.When.TheVariants.{Always, IfMissing, IfPresent}
 use Rattle.shard_store.specs.declared.setting.Setting.{Setting}
@@ -20,6 +21,10 @@ set_part IfPresent false = SetXx
 set_part Always true = SetGet
 set_part IfMissing true = SetNxGet
 set_part IfPresent true = SetXxGet
+
+-- the set of a key to a value by a setting
+abbrev pub set_by : Setting → List ℕ → List ℕ → store.Operation
+set_by setting key value = store.set (when_of setting.when) setting.asks key value
 
 abbrev pub sets : When → Bool → Option Setting
 sets when asks = Some (record { when = when; asks = asks })
