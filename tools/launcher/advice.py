@@ -7,7 +7,7 @@ from launcher.replies import REPLIES, will_serve
 
 JUDGED = 67_108_864
 TYPED = "commands as they are typed become requests by tools/to_resp"
-SAID = "where, the line that it said tells (docs/USE.md, Statuses)"
+SAID = "the program's line says behind how many bytes, and what stands before that was served (docs/USE.md, Statuses)"
 
 
 def after(status, words):
@@ -47,7 +47,7 @@ def no_requests(words):
     if begins not in (b"", b"*"):
         begins = f"it begins with {begins.decode('latin-1')!r}, and a RESP2 request with '*'"
         return f"{file}: {begins}: {TYPED}: tools/to_resp {file} > requests.resp"
-    return f"{file}: it isn't whole RESP2 requests to its end, and what stands before that was served; {SAID}; {TYPED}"
+    return f"{file}: it isn't whole RESP2 requests to its end; {SAID}; {TYPED}"
 
 
 def front_of(file):

@@ -88,7 +88,7 @@ class Proved:
             except OSError as it:
                 raise Refused(
                     f"this clone can't be written ({reason(it)}), so the program can't be proved and built here: "
-                    "nothing was run. Call it in a clone of your own"
+                    "nothing was run. Call it in a clone of your own, or with --unproved"
                 ) from None
             self.run_rt(log)
         if self.sum_of_sources() != self.sum:

@@ -91,3 +91,7 @@ FitsWords Append words =
 FitsWords StrLen words = Between 2 2 words × (are_keys (first words ∷ []) ≡ true)
 FitsWords (GetRange start end) words = Between 4 4 words × (are_keys (first words ∷ []) ≡ true)
 FitsWords (Fault kind) words = Unit {0}
+
+-- the keys and values of a command stand among these words
+abbrev pub IsAmong : model.Command → Words → Type 0
+IsAmong command words = (asked : Asked) × (command ≡ command_by asked words)

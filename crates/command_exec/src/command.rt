@@ -1,7 +1,7 @@
 ghost use Rattle.std.specs.Prelude.{◌≡◌, ◌<◌, ◌≤◌, length, slice_get, Some};
 ghost use Rattle.flake_model.specs.Command.{command_of, parts, fault};
 ghost use Rattle.shard_store.specs.Parts.{operation_of, HasOwnValue};
-ghost use Rattle.command_exec.specs.Meaning.{op_of, argument_of};
+ghost use Rattle.command_exec.specs.Meaning.{op_of, argument_of, words_of, IsAmong};
 
 use crate::Op;
 use crate::asked::Asked;
@@ -48,6 +48,13 @@ impl Command {
             asked: Asked::Fault(error),
             request: None,
         }
+    }
+
+    /// The request that it came from, whose room can serve again; none, if an error of the protocol made it.
+    pub fn into_request(self) -> Option<Request>
+        ensures { IsAmong self (words_of result) }
+    {
+        self.request
     }
 
     pub fn op(&self) -> Op

@@ -1,18 +1,20 @@
 -- A value whose holds go with it, fragment by fragment.
-use Rattle.std.proofs.Common.{◌≡◌, ℕ, suc, ◌+◌, ◌-◌, ◌*◌, ◌<◌, ◌≤◌, List, [], ◌∷◌, ◌++◌, true, Some, length, map, take, sym, refl, ap, ◌∙◌, subst, append_assoc, append-nil, arith}
+use Rattle.std.proofs.Common.{◌≡◌, ℕ, suc, ◌+◌, ◌-◌, ◌*◌, ◌<◌, ◌≤◌, List, [], ◌∷◌, ◌++◌, Bool, true, false, cond, Some, length, map, take, sym, refl, ap, ◌∙◌, subst, append_assoc, append-nil, arith}
+use Rattle.std.specs.Option.{MatchOption}
+use Rattle.std.specs.Prelude.{Option}
 use Rattle.pin_core.specs.Holding.{Holding, Key, at}
 use Rattle.pin_core.specs.declared.sizes.Sizes.{Sizes}
 use Rattle.view_sums.specs.Total.{total, same, Each}
 use Rattle.view_sums.proofs.Sums.{total-append}
-use Rattle.pinned_pool.specs.Moves.{times, front_of, without, left_by}
+use Rattle.pinned_pool.specs.Moves.{times, front_of, without, left_by, unpin}
 use Rattle.pinned_pool.specs.Named.{IsSeat}
 use Rattle.pinned_pool.specs.declared.view.View.{View}
 use Rattle.pinned_pool.proofs.Keys.{some-at}
 use Rattle.pinned_pool.proofs.AfterSteps.{left_by-append, front-left_by}
 use Rattle.pinned_pool.specs.Moves.{loose_key}
-use Rattle.frag_value.specs.Values.{keys_of, uses, size_of, IsCut, IsFilled, frag_bytes, HasValue}
+use Rattle.frag_value.specs.Values.{keys_of, uses, size_of, IsCut, IsFilled, IsValue, frag_bytes, HasValue}
 use Rattle.pinned_pool.specs.Bytes.{bytes_of}
-use Rattle.frag_value.specs.Taken.{Placed, Begun, placed_over, over_all, more, IsNext, Loses, HandsOver}
+use Rattle.frag_value.specs.Taken.{Placed, Begun, entire, placed_over, over_all, more, IsNext, IfFirst, behind_first, Loses, HandsOver, OverSoFar}
 use Rattle.frag_value.proofs.Sames.{same-yes}
 use Rattle.frag_value.proofs.Hands.{length-frag}
 use Rattle.frag_value.proofs.Released.{left, keys-append}
@@ -62,3 +64,58 @@ module _ (z : Sizes) (seat now : View) (is : IsSeat z seat) (done rest : List (�
 
   pub placed_next : placed_over z now.holds p ≡ placed_over z seat.holds p
   placed_next = ap (λ f. let r : Placed = record { address = (placed_over z seat.holds p).address; offset = 0; bytes = take p.1 (bytes_of f); over = true } in r) front_next
+
+-- a value of which some fragments were handed over
+module _ (z : Sizes) (v : List (ℕ × ℕ)) (old now : View) (is : IsSeat z old) (value : IsValue z v) (has : HasValue old.holds v) (begun : Option Begun) where
+  abbrev pub Far : List (ℕ × ℕ) → Type 0
+  Far rest = OverSoFar z v rest old now begun (λ (b : Begun). Some b)
+
+  pub first_held : (rest : List (ℕ × ℕ)) → 0 < length rest → Far rest → IfFirst (λ p. 0 < times (loose_key p.0) now.holds) rest
+  first_held [] some far = absurd (omega arith)
+  first_held (p ∷ rest) some far = held_next z old now is far.over rest p (subst (HasValue old.holds) far.parts has) far.owner.holds
+
+  pub first_filled : (rest : List (ℕ × ℕ)) → 0 < length rest → Far rest → IfFirst (λ p. (0 < p.1) × (p.1 ≤ 8 * length (front_of p.0 now.holds))) rest
+  first_filled [] some far = absurd (omega arith)
+  first_filled (p ∷ rest) some far =
+      let next = next_over z old.holds (size_of v) far.over rest p (subst (IsCut (size_of v)) far.parts value.cut) (subst (Each (IsFilled old.holds)) far.parts has.filled) in
+      let front = front_next z old now is far.over rest p (subst (HasValue old.holds) far.parts has) far.owner.holds in
+      (next.0, omega (arith, next.1, ap length front))
+
+  pub first_next : (rest : List (ℕ × ℕ)) → 0 < length rest → Far rest → MatchOption begun ⊥ (λ b. IfFirst (λ p. IsNext 0 p.1 b) rest)
+  first_next [] some far = absurd (omega arith)
+  first_next (p ∷ rest) some far =
+      let next = next_over z old.holds (size_of v) far.over rest p (subst (IsCut (size_of v)) far.parts value.cut) (subst (Each (IsFilled old.holds)) far.parts has.filled) in
+      subst (λ o. MatchOption o ⊥ (λ b. IsNext 0 p.1 b)) (sym far.begun_is) (refl, next.2, next.3)
+
+  pub first_over : (rest : List (ℕ × ℕ)) (new : View) (after : Option Begun) → 0 < length rest → Far rest → MatchOption begun ⊥ (λ b. IfFirst (λ p. after ≡ Some (more (placed_over z now.holds p) b)) rest)
+      → IfFirst (λ p. Loses (loose_key p.0) now new) rest → OverSoFar z v (behind_first rest) old new after (λ (b : Begun). Some b)
+  first_over [] new after some far begins loses = absurd (omega arith)
+  first_over (p ∷ rest) new after some far begins loses =
+      let hs = old.holds in
+      let step = subst (λ o. MatchOption o ⊥ (λ b. after ≡ Some (more (placed_over z now.holds p) b))) far.begun_is begins in
+      let same = placed_next z old now is far.over rest p (subst (HasValue hs) far.parts has) far.owner.holds in
+      record {
+        over = far.over ++ p ∷ [];
+        parts = far.parts ∙ sym (append_assoc far.over (p ∷ []) rest);
+        begun_is = step ∙ ap (λ fs. Some (record { extent = entire; size = size_of v; frags = fs })) (ap (λ f. over_all z hs far.over ++ f ∷ []) same ∙ sym (over-more z hs far.over p));
+        owner = handed_more far.over p (loose_key p.0) old now new far.owner refl loses;
+      }
+
+-- a hold that isn't pinned, and is given back
+pub loses_unpinned : (last : Bool) (k : Key) (v w : View) → k.pinned ≡ false → w ≡ unpin last k v → Loses k v w
+loses_unpinned last k v w loose e =
+    let free : cond k.pinned 1 0 ≡ 0 = ap (λ t. let n : ℕ = cond t 1 0 in n) loose in
+    record {
+      holds = ap (λ (x : View). x.holds) e;
+      credits = omega (arith, ap (λ (x : View). x.credits) e, free);
+      claims = ap (λ (x : View). x.claims) e;
+      looks = ap (λ (x : View). x.looks) e;
+      returns = omega (arith, ap (λ (x : View). x.returns) e, free);
+      lasts = listed last (ap (λ (x : View). x.lasts) e);
+    }
+  where
+    listed : (t : Bool) → w.lasts ≡ cond t (v.lasts ++ k.buffer ∷ []) v.lasts → (more : List ℕ) × (w.lasts ≡ v.lasts ++ more)
+    listed true e = (k.buffer ∷ [], e)
+    listed false e = ([], e ∙ sym (append-nil v.lasts))
+
+pub ruleset hands_over = (handed_none, handed_more, loses_unpinned)

@@ -64,7 +64,7 @@ more f b = record b { frags = b.frags ++ f ∷ [] }
 abbrev pub IsFull : Placed → Type 0
 IsFull f = length f.bytes ≡ frag_limit
 
-abbrev pub behind_first : List Placed → List Placed
+abbrev pub behind_first : {A : Type 0} → List A → List A
 behind_first [] = []
 behind_first (f ∷ fs) = fs
 
@@ -81,6 +81,11 @@ IsNext from n b = MayFollow b.extent from n b.size b.frags
 
 abbrev pub taken_bytes : Begun → ℕ
 taken_bytes b = bytes_in b.frags
+
+-- there is a first fragment, and this is true of it
+abbrev pub IfFirst : (ℕ × ℕ → Type 0) → List (ℕ × ℕ) → Type 0
+IfFirst P [] = ⊥
+IfFirst P (p ∷ v) = P p
 
 -- the owner is as before, but its holds of the buffer may have become shared
 abbrev pub MayShare : ℕ → View → View → Type 0

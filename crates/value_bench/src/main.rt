@@ -84,7 +84,7 @@ fn work_named<N: PoolName>(
 }
 
 fn work_in_a_pool(alloc: Global, work: Work) -> std::result::Result<u64, Memory> {
-    let Ok(blank) = PoolBlank::open(alloc, 8, 8, 1) else {
+    let Ok(blank) = PoolBlank::open(alloc, 8, 33, 1) else {
         return Err(Memory);
     };
     work_named::<Brand>(alloc, blank, work)

@@ -3,7 +3,7 @@ ghost use Rattle.pinned_pool.specs.Addresses.{address_of};
 ghost use Rattle.pinned_pool.specs.Bytes.{bytes_of};
 ghost use Rattle.pinned_pool.specs.Moves.{times, front_of};
 
-use crate::{Frag, Taker};
+use crate::{Frag, Taker, Value};
 use flake_base::Memory;
 use pinned_pool::{Pool, PoolName, PoolSeat};
 use std::alloc::Global;
@@ -87,9 +87,8 @@ fn copy<N: PoolName>(
 }
 
 impl<N: PoolName> Taker<N> for Copier {
-    ghost use Rattle.std.specs.Prelude.{List, [], ◌∷◌, Some, None, map, take, if◌then◌else◌, MatchOption, ◌≡◌, ◌<◌, ◌≤◌, ◌*◌, length, false};
-    ghost use Rattle.pinned_pool.specs.Moves.{times, front_of};
-    ghost use Rattle.frag_value.specs.Taken.{whole, entire, ranged, IsNext, more, placed_over, Loses};
+    ghost use Rattle.std.specs.Prelude.{List, [], ◌∷◌, Some, None, map, take, if◌then◌else◌};
+    ghost use Rattle.frag_value.specs.Taken.{whole, entire, ranged};
 
     type Base = ();
 
@@ -129,23 +128,14 @@ impl<N: PoolName> Taker<N> for Copier {
         self.copies.push_reserved(copied);
     }
 
-    fn take_over(&mut self, pool: &Pool<N>, owner: &mut PoolSeat<N>, frag: Frag<N>)
-        requires held { 0 < times frag.hold owner.old.holds }
-        requires loose { frag.hold.pinned ≡ false }
-        requires filled { (0 < frag.len) × (frag.len ≤ 8 * length (front_of frag.hold.buffer owner.old.holds)) }
-        requires next { MatchOption (begun self.old) ⊥ (λ b. IsNext 0 frag.len b) }
-        ensures begun { MatchOption (begun self.old) ⊥ (λ b. begun self.new ≡ Some (more (placed_over N.sizes owner.old.holds (frag.hold.buffer, frag.len)) b)) }
-        ensures taken { taken self.new ≡ taken self.old }
-        ensures base { base self.new ≡ base self.old }
-        ensures room { room self.old ≤ room self.new }
-        ensures range_room { range_room self.old ≤ range_room self.new }
-        ensures owner { Loses frag.hold owner.old owner.new }
-    {
-        let mut copied = copy(pool, owner, &frag, 0, frag.len);
-        copied.over = true;
-        self.copies.push_reserved(copied);
-        let Frag { hold, len: _ } = frag;
-        pool.unpin(owner, hold);
+    fn take_over(&mut self, pool: &Pool<N>, owner: &mut PoolSeat<N>, value: &mut Value<N>) {
+        if let Some(frag) = value.next_frag() {
+            let mut copied = copy(pool, owner, &frag, 0, frag.len);
+            copied.over = true;
+            self.copies.push_reserved(copied);
+            let Frag { hold, len: _ } = frag;
+            pool.unpin(owner, hold);
+        }
     }
 
     fn finish(&mut self) {

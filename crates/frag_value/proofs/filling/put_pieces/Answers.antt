@@ -11,8 +11,7 @@ put_bytes-requires-clause-exclusive g c = put-sole c.args.hold.now.buffer c.args
 pub put_bytes-requires-clause-index : goal.put_bytes-requires-clause-index
 put_bytes-requires-clause-index g c =
     let shared = c.min-shared.result in
-    let back = c.args.back.now in
-    (
+    let back = c.args.back.now in (
       omega (arith, put-length c.args.hold.now.buffer c.args.index c.word_across-word.result c.args.seat.now c.put_word.new.seat c.put_word.ensures c.requires.exclusive c.requires.index),
       omega (arith, length-take (length back - shared) (drop shared back), length-drop shared back, c.min-shared.ensures, c.requires.fits, c.if-shared-back.true),
     )
