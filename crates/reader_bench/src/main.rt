@@ -1,5 +1,5 @@
-//! Makes SETs of 4 KiB, feeds them to a reader in pieces of 4,096 bytes, and says what came out. Its word is how
-//! many SETs: 16,268 have 67,105,500 bytes, the most below the limit of an input.
+//! Makes SETs, feeds them to a reader in pieces of 4,096 bytes, and says what came out. Its words are how many SETs,
+//! and the length of their value: 16,268 of 4,096 have 67,105,500 bytes, the most below the limit of an input.
 #![tactic(auto)]
 
 ghost use Rattle.std.specs.Prelude.{◌≡◌, ◌++◌, List, ℕ, IfOk};
@@ -20,16 +20,19 @@ struct Tally {
     bytes: u64,
 }
 
-// SET of the key `k` to 4,096 bytes, 4,125 in all.
-fn set(alloc: Global) -> std::result::Result<Vec<u8>, AllocError> {
-    let mut request = Vec::from_slice(alloc, b"*3\r\n$3\r\nSET\r\n$1\r\nk\r\n$4096\r\n")?;
-    request.extend_from_slice(&[b'v'; 4096])?;
+// SET of the key `k` to so many bytes.
+fn set(alloc: Global, len: u16) -> std::result::Result<Vec<u8>, AllocError> {
+    let head = format!(in alloc; "*3\r\n$3\r\nSET\r\n$1\r\nk\r\n${len}\r\n")?;
+    let mut request = Vec::from_slice(alloc, head.as_bytes())?;
+    for _ in 0..len {
+        request.push(b'v')?;
+    }
     request.extend_from_slice(b"\r\n")?;
     Ok(request)
 }
 
-fn sets(alloc: Global, count: u32) -> std::result::Result<Vec<u8>, AllocError> {
-    let request = set(alloc)?;
+fn sets(alloc: Global, count: u32, len: u16) -> std::result::Result<Vec<u8>, AllocError> {
+    let request = set(alloc, len)?;
     let mut input = Vec::new(alloc);
     for _ in 0..count {
         input.extend_from_slice(&request)?;
@@ -48,6 +51,7 @@ fn take(reader: &mut Reader, tally: &mut Tally)
         for i in 0..request.len() {
             tally.bytes = tally.bytes.saturating_add(request.word(i).len() as u64);
         }
+        reader.give_back(request);
     }
 }
 
@@ -70,15 +74,23 @@ fn read(alloc: Global, input: &[u8]) -> std::result::Result<(Tally, Ended), Read
     Ok((tally, reader.end()))
 }
 
-fn main(rt: HostRuntime) -> Result<()> {
-    let Some(word) = env::args(&rt)?.nth(1) else {
-        bail!("how many requests?");
+// The numbers among the words.
+fn numbers(rt: &HostRuntime) -> Result<(u32, u16)> {
+    let mut words = env::args(rt)?.skip(1);
+    let (Some(count), Some(len)) = (words.next(), words.next()) else {
+        bail!("how many requests, and how long?");
     };
-    let count = word
+    let count = count
         .as_str()
         .parse::<u32>()
         .context("the number of requests")?;
-    let input = sets(rt.alloc(), count)?;
+    let len = len.as_str().parse::<u16>().context("the length")?;
+    Ok((count, len))
+}
+
+fn main(rt: HostRuntime) -> Result<()> {
+    let (count, len) = numbers(&rt)?;
+    let input = sets(rt.alloc(), count, len)?;
     match read(rt.alloc(), &input) {
         Ok((tally, Ended::Clean)) => {
             let Tally { requests, bytes } = tally;

@@ -36,7 +36,7 @@ read_on bytes given old new piece kept now taken judged read =
       requests_are = ap (λ r. given ++ r) taken.ready_is ∙ sym (append_assoc given old.ready.items (requests_of taken.elements)) ∙ ap (λ r. r ++ requests_of taken.elements) read.requests_are
           ∙ sym (requests_of-append read.elements taken.elements);
       place_is = omega (arith, taken.place_is, read.place_is, ap length (stream-append read.elements taken.elements), length-append (stream read.elements) (stream taken.elements));
-      cut_short = cut_short new.begun.state _ new.begun.word.items now.sound now.awaits;
+      cut_short = cut_short new.begun.state _ new.begun.room.word now.sound now.awaits;
     }
 
 -- the judged bytes of an input that goes on

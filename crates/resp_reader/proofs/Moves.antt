@@ -22,7 +22,6 @@ use Rattle.resp_reader.specs.declared.begun.Stop.{Stop}
 use Rattle.resp_reader.specs.declared.begun.Stop.TheVariants.{Fault, Memory as OutOfMemory}
 use Rattle.resp_reader.specs.declared.begun.State.{State}
 use Rattle.resp_reader.specs.declared.begun.Begun.{Begun}
-use Rattle.resp_reader.specs.Front.{texts}
 use Rattle.resp_reader.specs.Head.{digits_text, IsDigits, IsWhole, LineFault}
 use Rattle.resp_reader.specs.Begun.{state_front, IsState, Stops, IsArray, IsSound, Breaks}
 use Rattle.resp_reader.proofs.Heads.{some_digits}
@@ -160,8 +159,8 @@ breaks next (Ok y) begun state bytes at sound stops same = tt
 breaks (Ok x) (Err e) begun state bytes at sound stops same = absurd cc
 breaks (Err d) (Err (Fault kind place)) begun state bytes at sound stops same =
     let is : d ≡ Fault kind place = cc in
-    let words = texts begun.words.items in
+    let words = begun.room.words in
     let stop : Stops state bytes (Fault kind place) = subst (Stops state bytes) is stops in
-    subst (λ s. IsFaulty (state_front s words begun.word.items ++ bytes) [] kind (length (state_front s words begun.word.items) + place)) (sym at)
-    (stop words begun.word.items (subst (λ s. IsState s words begun.word.items) at sound))
+    subst (λ s. IsFaulty (state_front s words begun.room.word ++ bytes) [] kind (length (state_front s words begun.room.word) + place)) (sym at)
+    (stop words begun.room.word (subst (λ s. IsState s words begun.room.word) at sound))
 breaks (Err d) (Err OutOfMemory) begun state bytes at sound stops same = tt

@@ -7,8 +7,8 @@ use Rattle.flake_model.proofs.Streams.{all_append, stream-append, requests_of-ap
 use Rattle.resp_reader.specs.declared.begun.State.TheVariants.{Start, Null, Whole}
 use Rattle.resp_reader.specs.declared.begun.Mark.{Mark}
 use Rattle.resp_reader.specs.declared.parser.Parser.{Parser}
-use Rattle.resp_reader.specs.Front.{texts}
-use Rattle.resp_reader.specs.Begun.{state_front, IsState, IsSound, IsOpen, front_of, GrowsFrom, Grows}
+use Rattle.resp_reader.specs.Begun.{state_front, IsState, IsSound, IsOpen, front_of, Grows}
+use Rattle.resp_reader.specs.WordRoom.{GrowsFrom}
 use Rattle.resp_reader.specs.Parser.{IsKept, TakesTo, CanGoBack, IsMark, IsBack, HasFault}
 
 pub request_to_list : (element : Element) → option_to_list (request_of element) ≡ requests_of (element ∷ [])
@@ -30,31 +30,31 @@ element_taken old new element allowed front_is none ready place = record {
 -- a null array is whole
 pub null_taken : (old new : Parser) → old.begun.state ≡ Null → new.begun.state ≡ Start → new.ready.items ≡ old.ready.items → new.place ≡ old.place + length (front_of old.begun) → TakesTo old new [] []
 null_taken old new whole start ready place =
-    element_taken old new null_array tt (ap (λ s. state_front s (texts old.begun.words.items) old.begun.word.items) whole) (ap (λ s. state_front s (texts new.begun.words.items) new.begun.word.items) start)
+    element_taken old new null_array tt (ap (λ s. state_front s old.begun.room.words old.begun.room.word) whole) (ap (λ s. state_front s new.begun.room.words new.begun.room.word) start)
     (ready ∙ sym (append-nil old.ready.items)) place
 
 -- an array is whole
 pub array_taken : (old new : Parser) (count : ℕ) → old.begun.state ≡ Whole count → IsSound old.begun → new.begun.state ≡ Start
-    → new.ready.items ≡ old.ready.items ++ option_to_list (request_of (array (texts old.begun.words.items))) → new.place ≡ old.place + length (front_of old.begun) → TakesTo old new [] []
+    → new.ready.items ≡ old.ready.items ++ option_to_list (request_of (array old.begun.room.words)) → new.place ≡ old.place + length (front_of old.begun) → TakesTo old new [] []
 array_taken old new count whole sound start ready place =
-    let words = texts old.begun.words.items in
-    let is : IsState (Whole count) words old.begun.word.items = subst (λ s. IsState s words old.begun.word.items) whole sound in
-    let front : front_of old.begun ≡ array_front count words = ap (λ s. state_front s words old.begun.word.items) whole in
-    element_taken old new (array words) (omega (arith, is.1, is.2), is.0) (front ∙ ap (λ n. array_front n words) (sym is.1)) (ap (λ s. state_front s (texts new.begun.words.items) new.begun.word.items) start) ready place
+    let words = old.begun.room.words in
+    let is : IsState (Whole count) words old.begun.room.word = subst (λ s. IsState s words old.begun.room.word) whole sound in
+    let front : front_of old.begun ≡ array_front count words = ap (λ s. state_front s words old.begun.room.word) whole in
+    element_taken old new (array words) (omega (arith, is.1, is.2), is.0) (front ∙ ap (λ n. array_front n words) (sym is.1)) (ap (λ s. state_front s new.begun.room.words new.begun.room.word) start) ready place
 
-pub same_back : (old new : Parser) → new.ready.items ≡ old.ready.items → texts new.begun.words.items ≡ texts old.begun.words.items → new.begun.word.items ≡ old.begun.word.items → CanGoBack old new
-same_back old new ready words word = inl (ready, inl ([], words, word ∙ sym (append-nil old.begun.word.items)))
+pub same_back : (old new : Parser) → new.ready.items ≡ old.ready.items → new.begun.room.words ≡ old.begun.room.words → new.begun.room.word ≡ old.begun.room.word → CanGoBack old new
+same_back old new ready words word = inl (ready, inl ([], words, word ∙ sym (append-nil old.begun.room.word)))
 
 -- words that were given can be taken back
-pub given_back : (old new : Parser) (count : ℕ) → old.begun.state ≡ Whole count → IsSound old.begun → texts new.begun.words.items ≡ [] → new.begun.word.items ≡ old.begun.word.items
-    → new.ready.items ≡ old.ready.items ++ option_to_list (request_of (array (texts old.begun.words.items))) → CanGoBack old new
+pub given_back : (old new : Parser) (count : ℕ) → old.begun.state ≡ Whole count → IsSound old.begun → new.begun.room.words ≡ [] → new.begun.room.word ≡ []
+    → new.ready.items ≡ old.ready.items ++ option_to_list (request_of (array old.begun.room.words)) → CanGoBack old new
 given_back old new count whole sound none word ready =
-    by_words (texts old.begun.words.items) refl ready where
-      empty : old.begun.word.items ≡ []
-      empty = (subst (λ s. IsState s (texts old.begun.words.items) old.begun.word.items) whole sound).3
+    by_words old.begun.room.words refl ready where
+      empty : old.begun.room.word ≡ []
+      empty = (subst (λ s. IsState s old.begun.room.words old.begun.room.word) whole sound).3
 
-      by_words : (words : Words) → words ≡ texts old.begun.words.items → new.ready.items ≡ old.ready.items ++ option_to_list (request_of (array words)) → CanGoBack old new
-      by_words [] is ready = same_back old new (ready ∙ append-nil old.ready.items) (none ∙ is) word
+      by_words : (words : Words) → words ≡ old.begun.room.words → new.ready.items ≡ old.ready.items ++ option_to_list (request_of (array words)) → CanGoBack old new
+      by_words [] is ready = same_back old new (ready ∙ append-nil old.ready.items) (none ∙ is) (word ∙ sym empty)
       by_words (first ∷ words) is ready = inr (first ∷ words, [], ready, λ other. inl (other, is, ap (λ w. w ++ other) (sym empty)))
 
 -- more bytes led to another state
@@ -147,23 +147,23 @@ place_of start now bytes rest so_far taken shorter =
 -- back at the mark
 pub went_back : (before old mid new : Parser) (held : ℕ) (mark : Mark) → held ≡ length before.ready.items → IsMark mark before.begun → CanGoBack before old
     → (length old.ready.items ≤ held → mid ≡ old)
-    → ((ready others : List Words) (first : Words) → length ready ≡ held → old.ready.items ≡ ready ++ first ∷ others → (mid.ready.items ≡ ready) × (texts mid.begun.words.items ≡ first))
-    → ((words : Words) (word : List ℕ) → length words ≡ mark.words → length word ≡ mark.len → GrowsFrom words word (texts mid.begun.words.items) mid.begun.word.items
-    → (texts new.begun.words.items ≡ words) × (new.begun.word.items ≡ word))
+    → ((ready others : List Words) (first : Words) → length ready ≡ held → old.ready.items ≡ ready ++ first ∷ others → (mid.ready.items ≡ ready) × (mid.begun.room.words ≡ first))
+    → ((words : Words) (word : List ℕ) → length words ≡ mark.words → length word ≡ mark.len → GrowsFrom words word mid.begun.room.words mid.begun.room.word
+    → (new.begun.room.words ≡ words) × (new.begun.room.word ≡ word))
     → new.begun.state ≡ mark.state → new.ready.items ≡ mid.ready.items → new.place ≡ before.place → new.taken ≡ before.taken → IsBack before new
 went_back before old mid new held mark held_is marked back same reclaimed reopened state ready place taken =
-    let found : (mid.ready.items ≡ before.ready.items) × GrowsFrom (texts before.begun.words.items) before.begun.word.items (texts mid.begun.words.items) mid.begun.word.items =
+    let found : (mid.ready.items ≡ before.ready.items) × GrowsFrom before.begun.room.words before.begun.room.word mid.begun.room.words mid.begun.room.word =
     elim back [
       | inl here ↦ (
           let is : mid ≡ old = same (omega (arith, ap length here.0)) in (
             ap (λ (p : Parser). p.ready.items) is ∙ here.0,
-            subst (λ (p : Parser). GrowsFrom (texts before.begun.words.items) before.begun.word.items (texts p.begun.words.items) p.begun.word.items) (sym is) here.1,
+            subst (λ (p : Parser). GrowsFrom before.begun.room.words before.begun.room.word p.begun.room.words p.begun.room.word) (sym is) here.1,
           ))
       | inr given ↦ (
           let is = reclaimed before.ready.items given.1 given.0 (sym held_is) given.2 in
-          (is.0, subst (λ (words : Words). GrowsFrom (texts before.begun.words.items) before.begun.word.items words mid.begun.word.items) (sym is.1) (given.3 mid.begun.word.items)))
+          (is.0, subst (λ (words : Words). GrowsFrom before.begun.room.words before.begun.room.word words mid.begun.room.word) (sym is.1) (given.3 mid.begun.room.word)))
     ] in
-    let words = reopened (texts before.begun.words.items) before.begun.word.items (sym marked.words) (sym marked.len) found.1 in
+    let words = reopened before.begun.room.words before.begun.room.word (sym marked.words) (sym marked.len) found.1 in
     record {
       ready = ready ∙ found.0;
       state = state ∙ marked.state;

@@ -1,5 +1,5 @@
 -- An element as far as it came.
-use Rattle.std.specs.Prelude.{◌≡◌, ℕ, ◌+◌, ◌<◌, ◌≤◌, ◌⊎◌, List, [], ◌∷◌, ◌++◌, length}
+use Rattle.std.specs.Prelude.{◌≡◌, ℕ, ◌+◌, ◌<◌, ◌≤◌, List, [], ◌∷◌, ◌++◌, length}
 use Rattle.std.specs.Fmt.{decimal}
 use Rattle.std.specs.List.{AllByRecursion}
 use Rattle.resp_reader.specs.declared.head.Head.TheVariants.{Count, Length}
@@ -10,7 +10,7 @@ use Rattle.resp_reader.specs.declared.begun.Stop.{Stop}
 use Rattle.resp_reader.specs.declared.begun.Stop.TheVariants.{Fault, Memory}
 use Rattle.flake_model.specs.Resp.{Words, IsWord, null_array, element_text, IsFaulty}
 use Rattle.flake_model.specs.Fronts.{array_front, word_front}
-use Rattle.resp_reader.specs.Front.{texts}
+use Rattle.resp_reader.specs.WordRoom.{GrowsFrom}
 use Rattle.resp_reader.specs.Head.{digits_text, IsDigits, IsWhole}
 
 -- the bytes that lead to a state, by the words so far and what has come of the next
@@ -68,19 +68,13 @@ Stops state bytes (Fault kind place) = (words : Words) (word : List ℕ) → IsS
 Stops state bytes Memory = Unit {0}
 
 abbrev pub front_of : Begun → List ℕ
-front_of begun = state_front begun.state (texts begun.words.items) begun.word.items
+front_of begun = state_front begun.state begun.room.words begun.room.word
 
 abbrev pub IsSound : Begun → Type 0
-IsSound begun = IsState begun.state (texts begun.words.items) begun.word.items
-
--- The new words begin with the old, and what had come of the next one is still in front.
-abbrev pub GrowsFrom : Words → List ℕ → Words → List ℕ → Type 0
-GrowsFrom words word news new =
-    ((more : List ℕ) × (news ≡ words) × (new ≡ word ++ more))
-    ⊎ ((more : List ℕ) × (others : Words) × (news ≡ words ++ (word ++ more) ∷ others))
+IsSound begun = IsState begun.state begun.room.words begun.room.word
 
 abbrev pub Grows : Begun → Begun → Type 0
-Grows old new = GrowsFrom (texts old.words.items) old.word.items (texts new.words.items) new.word.items
+Grows old new = GrowsFrom old.room.words old.room.word new.room.words new.room.word
 
 -- The bytes have an error at this place behind the front.
 abbrev pub Breaks : Begun → List ℕ → Stop → Type 0

@@ -6,8 +6,8 @@ use Rattle.resp_reader.specs.declared.begun.Mark.{Mark}
 use Rattle.resp_reader.specs.declared.begun.Begun.{Begun}
 use Rattle.resp_reader.specs.declared.parser.Parser.{Parser}
 use Rattle.flake_model.specs.Resp.{Words, Element, AllElements, stream, requests_of, IsFaulty, judged_bytes}
-use Rattle.resp_reader.specs.Front.{texts}
-use Rattle.resp_reader.specs.Begun.{IsSound, IsOpen, front_of, GrowsFrom, Grows}
+use Rattle.resp_reader.specs.Begun.{IsSound, IsOpen, front_of, Grows}
+use Rattle.resp_reader.specs.WordRoom.{GrowsFrom}
 
 -- between two calls
 pub record IsKept (parser : Parser) : Type 0 where
@@ -29,20 +29,20 @@ abbrev pub CanGoBack : Parser → Parser → Type 0
 CanGoBack old new =
     ((new.ready.items ≡ old.ready.items) × Grows old.begun new.begun)
     ⊎ ((first : Words) × (others : List Words) × (new.ready.items ≡ old.ready.items ++ first ∷ others)
-    × ((word : List ℕ) → GrowsFrom (texts old.begun.words.items) old.begun.word.items first word))
+    × ((word : List ℕ) → GrowsFrom old.begun.room.words old.begun.room.word first word))
 
 -- the mark of an element as far as it came
 pub record IsMark (mark : Mark) (begun : Begun) : Type 0 where
   pub state : mark.state ≡ begun.state
-  pub words : mark.words ≡ length (texts begun.words.items)
-  pub len : mark.len ≡ length begun.word.items
+  pub words : mark.words ≡ length begun.room.words
+  pub len : mark.len ≡ length begun.room.word
 
 -- all that contracts see of it is as it was
 pub record IsBack (old new : Parser) : Type 0 where
   pub ready : new.ready.items ≡ old.ready.items
   pub state : new.begun.state ≡ old.begun.state
-  pub words : texts new.begun.words.items ≡ texts old.begun.words.items
-  pub word : new.begun.word.items ≡ old.begun.word.items
+  pub words : new.begun.room.words ≡ old.begun.room.words
+  pub word : new.begun.room.word ≡ old.begun.room.word
   pub place : new.place ≡ old.place
   pub taken : new.taken ≡ old.taken
 

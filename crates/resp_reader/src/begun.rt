@@ -1,15 +1,16 @@
 // Elements in pieces of any length.
 ghost use Rattle.std.specs.Prelude.{◌≡◌, ◌≢◌, ◌<◌, ◌≤◌, ◌+◌, ◌++◌, ◌∷◌, [], List, ℕ, length, IfOk, IfErr, IfSome, IfNone, OnOk, Err};
 ghost use Rattle.resp_reader.specs.Head.{IsDigits, IsWhole};
-ghost use Rattle.resp_reader.specs.Begun.{IsState, IsOpen, Moves, Stops, IsSound, front_of, Breaks, GrowsFrom, Grows};
-ghost use Rattle.flake_model.specs.Resp.{Words};
-ghost use Rattle.resp_reader.specs.Front.{texts};
+ghost use Rattle.resp_reader.specs.Begun.{IsArray, IsState, IsOpen, Moves, Stops, IsSound, front_of, Breaks, Grows};
+ghost use Rattle.flake_model.specs.Resp.{Words, IsWord, bulk_string};
+ghost use Rattle.flake_model.specs.Fronts.{array_front};
+ghost use Rattle.resp_reader.specs.WordRoom.{GrowsFrom};
 ghost use Rattle.resp_reader.specs.declared.begun.Stop.TheVariants.{Memory as OutOfMemory};
 
-use crate::head::{Digits, Head, line};
-use flake_base::{Bytes, Memory};
+use crate::head::{Digits, Head, line, line_end, whole_line};
+use crate::word_room::WordRoom;
+use flake_base::Memory;
 use std::alloc::{AllocError, Global};
-use std::mem::replace;
 
 /// What is awaited.
 #[derive(Clone, Copy)]
@@ -64,10 +65,8 @@ impl From<AllocError> for Stop {
 #[derive(Drop)]
 pub struct Begun {
     pub state: State,
-    /// The whole words.
-    pub words: Vec<Bytes>,
-    /// What came of the next.
-    pub word: Bytes,
+    /// The whole words, and what came of the next.
+    pub room: WordRoom,
 }
 
 /// How far an element came.
@@ -97,7 +96,10 @@ fn start(bytes: &[u8]) -> Result<(State, &[u8]), Stop>
     ensures err { IfErr result (Stops State.Start bytes.now) }
 {
     match strip(bytes, b'*') {
-        Some(rest) => Ok((State::InCount(Digits::Nothing), rest)),
+        Some(rest) => Ok(match whole_line(Head::Count, rest) {
+            Some((count, behind)) => (array(count), behind),
+            None => (State::InCount(Digits::Nothing), rest),
+        }),
         None => Err(Stop::Fault { kind: 4, place: 0 }),
     }
 }
@@ -150,13 +152,13 @@ fn at_word(count: u32, bytes: &[u8]) -> Result<(State, &[u8]), Stop>
     ensures err { IfErr result (Stops (State.AtWord count) bytes.now) }
 {
     match strip(bytes, b'$') {
-        Some(rest) => Ok((
-            State::InLength {
-                count,
-                digits: Digits::Nothing,
-            },
-            rest,
-        )),
+        Some(rest) => Ok(match whole_line(Head::Length, rest) {
+            Some((len, behind)) => (State::InWord { count, len }, behind),
+            None => {
+                let digits = Digits::Nothing;
+                (State::InLength { count, digits }, rest)
+            }
+        }),
         None => Err(Stop::Fault { kind: 2, place: 0 }),
     }
 }
@@ -196,20 +198,19 @@ impl Begun {
     {
         Begun {
             state: State::Start,
-            words: Vec::new(alloc),
-            word: Bytes::new(alloc),
+            room: WordRoom::new(alloc),
         }
     }
 
     pub fn mark(&self) -> Mark
         ensures state { result.state ≡ self.now.state }
-        ensures words { result.words ≡ length (texts self.now.words.items) }
-        ensures len { result.len ≡ length self.now.word.items }
+        ensures words { result.words ≡ length self.now.room.words }
+        ensures len { result.len ≡ length self.now.room.word }
     {
         Mark {
             state: self.state,
-            words: self.words.len(),
-            len: self.word.len(),
+            words: self.room.count(),
+            len: self.room.word_len(),
         }
     }
 
@@ -217,30 +218,14 @@ impl Begun {
     pub fn back(&mut self, mark: Mark)
         ensures state { self.new.state ≡ mark.state }
         ensures words { (words : Words) (word : List ℕ) → length words ≡ mark.words → length word ≡ mark.len
-            → GrowsFrom words word (texts self.old.words.items) self.old.word.items → (texts self.new.words.items ≡ words) × (self.new.word.items ≡ word) }
+            → GrowsFrom words word self.old.room.words self.old.room.word → (self.new.room.words ≡ words) × (self.new.room.word ≡ word) }
     {
-        self.reopen(mark.words);
-        self.word.truncate(mark.len);
+        self.room.back(mark.words, mark.len);
         self.state = mark.state;
     }
 
-    // Goes back to so many whole words, where there are more, with the next one open.
-    fn reopen(&mut self, count: usize)
-        ensures same { length self.old.words.items ≤ count → (self.new.words ≡ self.old.words) × (self.new.word ≡ self.old.word) }
-        ensures open { (words others : Words) (word : List ℕ) → length words ≡ count → texts self.old.words.items ≡ words ++ word ∷ others
-            → (texts self.new.words.items ≡ words) × (self.new.word.items ≡ word) }
-    {
-        if self.words.len() <= count {
-            return;
-        }
-        self.words.truncate(count + 1);
-        if let Some(word) = self.words.pop() {
-            self.word = word;
-        }
-    }
-
     /// Takes bytes at the front, as far as they lead to another state, and answers the rest.
-    pub fn step<'a>(&mut self, alloc: Global, bytes: &'a [u8]) -> Result<&'a [u8], Stop>
+    pub fn step<'a>(&mut self, bytes: &'a [u8]) -> Result<&'a [u8], Stop>
         requires sound { IsSound self.old }
         requires open { IsOpen self.old.state }
         requires some { 0 < length bytes.now }
@@ -258,13 +243,13 @@ impl Begun {
             State::InLength { count, digits } => self.go(in_length(count, digits, bytes)),
             State::LengthEnd { count, len } => self.go(length_end(count, len, bytes)),
             State::InWord { count, len } => self.in_word(count, len, bytes),
-            State::WordEnd { count } => self.word_end(alloc, count, bytes),
+            State::WordEnd { count } => self.word_end(count, bytes),
             State::Null | State::Whole { .. } => unreachable!(),
         }
     }
 
     fn go<'a>(&mut self, next: Result<(State, &'a [u8]), Stop>) -> Result<&'a [u8], Stop>
-        ensures words { (self.new.words ≡ self.old.words) × (self.new.word ≡ self.old.word) }
+        ensures room { self.new.room ≡ self.old.room }
         ensures ok { IfOk next.entry (λ n. (self.new.state ≡ n.0) × IfOk result (λ rest. rest.now ≡ n.1.now)) }
         ensures err { IfErr next.entry (λ e. result ≡ Err e) }
         ensures failed { IfErr result (λ e. next.entry ≡ Err e) }
@@ -284,7 +269,7 @@ impl Begun {
         ensures err { IfErr result (Breaks self.old bytes.now) }
         ensures grows { Grows self.old self.new }
     {
-        let left = len as usize - self.word.len();
+        let left = len as usize - self.room.word_len();
         if left == 0 {
             let Some(rest) = strip(bytes, b'\r') else {
                 return Err(Stop::Fault { kind: 3, place: 0 });
@@ -293,11 +278,17 @@ impl Begun {
             return Ok(rest);
         }
         let (now, rest) = bytes.split_at(left.min(bytes.len()));
-        self.word.append(now)?;
-        Ok(rest)
+        self.room.append(now, len as usize)?;
+        match line_end(rest) {
+            Some(behind) => {
+                self.end_word(count)?;
+                Ok(behind)
+            }
+            None => Ok(rest),
+        }
     }
 
-    fn word_end<'a>(&mut self, alloc: Global, count: u32, bytes: &'a [u8]) -> Result<&'a [u8], Stop>
+    fn word_end<'a>(&mut self, count: u32, bytes: &'a [u8]) -> Result<&'a [u8], Stop>
         requires state { self.old.state ≡ State.WordEnd count }
         requires sound { IsSound self.old }
         requires some { 0 < length bytes.now }
@@ -310,14 +301,26 @@ impl Begun {
         let Some(rest) = strip(bytes, b'\n') else {
             return Err(Stop::Fault { kind: 3, place: 0 });
         };
-        self.words.reserve(1)?;
-        let word = replace(&mut self.word, Bytes::new(alloc));
-        let _ = self.words.push(word);
-        self.state = if self.words.len() == count as usize {
+        self.end_word(count)?;
+        Ok(rest)
+    }
+
+    // The next word and its line end are whole.
+    fn end_word(&mut self, count: u32) -> Result<(), Stop>
+        requires array { IsArray count self.old.room.words }
+        requires word { IsWord self.old.room.word }
+        ensures sound { OnOk result (IsSound self.new) }
+        ensures ok { OnOk result (front_of self.new
+            ≡ array_front count self.old.room.words ++ bulk_string self.old.room.word) }
+        ensures err { IfErr result (λ e. e ≡ Stop.Memory) }
+        ensures grows { Grows self.old self.new }
+    {
+        self.room.end_word()?;
+        self.state = if self.room.count() == count as usize {
             State::Whole { count }
         } else {
             State::AtWord { count }
         };
-        Ok(rest)
+        Ok(())
     }
 }

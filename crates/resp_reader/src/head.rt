@@ -1,5 +1,6 @@
 // The lines that begin arrays and words, in pieces of any length.
 ghost use Rattle.std.specs.Prelude.{◌≡◌, ◌≢◌, ◌<◌, ◌≤◌, ◌+◌, ◌++◌, ◌∷◌, [], List, ℕ, length, slice_index, IsTrue, IfSome, IfNone, IfOk, IfErr, MatchOption, Some};
+ghost use Rattle.std.specs.Fmt.{decimal};
 ghost use Rattle.resp_reader.specs.Head.{limit_of, digits_text, IsDigits, IsWhole, NoLine, LineFault};
 
 use memchr::memchr;
@@ -104,6 +105,71 @@ fn digit_of(byte: u8) -> Option<u32>
     } else {
         None
     }
+}
+
+// One digit more, if a number at most the limit can have it.
+fn one_more(n: u32, limit: u32, byte: u8) -> Option<u32>
+    requires small { n ≤ 1048576 }
+    ensures within { IfSome result (λ next. next ≤ limit) }
+    ensures text { IfSome result (λ next. decimal next ≡ decimal n ++ byte ∷ []) }
+{
+    let Some(digit) = digit_of(byte) else {
+        return None;
+    };
+    let next = n * 10 + digit;
+    if n == 0 || next > limit {
+        return None;
+    }
+    Some(next)
+}
+
+/// The bytes behind a CR and an LF.
+pub fn line_end(bytes: &[u8]) -> Option<&[u8]>
+    ensures { IfSome result (λ rest. bytes.now ≡ 13 ∷ 10 ∷ rest.now) }
+{
+    match bytes {
+        [b'\r', b'\n', rest @ ..] => Some(rest),
+        _ => None,
+    }
+}
+
+// More digits of a number, to the end of its line, and the bytes behind that.
+fn more_line(n: u32, limit: u32, bytes: &[u8]) -> Option<(u32, &[u8])>
+    requires within { n ≤ limit }
+    requires small { limit ≤ 1048576 }
+    ensures within { IfSome result (λ found. found.0 ≤ limit) }
+    ensures text { IfSome result (λ found. decimal n ++ bytes.now ≡ decimal found.0 ++ 13 ∷ 10 ∷ found.1.now) }
+    ensures shorter { IfSome result (λ found. length found.1.now < length bytes.now) }
+{
+    let mut n = n;
+    for (i, byte) in bytes.iter().enumerate() {
+        if *byte == b'\r' {
+            let Some(behind) = line_end(&bytes[i..]) else {
+                return None;
+            };
+            return Some((n, behind));
+        }
+        let Some(next) = one_more(n, limit, *byte) else {
+            return None;
+        };
+        n = next;
+    }
+    None
+}
+
+/// A number that came with its whole line, and the bytes behind that.
+pub fn whole_line(head: Head, bytes: &[u8]) -> Option<(u32, &[u8])>
+    ensures within { IfSome result (λ found. found.0 ≤ limit_of head) }
+    ensures text { IfSome result (λ found. bytes.now ≡ decimal found.0 ++ 13 ∷ 10 ∷ found.1.now) }
+    ensures shorter { IfSome result (λ found. length found.1.now < length bytes.now) }
+{
+    let Some((first, rest)) = bytes.split_first() else {
+        return None;
+    };
+    let Some(digit) = digit_of(*first) else {
+        return None;
+    };
+    more_line(digit, head.limit(), rest)
 }
 
 /// A line with the bytes behind it: the CR that ends it came, and the rest is behind that, or all bytes are the

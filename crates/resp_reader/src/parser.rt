@@ -2,14 +2,15 @@
 ghost use Rattle.std.specs.Prelude.{◌≡◌, ◌≢◌, ◌<◌, ◌≤◌, ◌+◌, ◌++◌, ◌∷◌, [], List, ℕ, length, IfOk, OnOk, OnErr, IfErr, Some, None};
 ghost use Rattle.std.specs.Option.{option_to_list};
 ghost use Rattle.flake_model.specs.Resp.{Words, array, request_of, judged_bytes};
-ghost use Rattle.resp_reader.specs.Front.{texts};
-ghost use Rattle.resp_reader.specs.Begun.{front_of, IsSound, IsOpen, Breaks, GrowsFrom, Grows};
+ghost use Rattle.resp_reader.specs.WordRoom.{GrowsFrom};
+ghost use Rattle.resp_reader.specs.Begun.{front_of, IsSound, IsOpen, Breaks, Grows};
 ghost use Rattle.resp_reader.specs.Parser.{IsKept, TakesTo, CanGoBack, IsBack, IsMark, StopsAt};
 ghost use Rattle.resp_reader.specs.Reader.{error_at, Reads, progress};
 ghost use Rattle.resp_reader.specs.Errors.{HasError};
 ghost use Rattle.resp_reader.specs.declared.parser.Parser.{Parser};
 
 use crate::begun::{Begun, Mark, State, Stop};
+use crate::word_room::WordRoom;
 use crate::{ReadError, Request};
 use std::alloc::Global;
 use std::collections::VecDeque;
@@ -21,6 +22,8 @@ pub struct Parser {
     alloc: Global,
     pub ready: VecDeque<Request>,
     pub begun: Begun,
+    /// The room of a request that was given back.
+    pub spare: Option<WordRoom>,
     /// How many bytes were taken.
     pub taken: u64,
     /// Where the element that isn't whole begins.
@@ -52,6 +55,7 @@ impl Parser {
             alloc,
             ready: VecDeque::new(alloc),
             begun: Begun::new(alloc),
+            spare: None,
             taken: 0,
             place: 0,
         }
@@ -134,8 +138,8 @@ impl Parser {
     fn reclaim(&mut self, held: usize)
         ensures same { length self.old.ready.items ≤ held → self.new ≡ self.old }
         ensures words { (ready others : List Words) (first : Words) → length ready ≡ held → self.old.ready.items ≡ ready ++ first ∷ others
-            → (self.new.ready.items ≡ ready) × (texts self.new.begun.words.items ≡ first) }
-        ensures begun { (self.new.begun.state ≡ self.old.begun.state) × (self.new.begun.word ≡ self.old.begun.word) }
+            → (self.new.ready.items ≡ ready) × (self.new.begun.room.words ≡ first) }
+        ensures state { self.new.begun.state ≡ self.old.begun.state }
         ensures places { (self.new.taken ≡ self.old.taken) × (self.new.place ≡ self.old.place) }
     {
         if self.ready.len() <= held {
@@ -143,15 +147,15 @@ impl Parser {
         }
         self.ready.truncate(held + 1);
         if let Some(first) = self.ready.pop_back() {
-            self.begun.words = first.into_words();
+            self.begun.room = first.into_room();
         }
     }
 
     fn reopen(&mut self, mark: Mark, place: u64)
         ensures state { self.new.begun.state ≡ mark.state }
         ensures words { (words : Words) (word : List ℕ) → length words ≡ mark.words → length word ≡ mark.len
-            → GrowsFrom words word (texts self.old.begun.words.items) self.old.begun.word.items
-            → (texts self.new.begun.words.items ≡ words) × (self.new.begun.word.items ≡ word) }
+            → GrowsFrom words word self.old.begun.room.words self.old.begun.room.word
+            → (self.new.begun.room.words ≡ words) × (self.new.begun.room.word ≡ word) }
         ensures ready { self.new.ready ≡ self.old.ready }
         ensures places { (self.new.taken ≡ self.old.taken) × (self.new.place ≡ place) }
     {
@@ -200,7 +204,7 @@ impl Parser {
         ensures ready { self.new.ready ≡ self.old.ready }
         ensures places { (self.new.taken ≡ self.old.taken) × (self.new.place ≡ self.old.place) }
     {
-        self.begun.step(self.alloc, bytes)
+        self.begun.step(bytes)
     }
 
     // Gives the request of an element that is whole, which ends here.
@@ -232,30 +236,45 @@ impl Parser {
         ensures state { self.new.begun.state ≡ State.Start }
         ensures place { self.new.place ≡ place }
         ensures ready { self.new.ready ≡ self.old.ready }
-        ensures words { self.new.begun.words ≡ self.old.begun.words }
-        ensures word { self.new.begun.word ≡ self.old.begun.word }
+        ensures room { self.new.begun.room ≡ self.old.begun.room }
         ensures taken { self.new.taken ≡ self.old.taken }
     {
         self.begun.state = State::Start;
         self.place = place;
     }
 
+    // Room for the next element.
+    fn next_room(&mut self) -> WordRoom
+        ensures room { result ≡ record { words = []; word = [] } }
+        ensures rest { self.new ≡ record self.old { spare = None } }
+    {
+        match self.spare.take() {
+            Some(mut room) => {
+                room.clear();
+                room
+            }
+            None => WordRoom::new(self.alloc),
+        }
+    }
+
     // Gives the words as a request, where there are any.
     fn give(&mut self) -> Result<(), Stop>
+        requires { self.old.begun.room.word ≡ [] }
         ensures ok { OnOk result (self.new.ready.items
-            ≡ self.old.ready.items ++ option_to_list (request_of (array (texts self.old.begun.words.items)))) }
-        ensures given { OnOk result (texts self.new.begun.words.items ≡ []) }
+            ≡ self.old.ready.items ++ option_to_list (request_of (array self.old.begun.room.words))) }
+        ensures given { OnOk result ((self.new.begun.room.words ≡ []) × (self.new.begun.room.word ≡ [])) }
         ensures err { IfErr result (λ e. e ≡ Stop.Memory) }
-        ensures kept { OnErr result ((self.new.ready.items ≡ self.old.ready.items) × (self.new.begun.words ≡ self.old.begun.words)) }
-        ensures begun { (self.new.begun.state ≡ self.old.begun.state) × (self.new.begun.word ≡ self.old.begun.word) }
+        ensures kept { OnErr result ((self.new.ready.items ≡ self.old.ready.items) × (self.new.begun.room ≡ self.old.begun.room)) }
+        ensures state { self.new.begun.state ≡ self.old.begun.state }
         ensures places { (self.new.taken ≡ self.old.taken) × (self.new.place ≡ self.old.place) }
     {
-        if self.begun.words.is_empty() {
+        if self.begun.room.count() == 0 {
             return Ok(());
         }
         self.ready.reserve(1)?;
-        let words = replace(&mut self.begun.words, Vec::new(self.alloc));
-        self.ready.push_back_reserved(Request::new(words));
+        let next = self.next_room();
+        let room = replace(&mut self.begun.room, next);
+        self.ready.push_back_reserved(Request::new(room));
         Ok(())
     }
 }

@@ -4,6 +4,7 @@ ghost use Rattle.flake_model.specs.Resp.{Words, Parses, judged_bytes};
 ghost use Rattle.resp_reader.specs.Reader.{Reads, fed_to, input_end};
 
 use crate::parser::Parser;
+use crate::word_room::MOST;
 use crate::{Ended, ReadError, Request};
 use std::alloc::Global;
 use std::marker::Model;
@@ -79,6 +80,16 @@ impl Reader {
         ensures fed { (bytes : List ℕ) (given : List Words) → Reads bytes given self.old → Reads bytes (given ++ option_to_list result) self.new }
     {
         self.parser.ready.pop_front()
+    }
+
+    /// Takes the room of a request back, for one that comes, where it is at most 64 KiB.
+    pub fn give_back(&mut self, request: Request)
+        ensures { self.new ≡ self.old }
+    {
+        let room = request.into_room();
+        if room.capacity() <= MOST {
+            self.parser.spare = Some(room);
+        }
     }
 
     /// How the input ends that was fed, where no more comes.

@@ -1,5 +1,6 @@
 ghost use Rattle.std.specs.Prelude.{◌≡◌, None, OnOk};
 
+use crate::word_room::WordRoom;
 use crate::{Ended, ReadError, Reader, Request};
 use std::alloc::{AllocError, Global};
 use std::process::Abort;
@@ -324,5 +325,66 @@ fn too_long(rt: HostRuntime) -> Result<(), Fail> {
     assert!(rt; reader.feed(&input) == Err(error));
     assert!(rt; reader.next().is_none());
     assert!(rt; reader.feed(b"?") == Err(error));
+    Ok(())
+}
+
+// Adds a request of so many words, of which each is its number among the digits.
+fn add_request(input: &mut Vec<u8>, alloc: Global, count: u32) -> Result<(), AllocError> {
+    let head = format!(in alloc; "*{count}\r\n")?;
+    input.extend_from_slice(head.as_bytes())?;
+    for i in 0..count {
+        let word = format!(in alloc; "$1\r\n{}\r\n", i % 10)?;
+        input.extend_from_slice(word.as_bytes())?;
+    }
+    Ok(())
+}
+
+// Takes the whole requests, of which each has its last word and lends its room to the next; notes how long each is.
+fn lend(rt: &impl Abort, reader: &mut Reader, lens: &mut Vec<usize>) -> Result<(), AllocError>
+    ensures { reader.new.closed ≡ reader.old.closed }
+{
+    while let Some(request) = reader.next() {
+        let len = request.len();
+        assert!(rt; len > 0);
+        assert_eq!(rt; request.word(len - 1).len(), 1);
+        assert_eq!(rt; request.word(len - 1)[0], b'0' + ((len - 1) % 10) as u8);
+        lens.push(len)?;
+        reader.give_back(request);
+    }
+    Ok(())
+}
+
+// Requests of 1 and of 1,024 words in turn.
+#[test]
+fn rooms_in_turn(rt: HostRuntime) -> Result<(), Fail> {
+    let alloc = rt.alloc();
+    let mut input = Vec::new(alloc);
+    for count in [1, 1024, 1, 2, 1024, 1] {
+        add_request(&mut input, alloc, count)?;
+    }
+    for size in [1, 7, 4096, 65_536] {
+        let mut reader = Reader::new(alloc);
+        let mut lens = Vec::new(alloc);
+        for piece in input.chunks(size) {
+            assert!(rt; feed(&mut reader, piece) == Ok(()));
+            lend(&rt, &mut reader, &mut lens)?;
+        }
+        assert_eq!(rt; lens.as_slice(), [1, 1024, 1, 2, 1024, 1].as_slice());
+    }
+    Ok(())
+}
+
+// No head takes room by itself: of a word of 1,048,576 bytes 5 came, then 4,096 in all.
+#[test]
+fn room_for_what_comes(rt: HostRuntime) -> Result<(), Fail> {
+    let mut room = WordRoom::new(rt.alloc());
+    room.append(b"12345", 1_048_576)?;
+    assert_eq!(rt; room.capacity(), 128);
+    let more = vec![in rt.alloc(); 7; 4090]?;
+    room.append(&more, 1_048_576)?;
+    assert!(rt; room.capacity() <= 2 * 4096);
+    room.append(b"6", 1_048_576)?;
+    assert_eq!(rt; room.capacity(), 65_536);
+    assert_eq!(rt; room.word_len(), 4096);
     Ok(())
 }

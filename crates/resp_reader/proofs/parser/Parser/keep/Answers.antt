@@ -1,5 +1,4 @@
 use Rattle.std.proofs.Common.{◌∙◌, ap}
-use Rattle.resp_reader.specs.Front.{texts}
 use Rattle.resp_reader.proofs.Parsers.{null_taken, array_taken, given_back}
 use Rattle.resp_reader.proofs.parser.Parser.keep.Goals as goal
 
@@ -17,5 +16,5 @@ pub returns-in_ok-give-in-Whole-clause-back : goal.returns-in_ok-give-in-Whole-c
 returns-in_ok-give-in-Whole-clause-back c =
     let now = c.start_at-in-Whole.ensures in
     let given = c.in_ok-give-in-Whole.ensures in
-    given_back c.args.self.now c.start_at-in-Whole.new.self c.in-Whole.count c.in-Whole.is c.requires.sound (ap (λ v. texts v.items) now.words ∙ given.given)
-    (ap (λ w. w.items) now.word ∙ ap (λ w. w.items) given.begun.1) (ap (λ q. q.items) now.ready ∙ given.ok)
+    given_back c.args.self.now c.start_at-in-Whole.new.self c.in-Whole.count c.in-Whole.is c.requires.sound (ap (λ r. r.words) now.room ∙ given.given.0)
+    (ap (λ r. r.word) now.room ∙ given.given.1) (ap (λ q. q.items) now.ready ∙ given.ok)
