@@ -23,7 +23,8 @@ and_waits rest piece = record rest {
 }
 
 -- what a writer has and what waits for it grew by these bytes, where the writer says what it has
-pub record Puts (bytes : List ℕ) (had : Option (List ℕ)) (old : Rest) (has : Option (List ℕ)) (new : Rest) : Type 0 where
+pub record Puts (bytes : List ℕ) (had : Option (List ℕ)) (old : Rest) (has : Option (List ℕ)) (new : Rest)
+    : Type 0 where
   pub text : Keeps (append_known had (old.waiting ++ bytes)) (append_known has new.waiting)
   pub count : put_count new ≡ raised (put_count old) (length bytes)
   pub kept : length new.waiting ≤ length old.waiting + length bytes

@@ -57,7 +57,8 @@ impl Unwritten {
     /// isn't taken whole, a front is.
     pub fn put<F: Write>(&mut self, writer: &mut F, piece: &[u8]) -> Result<(), Failed>
         ensures ok { OnOk result (Puts piece.now (F.contents writer.old) self.old (F.contents writer.new) self.new) }
-        ensures failed { OnErr result (PutsFront piece.now (F.contents writer.old) self.old (F.contents writer.new) self.new) }
+        ensures failed { OnErr result
+            (PutsFront piece.now (F.contents writer.old) self.old (F.contents writer.new) self.new) }
     {
         if piece.len() <= self.free() {
             self.keep(piece);
@@ -104,7 +105,8 @@ impl Unwritten {
     fn write_through<F: Write>(&mut self, writer: &mut F, piece: &[u8]) -> Result<(), Failed>
         requires { self.old.waiting ≡ [] }
         ensures ok { OnOk result (Puts piece.now (F.contents writer.old) self.old (F.contents writer.new) self.new) }
-        ensures failed { OnErr result (PutsFront piece.now (F.contents writer.old) self.old (F.contents writer.new) self.new) }
+        ensures failed { OnErr result
+            (PutsFront piece.now (F.contents writer.old) self.old (F.contents writer.new) self.new) }
     {
         let count = write_front(writer, piece);
         self.written = self.written.saturating_add(count as u64);

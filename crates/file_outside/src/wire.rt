@@ -51,8 +51,10 @@ impl<R: Files + Drop> FileWire<R> {
 
     // Puts a piece into the room, before which the file is made.
     fn keep(&mut self, piece: &[u8]) -> Result<(), Failed>
-        ensures ok { OnOk result (put_count self.new.unwritten ≡ raised (put_count self.old.unwritten) (length piece.now)) }
-        ensures failed { OnErr result (Counted true (length piece.now) (put_count self.old.unwritten) (put_count self.new.unwritten)) }
+        ensures ok { OnOk result (put_count self.new.unwritten
+            ≡ raised (put_count self.old.unwritten) (length piece.now)) }
+        ensures failed { OnErr result
+            (Counted true (length piece.now) (put_count self.old.unwritten) (put_count self.new.unwritten)) }
         ensures kept { length self.new.unwritten.waiting ≤ length self.old.unwritten.waiting + length piece.now }
         ensures faults { self.new.faults ≡ self.old.faults }
     {
