@@ -73,4 +73,4 @@ def write_fault(_words):
 
 
 def out_of_memory(_words):
-    return f"memory ran out: {REPLIES} has the replies until then, if there are any"
+    return f"memory ran out: {REPLIES} has the replies that were written until then, if any"

@@ -43,7 +43,7 @@ def run(words, folder, children, voice):
             rt.wait()
             said.seek(0)
             told = said.read()
-    children.stop_if_asked(voice.say, f"{REPLIES} has the replies until then, if there are any")
+    children.stop_if_asked(voice.say, f"{REPLIES} has the replies that were written until then, if any")
     ended = ENDED.search(told)
     if not ended:
         with contextlib.suppress(OSError):

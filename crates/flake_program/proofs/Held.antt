@@ -1,5 +1,5 @@
 -- The tables of the shards after a change at one key.
-use Rattle.std.proofs.Common.{◌≡◌, ℕ, zero, suc, replicate, ⊎_elim, Bool, true, false, cond, List, [], Option, Some, None, length, set, slice_get, refl, ap, sym, ◌∙◌, subst}
+use Rattle.std.proofs.Common.{◌≡◌, ℕ, zero, suc, replicate, ⊎_elim, false, cond, List, [], Option, Some, None, length, set, slice_get, refl, ap, sym, ◌∙◌, subst}
 use Rattle.std.proofs.lemmas.Bool.{cases_Bool, cond-true, cond-false}
 use Rattle.std.proofs.lemmas.List.{length-set}
 use Rattle.std.proofs.lemmas.List.{map-set}

@@ -1,7 +1,6 @@
 -- What a pump comes to, step by step.
 use Rattle.std.proofs.Common.{◌≡◌, ◌≢◌, ◌⊎◌, ℕ, ◌+◌, ◌-◌, ◌<◌, ◌≤◌, inl, inr, Bool, List, [], ◌∷◌, ◌++◌, Option, Some, None, MatchOption, length, map, take, drop, arith, refl, ap, sym, ◌∙◌, subst, append_assoc, append-nil}
 use Rattle.std.proofs.lemmas.List.{map-append, length-append, length-map, length-take, take-append-drop}
-use Rattle.std.proofs.Math.Seq.{take-append_seam}
 use Rattle.flake_base.specs.Causes.{Rose}
 use Rattle.flake_base.specs.Reads.{Reads as Takes}
 use Rattle.flake_base.specs.declared.session.End.{End}

@@ -1,5 +1,5 @@
 -- The causes of what a run answers that served its file.
-use Rattle.std.proofs.Common.{◌≡◌, ◌≢◌, ◌⊎◌, ◌≤◌, inl, inr, ℕ, Bool, false, true, List, [], ◌∷◌, Option, Some, None, IsNone, IfSome, All, length, map, slice_index, arith, refl, ap, sym, ◌∙◌, subst}
+use Rattle.std.proofs.Common.{◌≡◌, ◌≢◌, ◌⊎◌, inl, inr, ℕ, Bool, false, true, List, [], ◌∷◌, Some, IsNone, slice_index, arith, refl, ap, sym, subst}
 use Rattle.std.proofs.lemmas.List.Elements.{All-from_recursion}
 use Rattle.flake_base.specs.Causes.{Rose}
 use Rattle.flake_base.specs.Told.{HostTold, WireTold}
@@ -7,9 +7,9 @@ use Rattle.flake_base.specs.declared.session.End.{End}
 use Rattle.flake_base.specs.declared.session.SessionEnd.{SessionEnd}
 use Rattle.flake_model.specs.Wire.{FaultsAre}
 use Rattle.flake_program.specs.Task.{Task}
-use Rattle.flake_program.specs.Outside.{Outside, outside}
-use Rattle.flake_program.specs.Outcome.{Done, SourceTold, ways}
-use Rattle.flake_program.specs.Causes.{Causes, status_by, AreCountsOf}
+use Rattle.flake_program.specs.Outside.{outside}
+use Rattle.flake_program.specs.Outcome.{Done, SourceTold}
+use Rattle.flake_program.specs.Causes.{Causes, status_by}
 use Rattle.flake_program.proofs.Ran.{Ran, IsServedStatus}
 
 -- a wire that failed

@@ -1,5 +1,5 @@
 -- A run of whole requests without a fault has status 0.
-use Rattle.std.proofs.Common.{◌≡◌, ◌≢◌, ◌⊎◌, inl, inr, ℕ, List, [], ◌∷◌, ◌++◌, Option, Some, None, IfSome, All, length, map, arith, refl, ap, sym, ◌∙◌, subst, append-nil, ⊎_elim}
+use Rattle.std.proofs.Common.{◌≡◌, ◌≢◌, ℕ, List, [], ◌∷◌, ◌++◌, Option, Some, None, IfSome, All, map, arith, refl, ap, sym, ◌∙◌, subst, append-nil, ⊎_elim}
 use Rattle.std.specs.List.{AllByRecursion}
 use Rattle.std.proofs.lemmas.List.Elements.{recursion_from_All}
 use Rattle.flake_base.specs.Told.{HostTold, WireTold}
@@ -10,13 +10,12 @@ use Rattle.flake_model.specs.Resp.{Words, Parses}
 use Rattle.flake_model.proofs.Faults.{error_stays, long_stays}
 use Rattle.flake_model.proofs.OneParse.{one_parse}
 use Rattle.flake_model.specs.Session.{Session, IsSession, IsTold, EndsAs, IsReadOut}
-use Rattle.flake_model.specs.Run.{WasServed}
 use Rattle.flake_program.specs.Pump.{EndFaults}
 use Rattle.flake_program.specs.Task.{Task}
 use Rattle.flake_program.specs.Outside.{outside}
 use Rattle.flake_program.specs.Outcome.{Done, SourceTold}
 use Rattle.flake_program.specs.Causes.{status_by}
-use Rattle.flake_program.specs.Complete.{Complete, NothingFailed}
+use Rattle.flake_program.specs.Complete.{Complete}
 use Rattle.flake_program.proofs.Ran.{Ran}
 use Rattle.flake_program.proofs.RanCauses.{some_failed}
 

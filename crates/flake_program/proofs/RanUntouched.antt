@@ -1,5 +1,5 @@
 -- What a run that served its file leaves as it was.
-use Rattle.std.proofs.Common.{◌≡◌, ◌≢◌, ◌⊎◌, inl, inr, ℕ, List, [], ◌∷◌, Some, arith, refl, ap, sym, ◌∙◌}
+use Rattle.std.proofs.Common.{◌≡◌, ◌⊎◌, inl, inr, ℕ, List, Some, arith, ap, sym, ◌∙◌}
 use Rattle.flake_base.specs.Told.{HostTold, WireTold}
 use Rattle.flake_base.specs.declared.session.SessionEnd.{SessionEnd}
 use Rattle.flake_program.specs.Task.{Task}

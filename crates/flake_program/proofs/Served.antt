@@ -1,5 +1,5 @@
 -- A served source is a served run of one session.
-use Rattle.std.proofs.Common.{◌≡◌, ◌<◌, ℕ, Bool, true, false, List, [], ◌∷◌, Option, length, get_or, set, map, take, arith, refl, ap, sym, ◌∙◌, subst}
+use Rattle.std.proofs.Common.{◌≡◌, ◌<◌, ℕ, Bool, true, false, List, [], ◌∷◌, Option, length, get_or, set, map, take, arith, refl, sym, subst}
 use Rattle.flake_base.specs.Told.{WireTold}
 use Rattle.flake_base.specs.declared.journal.Entry.{Entry}
 use Rattle.flake_base.specs.declared.session.SessionEnd.{SessionEnd}

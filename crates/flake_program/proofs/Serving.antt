@@ -1,28 +1,26 @@
 -- One command more of a session.
-use Rattle.std.proofs.Common.{◌≡◌, ◌≢◌, ℕ, ◌+◌, ◌<◌, ◌⊎◌, inl, Bool, true, false, List, [], ◌∷◌, ◌++◌, Option, Some, None, length, take, arith, refl, ap, sym, ◌∙◌, subst, append_assoc, append-nil}
+use Rattle.std.proofs.Common.{◌≡◌, ℕ, ◌+◌, ◌<◌, ◌⊎◌, Bool, true, false, List, [], ◌∷◌, ◌++◌, Option, Some, None, length, take, arith, refl, ap, sym, ◌∙◌, subst, append_assoc, append-nil}
 use Rattle.std.specs.List.{flat_map}
 use Rattle.std.specs.FinMap as finite
 use Rattle.std.proofs.lemmas.List.{length-append}
 use Rattle.std.proofs.lemmas.List.Concat.{flat_map-append}
 use Rattle.std.proofs.Math.Seq.{take-append_seam}
-use Rattle.flake_base.specs.Causes.{Rose}
 use Rattle.flake_base.specs.Growth.{Grew}
 use Rattle.flake_base.specs.Told.{WireTold, Took, Flushed}
 use Rattle.flake_base.specs.declared.journal.Entry.{Entry}
 use Rattle.flake_base.specs.declared.session.End.{End}
-use Rattle.flake_base.specs.declared.session.End.TheVariants.{Clean, Protocol, Truncated, TooLong, ReadFault, Memory, Left}
+use Rattle.flake_base.specs.declared.session.End.TheVariants.{Memory}
 use Rattle.flake_model.specs.Store.{Operation}
 use Rattle.flake_model.specs.Command.{Command, parts}
 use Rattle.flake_model.specs.Reply.{reply_text}
 use Rattle.flake_model.specs.OneThread.{after_all, reply_on, replies_on, store_on, IsSharded}
 use Rattle.flake_model.specs.Journal.{call_steps, session_steps, next_parts, ran_steps}
-use Rattle.flake_model.specs.Session.{IsSession}
 use Rattle.flake_model.specs.Wire.{FaultIs}
 use Rattle.flake_model.proofs.OneThread.{replies_on-append, store_on-append, session_steps-more}
-use Rattle.flake_program.specs.Pump.{IsPump, PumpState, HasEnded, ended_at, session_at}
+use Rattle.flake_program.specs.Pump.{IsPump, PumpState, HasEnded, ended_at}
 use Rattle.flake_program.specs.Serving.{texts_to, WasSent, AreServing, HasReplied, HasStopped, HasServed}
 use Rattle.flake_program.specs.Store.{Tables, Holds}
-use Rattle.flake_program.proofs.Pumped.{Meant, meant, stopped_at}
+use Rattle.flake_program.proofs.Pumped.{meant, stopped_at}
 
 -- the texts so far, and that of the next reply
 texts_more : (given : List Command) (command : Command) → texts_to (given ++ command ∷ []) ≡ texts_to given ++ reply_text (reply_on (store_on finite.empty given) command)

@@ -1,5 +1,5 @@
 -- What a run says whose file did not open.
-use Rattle.std.proofs.Common.{◌≡◌, ◌≢◌, ◌⊎◌, inl, inr, ℕ, true, false, List, [], ◌∷◌, Option, Some, None, IsNone, IfSome, All, length, arith, refl, ap, sym, ◌∙◌, subst, ⊎_elim}
+use Rattle.std.proofs.Common.{◌≡◌, ◌≢◌, ◌⊎◌, inl, inr, ℕ, List, [], Option, Some, IsNone, All, length, arith, ap, sym, ◌∙◌, subst, ⊎_elim}
 use Rattle.std.specs.Cmp.Lexicographic.{bytes_decides}
 use Rattle.std.proofs.lemmas.Bool.{cases_Bool}
 use Rattle.std.proofs.lemmas.List.Elements.{All-from_recursion}
@@ -12,7 +12,7 @@ use Rattle.flake_program.specs.Outside.{outside}
 use Rattle.flake_program.specs.Outcome.{Done, SourceTold}
 use Rattle.flake_program.specs.Refusals.{IsRefused}
 use Rattle.flake_program.specs.Untouched.{Untouched}
-use Rattle.flake_program.specs.Causes.{Causes, status_by}
+use Rattle.flake_program.specs.Causes.{Causes}
 use Rattle.flake_program.specs.Complete.{Complete}
 use Rattle.flake_program.specs.Said.{Said, Says, text_of}
 use Rattle.flake_program.proofs.Ran.{Clauses, says_since}

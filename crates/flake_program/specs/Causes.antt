@@ -7,7 +7,7 @@ use Rattle.flake_base.specs.declared.session.End.TheVariants.{Left}
 use Rattle.flake_program.specs.Pump.{EndFaults}
 use Rattle.flake_program.specs.Task.{Task}
 use Rattle.flake_program.specs.Outside.{Outside, faults_of}
-use Rattle.flake_program.specs.Outcome.{Done, ways, files_of, read_faults_of}
+use Rattle.flake_program.specs.Outcome.{Done, ways, read_faults_of}
 use Rattle.flake_program.specs.declared.outcome.Detail.TheVariants.{Nothing, File}
 
 -- the status of a session that ended so, where nothing else failed

@@ -20,4 +20,4 @@ pub record Complete {W : Type 0} (task : Task) (before after : Outside W) (done 
   -- where the words are accepted and nothing failed, an input of whole requests is served with status 0
   pub whole : before.wires ≢ [] → IfSome task (λ name. NothingFailed name before after done
       → IfSome (before.host.holds name) (λ bytes.
-          (requests : List Words) → Parses bytes requests Clean → done.status ≡ 0))
+      (requests : List Words) → Parses bytes requests Clean → done.status ≡ 0))

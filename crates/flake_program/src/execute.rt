@@ -74,7 +74,7 @@ fn answer_reply(answer: PartAnswer) -> Reply
 fn values(alloc: Global, store: &mut Store, command: &Command) -> Result<Items, Memory>
     ensures items { (model : Meaning) → Holds store.old model
         → IfOk result (λ items. map item_meaning items.items
-            ≡ map item_of (map Some (answers_to model (parts command.now)))) }
+        ≡ map item_of (map Some (answers_to model (parts command.now)))) }
     ensures store { (model : Meaning) → Holds store.old model
         → OnOk result (Holds store.new (after_all model (parts command.now))) }
 {

@@ -268,14 +268,7 @@ mod tests {
     fn an_error_is_answered_once(rt: HostRuntime) -> Result<(), Fail> {
         let alloc = rt.alloc();
         let mut pump = counted(alloc, Bytes::from_slice(alloc, b"*1\r\n$01\r\n")?);
-        check_end(
-            &rt,
-            &mut pump,
-            1,
-            End::Protocol { kind: 3, place: 6 },
-            7,
-            1,
-        );
+        check_end(&rt, &mut pump, 1, End::Protocol { kind: 3, place: 6 }, 7, 1);
         Ok(())
     }
 }

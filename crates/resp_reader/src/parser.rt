@@ -10,7 +10,7 @@ ghost use Rattle.resp_reader.specs.Errors.{HasError};
 ghost use Rattle.resp_reader.specs.declared.parser.Parser.{Parser};
 
 use crate::begun::{Begun, Mark, State, Stop};
-use crate::word_room::WordRoom;
+use crate::word_room::{MOST, SOME, WordRoom};
 use crate::{ReadError, Request};
 use std::alloc::Global;
 use std::collections::VecDeque;
@@ -22,13 +22,16 @@ pub struct Parser {
     alloc: Global,
     pub ready: VecDeque<Request>,
     pub begun: Begun,
-    /// The room of a request that was given back.
-    pub spare: Option<WordRoom>,
+    /// The rooms of requests that were given back.
+    spares: Vec<WordRoom>,
     /// How many bytes were taken.
     pub taken: u64,
     /// Where the element that isn't whole begins.
     pub place: u64,
 }
+
+/// The most rooms that are kept: a piece of 4,096 bytes has no more requests, of which the shortest has 10.
+const SPARES: usize = 410;
 
 /// How many bytes of an input are judged: 64 MiB.
 pub const JUDGED: u64 = 67_108_864;
@@ -55,7 +58,7 @@ impl Parser {
             alloc,
             ready: VecDeque::new(alloc),
             begun: Begun::new(alloc),
-            spare: None,
+            spares: Vec::new(alloc),
             taken: 0,
             place: 0,
         }
@@ -243,12 +246,28 @@ impl Parser {
         self.place = place;
     }
 
+    /// Takes the room of a request back. Of long rooms it keeps one at most, of short ones as many as a piece has
+    /// requests.
+    pub fn give_back(&mut self, request: Request)
+        ensures ready { self.new.ready ≡ self.old.ready }
+        ensures begun { self.new.begun ≡ self.old.begun }
+        ensures places { (self.new.taken ≡ self.old.taken) × (self.new.place ≡ self.old.place) }
+    {
+        let room = request.into_room();
+        let most = if self.spares.is_empty() { MOST } else { SOME };
+        if room.capacity() <= most && self.spares.len() < SPARES {
+            let _ = self.spares.push(room);
+        }
+    }
+
     // Room for the next element.
     fn next_room(&mut self) -> WordRoom
         ensures room { result ≡ record { words = []; word = [] } }
-        ensures rest { self.new ≡ record self.old { spare = None } }
+        ensures ready { self.new.ready ≡ self.old.ready }
+        ensures begun { self.new.begun ≡ self.old.begun }
+        ensures places { (self.new.taken ≡ self.old.taken) × (self.new.place ≡ self.old.place) }
     {
-        match self.spare.take() {
+        match self.spares.pop() {
             Some(mut room) => {
                 room.clear();
                 room

@@ -4,7 +4,6 @@ ghost use Rattle.flake_model.specs.Resp.{Words, Parses, judged_bytes};
 ghost use Rattle.resp_reader.specs.Reader.{Reads, fed_to, input_end};
 
 use crate::parser::Parser;
-use crate::word_room::MOST;
 use crate::{Ended, ReadError, Request};
 use std::alloc::Global;
 use std::marker::Model;
@@ -82,14 +81,11 @@ impl Reader {
         self.parser.ready.pop_front()
     }
 
-    /// Takes the room of a request back, for one that comes, where it is at most 64 KiB.
+    /// Takes the room of a request back, for one that comes.
     pub fn give_back(&mut self, request: Request)
         ensures { self.new ≡ self.old }
     {
-        let room = request.into_room();
-        if room.capacity() <= MOST {
-            self.parser.spare = Some(room);
-        }
+        self.parser.give_back(request);
     }
 
     /// How the input ends that was fed, where no more comes.

@@ -14,7 +14,7 @@ const FIRST: usize = 128;
 pub const MOST: usize = 65_536;
 
 /// How many bytes of a word come before room is taken for all of it.
-const SOME: usize = 4096;
+pub const SOME: usize = 4096;
 
 /// Words behind one another, with where each ends, and the front of the next.
 #[derive(Drop)]

@@ -1,4 +1,4 @@
-use crate::shard_of;
+use crate::{PartOp, Setting, When, shard_of};
 use std::process::Abort;
 
 /// A key of bytes from the whole range.
@@ -32,4 +32,75 @@ fn shards_of_keys(rt: HostRuntime) {
     for (key, shards) in table {
         check(&rt, key, shards);
     }
+}
+
+static SETS: [(PartOp, Setting); 6] = [
+    (
+        PartOp::Set,
+        Setting {
+            when: When::Always,
+            asks: false,
+        },
+    ),
+    (
+        PartOp::SetNx,
+        Setting {
+            when: When::IfMissing,
+            asks: false,
+        },
+    ),
+    (
+        PartOp::SetXx,
+        Setting {
+            when: When::IfPresent,
+            asks: false,
+        },
+    ),
+    (
+        PartOp::SetGet,
+        Setting {
+            when: When::Always,
+            asks: true,
+        },
+    ),
+    (
+        PartOp::SetNxGet,
+        Setting {
+            when: When::IfMissing,
+            asks: true,
+        },
+    ),
+    (
+        PartOp::SetXxGet,
+        Setting {
+            when: When::IfPresent,
+            asks: true,
+        },
+    ),
+];
+
+#[test]
+fn settings_of_parts(rt: HostRuntime) {
+    for (part, setting) in &SETS {
+        assert_eq!(rt; part.setting(), Some(*setting));
+        assert_eq!(rt; setting.part_op(), *part);
+    }
+    let others = [
+        PartOp::Get,
+        PartOp::Append,
+        PartOp::Del,
+        PartOp::Exists,
+        PartOp::StrLen,
+        PartOp::GetRange { start: 0, end: -1 },
+    ];
+    for part in others {
+        assert_eq!(rt; part.setting(), None);
+    }
+}
+
+#[test]
+fn keys_that_are_stored_to(rt: HostRuntime) {
+    assert!(rt; When::Always.stores(true) && When::Always.stores(false));
+    assert!(rt; !When::IfMissing.stores(true) && When::IfMissing.stores(false));
+    assert!(rt; When::IfPresent.stores(true) && !When::IfPresent.stores(false));
 }

@@ -1,4 +1,4 @@
-use Rattle.std.proofs.Common.{◌≡◌, ◌∷◌, [], arith, ◌∙◌}
+use Rattle.std.proofs.Common.{arith, ◌∙◌}
 use Rattle.flake_program.proofs.Served.{was_run}
 use Rattle.flake_program.proofs.source.serve_source.Goals as goal
 
