@@ -1,9 +1,9 @@
 -- The buffers of a class, and the looks of a claim that found none of them free.
-use Rattle.std.proofs.Common.{◌≡◌, ◌≢◌, ℕ, ◌+◌, ◌<◌, ◌≤◌, ◌⊎◌, inl, inr, ⊎_elim, List, [], ◌∷◌, ◌++◌, cond, length, sym, refl, ap, ◌∙◌, subst, lt_of_not-le, arith}
+use Rattle.std.proofs.Common.{◌≡◌, ◌≢◌, ℕ, ◌+◌, ◌<◌, ◌≤◌, ◌⊎◌, inl, inr, List, ◌++◌, cond, sym, refl, ap, ◌∙◌, lt_of_not-le, arith}
 use mathlib.Core.Logic.{dite}
 use native.Mathlib.Decide.{dec_le}
 use Rattle.std.proofs.lemmas.Bool.{lt-ltb, le-ltb}
-use Rattle.view_sums.specs.Total.{total, same}
+use Rattle.view_sums.specs.Total.{same}
 use Rattle.view_sums.proofs.Sums.{total-append}
 use Rattle.pin_core.specs.Buffers.{buffers}
 use Rattle.pin_core.specs.declared.sizes.Sizes.{Sizes}

@@ -1,16 +1,13 @@
 -- Buffers that are claimed one after another, and given back.
-use Rattle.std.proofs.Common.{◌≡◌, ℕ, ◌+◌, ◌<◌, ◌≤◌, List, [], ◌∷◌, ◌++◌, Bool, cond, length, map, sym, refl, ap, ◌∙◌, subst, append-nil, append_assoc, length-append, arith}
+use Rattle.std.proofs.Common.{◌≡◌, ℕ, ◌+◌, ◌<◌, ◌≤◌, List, [], ◌∷◌, ◌++◌, Bool, cond, map, sym, refl, ap, ◌∙◌, subst, append-nil, append_assoc, length-append, arith}
 use Rattle.std.proofs.lemmas.List.Sums.{fold-append}
 use Rattle.view_sums.specs.Total.{total, Each}
 use Rattle.view_sums.proofs.Eachs.{each-append}
-use Rattle.pin_core.specs.Buffers.{buffers}
 use Rattle.pin_core.specs.Holding.{Holding, Key, at, fresh}
 use Rattle.pin_core.specs.declared.sizes.Sizes.{Sizes}
 use Rattle.pin_core.specs.declared.class.Class.{Class}
-use Rattle.pinned_pool.specs.Views.{looked_at}
 use Rattle.pinned_pool.specs.Moves.{times, without, unpin, loose_key}
 use Rattle.pinned_pool.specs.Claims.{first_of, count_of, Passed, Wins}
-use Rattle.pinned_pool.specs.Classes.{class_at}
 use Rattle.pinned_pool.specs.Claimed.{with_claimed, KeepsCredits, Claims, IsIn, ClaimsMore, NoneFree, GivesBack}
 use Rattle.pinned_pool.specs.declared.pool.NoBuffer.{NoBuffer}
 use Rattle.pinned_pool.specs.declared.view.View.{View}

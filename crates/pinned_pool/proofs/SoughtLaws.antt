@@ -1,5 +1,5 @@
 -- How what seats sought adds up, and where it begins.
-use Rattle.std.proofs.Common.{◌≡◌, ℕ, ◌+◌, ◌<◌, ◌≤◌, ⊎_elim, List, [], ◌∷◌, ◌++◌, refl, ap, sym, ◌∙◌, subst, arith}
+use Rattle.std.proofs.Common.{◌≡◌, ℕ, ◌+◌, ◌<◌, ◌≤◌, ⊎_elim, [], ◌∷◌, refl, ap, ◌∙◌, subst, arith}
 use Rattle.std.specs.Prelude.{Result, Ok, Err, IfOk, IfErr}
 use Rattle.pin_core.specs.Buffers.{buffers}
 use Rattle.pin_core.specs.Holding.{Key}
@@ -12,7 +12,7 @@ use Rattle.pinned_pool.specs.Sought.{Sought, missing}
 use Rattle.pinned_pool.specs.declared.pool.NoBuffer.{NoBuffer}
 use Rattle.pinned_pool.specs.declared.view.View.{View}
 use Rattle.pinned_pool.proofs.Still.{won-class, won-claims, won-looks}
-use Rattle.pinned_pool.proofs.InClasses.{in_class, found_each, looked-more, buffers-append, decide, just-here, just-else, just-both, just-most, just-add, just-less}
+use Rattle.pinned_pool.proofs.InClasses.{in_class, found_each, looked-more, buffers-append, decide, just-else, just-both, just-most, just-add, just-less}
 
 -- one stretch after another
 pub sought_then : (z : Sizes) (rows more : Class → ℕ) (n m : ℕ) (u v w : View) → Sought z rows n u v → Sought z more m v w → Sought z (λ class. rows class + more class) (n + m) u w

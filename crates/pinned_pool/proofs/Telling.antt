@@ -1,10 +1,10 @@
 -- What all seats tell of any steps: how many claims won, claims lost and unpins of pinned holds there were.
-use Rattle.std.proofs.Common.{◌≡◌, ℕ, ◌+◌, List, [], ◌∷◌, ◌++◌, Bool, eqb, get_or, refl, ap, arith}
+use Rattle.std.proofs.Common.{◌≡◌, ℕ, ◌+◌, List, [], ◌∷◌, Bool, eqb, get_or, refl, ap, arith}
 use Rattle.view_sums.specs.Total.{total, same}
 use Rattle.view_sums.proofs.Sums.{total-append, total-set, total-set_push, total-two_set}
 use Rattle.pin_core.specs.Holding.{Key}
 use Rattle.pin_core.specs.declared.sizes.Sizes.{Sizes}
-use Rattle.pinned_pool.specs.Views.{nobody, opener, among, looked_at}
+use Rattle.pinned_pool.specs.Views.{nobody, among, looked_at}
 use Rattle.pinned_pool.specs.Moves as to
 use Rattle.pinned_pool.specs.StepKinds.{Kind, wins, misses, peeks, puts, loads, pins, unpins, splits, joins}
 use Rattle.pinned_pool.specs.Runs.{Table, opened_table, Steps, Runs, win_of, miss_of, return_of, RunsAreTold}

@@ -1,5 +1,5 @@
 -- Runs of words and their bytes.
-use Rattle.std.proofs.Common.{◌≡◌, ℕ, zero, suc, ◌+◌, ◌-◌, ◌*◌, ◌/◌, ◌%◌, ◌<◌, ◌≤◌, min, List, [], ◌∷◌, ◌++◌, Bool, true, false, cond, nat_lt, length, take, drop, get_or, replicate, sym, refl, ap, ◌∙◌, subst, append-nil, append_assoc, zero-add, length-append, arith}
+use Rattle.std.proofs.Common.{◌≡◌, ℕ, zero, suc, ◌+◌, ◌*◌, ◌/◌, ◌%◌, ◌<◌, ◌≤◌, List, [], ◌∷◌, ◌++◌, Bool, true, false, cond, nat_lt, length, take, drop, get_or, replicate, sym, refl, ap, ◌∙◌, subst, append-nil, append_assoc, zero-add, length-append, arith}
 use Rattle.std.specs.Int.{w64, to_le_bytes, from_le_bytes}
 use Rattle.std.proofs.lemmas.List.{take-append-le, drop-append-le, take_at, take_all, drop_at, drop-drop, length-take, length-drop, drop_all, take-append-drop, take-take, drop-take}
 use Rattle.std.proofs.lemmas.Nat.{le_bytes_8}

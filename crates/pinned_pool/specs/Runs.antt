@@ -4,7 +4,7 @@ use mathlib.Core.Option.{some}
 use lib.ListN.{get_elem?}
 use Rattle.view_sums.specs.Total.{total, same}
 use Rattle.pin_core.specs.declared.sizes.Sizes.{Sizes}
-use Rattle.pinned_pool.specs.Views.{opener, all_claims, all_looks, all_lasts}
+use Rattle.pinned_pool.specs.Views.{opener, all_claims, all_looks}
 use Rattle.pinned_pool.specs.Rule.{table_words, IsSoundTable}
 use Rattle.pinned_pool.specs.StepKinds.{Kind, wins, misses, peeks, puts, loads, pins, unpins, splits, joins, Makes}
 use Rattle.pinned_pool.specs.declared.view.View.{View}

@@ -1,5 +1,5 @@
-use Rattle.std.proofs.Common.{ℕ, List, ◌+◌, ◌-◌, ◌++◌, ap, ◌∙◌, sym, take, drop, length, replicate, arith, rules}
-use Rattle.std.specs.Int.{w64, to_le_bytes, from_le_bytes}
+use Rattle.std.proofs.Common.{ℕ, List, ◌+◌, ◌++◌, ap, ◌∙◌, drop, length, replicate, arith, rules}
+use Rattle.std.specs.Int.{w64, from_le_bytes}
 use Rattle.std.proofs.lemmas.List.{length-drop, get_or-drop}
 use Rattle.pinned_pool.proofs.WordRuns.{word_bytes, bytes-zero}
 use Rattle.pinned_pool.proofs.bytes.short_word.Goals as goal

@@ -1,9 +1,8 @@
-use Rattle.std.proofs.Common.{◌≡◌, ◌∙◌, ◌+◌, ◌-◌, refl, ap, subst, vec_len, arith}
+use Rattle.std.proofs.Common.{◌≡◌, ◌∙◌, ◌+◌, ◌-◌, refl, subst, vec_len, arith}
 use Rattle.std.proofs.lemmas.Result.{err_from_is_err_and}
 use Rattle.pinned_pool.specs.Claimed.{ClaimsMore}
 use Rattle.pinned_pool.specs.Classes.{just}
 use Rattle.pinned_pool.specs.Sought.{Sought}
-use Rattle.pinned_pool.proofs.InClasses.{just-here}
 use Rattle.pinned_pool.proofs.SoughtLaws.{sought_nothing, sought_within, sought_more, sought_fewer}
 use Rattle.pinned_pool.proofs.ManyClaims.{more_none, more_won, more_passed, none_free}
 use Rattle.pinned_pool.proofs.pool.Pool.claim_each.Goals as goal

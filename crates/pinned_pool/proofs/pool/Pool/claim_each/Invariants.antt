@@ -1,4 +1,4 @@
-use Rattle.std.proofs.Common.{◌≡◌, ◌+◌, ◌-◌, ◌≤◌, length, vec_len, vec_capacity}
+use Rattle.std.proofs.Common.{◌≡◌, ◌-◌, ◌≤◌, vec_len, vec_capacity}
 use Rattle.pinned_pool.specs.Claimed.{ClaimsMore}
 use Rattle.pinned_pool.specs.Classes.{just}
 use Rattle.pinned_pool.specs.Sought.{Sought}

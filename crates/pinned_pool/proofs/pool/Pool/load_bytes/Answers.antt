@@ -1,4 +1,4 @@
-use Rattle.std.proofs.Common.{◌≡◌, ℕ, ◌+◌, ◌-◌, ◌*◌, ◌/◌, ◌%◌, ◌++◌, List, length, take, drop, refl, ap, ◌∙◌, length-append, arith}
+use Rattle.std.proofs.Common.{◌≡◌, ℕ, ◌+◌, ◌-◌, ◌*◌, ◌/◌, ◌%◌, ◌++◌, List, length, take, drop, refl, ◌∙◌, length-append, arith}
 use Rattle.std.proofs.lemmas.List.{length-take, length-drop}
 use Rattle.pinned_pool.specs.Bytes.{bytes_of}
 use Rattle.pinned_pool.specs.Moves.{front_of}

@@ -1,4 +1,4 @@
-use Rattle.std.proofs.Common.{sym, ◌∙◌, ap, ◌<◌, ◌≤◌, length, subst, ℕ, arith}
+use Rattle.std.proofs.Common.{sym, ◌∙◌, ◌<◌, ◌≤◌, length, subst, ℕ, arith}
 use mathlib.Core.Option.{none}
 use Rattle.view_sums.specs.Total.{total}
 use Rattle.pin_core.specs.Buffers.{buffers, room}
