@@ -173,6 +173,15 @@ impl<S: Source> Pump<S> {
         self.taken += count as u64;
     }
 
+    /// Takes back the room of a command's words, for those that come.
+    pub fn give_back(&mut self, command: Command)
+        ensures { self.new ≡ self.old }
+    {
+        if let Some(request) = command.into_request() {
+            self.reader.give_back(request);
+        }
+    }
+
     /// How many bytes of the input were taken; behind its end by what that is.
     pub fn taken(&self) -> u64
         ensures { result ≡ self.now.taken }

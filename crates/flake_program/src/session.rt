@@ -72,6 +72,7 @@ fn step<S: Source>(
     if let Err(Memory) = histories.enter(call, &command) {
         return Err(End::Memory);
     }
+    pump.give_back(command);
     Ok(text)
 }
 

@@ -1,7 +1,8 @@
-use Rattle.std.proofs.Common.{◌++◌, inl, inr, refl, subst, take}
+use Rattle.std.proofs.Common.{◌++◌, inl, inr, refl, subst, sym, take}
 use Rattle.flake_model.specs.Command.{parts}
 use Rattle.flake_model.specs.Journal.{call_steps, session_steps}
 use Rattle.flake_model.specs.OneThread.{IsSharded}
+use Rattle.flake_program.specs.Serving.{HasReplied}
 use Rattle.flake_program.proofs.Serving.{ended_so, stopped_so, none_entered, replied_so}
 use Rattle.flake_program.proofs.session.step.Goals as goal
 
@@ -22,6 +23,7 @@ returns-in-Err-enter-clause-end g c input before given s =
 
 pub returns-clause-reply : goal.returns-clause-reply
 returns-clause-reply g c input before given s =
-    replied_so input before given c.in-Ok.command c.in-Ok-execute.text.items c.next.new.self c.execute.new.store c.enter.new.self (c.in-Ok-execute.ensures.text _ s.store_is) (c.in-Ok.ensures.command input before given s.pump_is).0
+    subst (λ pump. HasReplied input before given c.in-Ok-execute.text.items pump c.execute.new.store c.enter.new.self) (sym c.give_back.ensures)
+    (replied_so input before given c.in-Ok.command c.in-Ok-execute.text.items c.next.new.self c.execute.new.store c.enter.new.self (c.in-Ok-execute.ensures.text _ s.store_is) (c.in-Ok.ensures.command input before given s.pump_is).0
     (c.in-Ok-execute.ensures.store _ s.store_is)
-    (subst (λ n. IsSharded (session_steps 0 0 given ++ call_steps 0 n 0 (parts c.in-Ok.command)) c.enter.new.self) s.count (c.in_default-enter.ensures.ok (session_steps 0 0 given) s.sharded))
+    (subst (λ n. IsSharded (session_steps 0 0 given ++ call_steps 0 n 0 (parts c.in-Ok.command)) c.enter.new.self) s.count (c.in_default-enter.ensures.ok (session_steps 0 0 given) s.sharded)))
