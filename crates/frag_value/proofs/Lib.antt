@@ -18,4 +18,5 @@ pub mod ByClass
 pub mod Placed
 pub mod Appended
 pub mod HandsOver
+pub mod Ranges
 pub mod Seeking

@@ -1,5 +1,5 @@
 -- What a taker was given.
-use Rattle.std.specs.Prelude.{◌≡◌, ℕ, ◌+◌, ◌*◌, ◌<◌, ◌≤◌, List, [], ◌∷◌, ◌++◌, ◌⊎◌, Bool, true, false, length, map, take, drop}
+use Rattle.std.specs.Prelude.{◌≡◌, ℕ, ◌+◌, ◌*◌, ◌-◌, ◌<◌, ◌≤◌, min, zero, suc, List, [], ◌∷◌, ◌++◌, ◌⊎◌, Bool, true, false, length, map, take, drop}
 use Rattle.view_sums.specs.Total.{total, Each}
 use Rattle.pin_core.specs.Holding.{Holding, Key}
 use Rattle.pin_core.specs.declared.sizes.Sizes.{Sizes}
@@ -8,7 +8,7 @@ use Rattle.pinned_pool.specs.Moves.{sharing, without, left_by, front_of}
 use Rattle.pinned_pool.specs.declared.view.View.{View}
 use Rattle.pinned_pool.specs.Bytes.{bytes_of}
 use Rattle.frag_value.specs.Fragments.{frag_limit, frags_limit}
-use Rattle.frag_value.specs.Values.{keys_of, size_of}
+use Rattle.frag_value.specs.Values.{keys_of, size_of, IsCut, IsFilled}
 
 -- a run of bytes of one stored fragment, as a device finds it
 pub record Placed : Type 0 where
@@ -48,6 +48,22 @@ placed z hs p = placed_part z hs p.0 0 p.1
 
 abbrev pub placed_all : Sizes → List Holding → List (ℕ × ℕ) → List Placed
 placed_all z hs v = map (placed z hs) v
+
+-- n bytes of the buffer b as a run, unless there are none
+abbrev pub run_of : Sizes → List Holding → ℕ → ℕ → ℕ → List Placed
+run_of z hs b from zero = []
+run_of z hs b from (suc n) = placed_part z hs b from (suc n) ∷ []
+
+-- n bytes of a value, from a place on: a run of each fragment that they touch
+abbrev pub placed_range : Sizes → List Holding → List (ℕ × ℕ) → ℕ → ℕ → List Placed
+placed_range z hs [] from n = []
+placed_range z hs (p ∷ v) from n =
+    run_of z hs p.0 from (min n (p.1 - from)) ++ placed_range z hs v (from - p.1) (n - (p.1 - from))
+
+-- the bytes of runs, one behind the other
+abbrev pub bytes_along : List Placed → List ℕ
+bytes_along [] = []
+bytes_along (f ∷ fs) = f.bytes ++ bytes_along fs
 
 abbrev pub taken_over : Placed → Placed
 taken_over f = record f { over = true }
@@ -115,3 +131,16 @@ pub record OverSoFar {B : Type 0} (z : Sizes) (v rest : List (ℕ × ℕ)) (old 
   pub parts : v ≡ over ++ rest
   pub begun_is : begun ≡ some (record { extent = entire; size = size_of v; frags = over_all z old.holds over })
   pub owner : HandsOver over old now
+
+-- some runs of a range were handed, and so many bytes are left, from a place on in these fragments
+pub record RangeSoFar {B : Type 0} (z : Sizes) (hs : List Holding) (v rest : List (ℕ × ℕ)) (from n skip left : ℕ) (begun : B) (some : Begun → B) : Type 0 where
+  pub runs : List Placed
+  pub begun_is : begun ≡ some (record { extent = ranged; size = n; frags = runs })
+  pub all : runs ++ placed_range z hs rest skip left ≡ placed_range z hs v from n
+  pub bytes : bytes_in runs + left ≡ n
+  pub within : skip + left ≤ size_of rest
+  pub few : length runs + length rest ≤ frags_limit
+  pub first : 0 < length runs → skip ≡ 0
+  pub full : 0 < left → Each IsFull (behind_first runs)
+  pub cut : IsCut (size_of rest) rest
+  pub filled : Each (IsFilled hs) rest

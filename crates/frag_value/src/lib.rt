@@ -20,7 +20,7 @@ pub use appending::append;
 pub use error::{AppendError, PlaceError};
 pub use filling::fill;
 pub use frag::{Frag, Value};
-pub use handing::{hand, hand_over};
+pub use handing::{hand, hand_over, hand_range};
 pub use limits::{FRAG_BYTES, MOST_FRAGS, SMALL_BYTES, VALUE_LIMIT};
 pub use placing::write;
 pub use read::read_into;
