@@ -10,19 +10,25 @@ ghost use Rattle.flake_program.specs.Store.{Holds, answer_meant};
 use crate::store::{PartAnswer, Store};
 use command_exec::{Command, Op};
 use flake_base::{Bytes, ErrorKind, Memory};
-use resp_text::{Items, Reply, text};
+use resp_text::{Items, Reply, put_text};
 use std::alloc::Global;
 
-/// Runs a command's parts in order, and gives its reply's text.
-pub fn execute(alloc: Global, store: &mut Store, command: &Command) -> Result<Bytes, Memory>
+/// Runs a command's parts in order, and puts its reply's text in place of what stands in `text`.
+pub fn execute(
+    alloc: Global,
+    store: &mut Store,
+    command: &Command,
+    text: &mut Bytes,
+) -> Result<(), Memory>
     ensures text { (meaning : Meaning) → Holds store.old meaning
-        → IfOk result (λ text. text.items ≡ reply_text (reply_on meaning command.now)) }
+        → OnOk result (text.new.items ≡ reply_text (reply_on meaning command.now)) }
     ensures store { (meaning : Meaning) → Holds store.old meaning
         → OnOk result (Holds store.new (after_all meaning (parts command.now))) }
-    ensures some { IfOk result (λ text. 0 < length text.items) }
+    ensures some { OnOk result (0 < length text.new.items) }
 {
     let reply = reply(alloc, store, command)?;
-    text(alloc, &reply)
+    text.truncate(0);
+    put_text(text, &reply)
 }
 
 // Runs a command's parts in order, and gives its reply.

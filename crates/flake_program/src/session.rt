@@ -1,5 +1,5 @@
 // One session, from its source to its wire.
-ghost use Rattle.std.specs.Prelude.{◌≡◌, ◌≢◌, ◌<◌, List, [], ℕ, Option, true, false, length, IfOk, IfErr};
+ghost use Rattle.std.specs.Prelude.{◌≡◌, ◌≢◌, ◌<◌, List, [], ℕ, Option, true, false, length, OnOk, IfErr};
 ghost use Rattle.std.specs.FinMap as finite;
 ghost use Rattle.flake_base.specs.Told.{Took, Flushed};
 ghost use Rattle.flake_model.specs.Command.{Command};
@@ -45,35 +45,37 @@ fn finish(wire: &mut dyn Wire, failed: bool) -> bool
     failed || wire.flush().is_err()
 }
 
-// Runs the next command, which has this number, and gives its reply's text; or says how the session ends.
+// Runs the next command, which has this number, and puts its reply's text in place of what stands in `text`; or says
+// how the session ends.
 fn step<S: Source>(
     alloc: Global,
     pump: &mut Pump<S>,
     store: &mut Store,
     histories: &mut Histories,
     call: u32,
-) -> Result<Bytes, End>
-    ensures reply { IfOk result (λ text. (input : Option (List ℕ)) (before : ℕ) (given : List Command)
+    text: &mut Bytes,
+) -> Result<(), End>
+    ensures reply { OnOk result ((input : Option (List ℕ)) (before : ℕ) (given : List Command)
         → AreServing input before given call pump.old store.old histories.old
-        → HasReplied input before given text.items pump.new store.new histories.new) }
+        → HasReplied input before given text.new.items pump.new store.new histories.new) }
     ensures end { IfErr result (λ end. (input : Option (List ℕ)) (before : ℕ) (given : List Command)
         → AreServing input before given call pump.old store.old histories.old
         → HasStopped input before given end pump.new histories.new) }
-    ensures some { IfOk result (λ text. 0 < length text.items) }
+    ensures some { OnOk result (0 < length text.new.items) }
     ensures shards { length histories.new ≡ length histories.old }
 {
     let command = match pump.next() {
         Ok(command) => command,
         Err(end) => return Err(end),
     };
-    let Ok(text) = execute(alloc, store, &command) else {
+    if let Err(Memory) = execute(alloc, store, &command, text) {
         return Err(End::Memory);
-    };
+    }
     if let Err(Memory) = histories.enter(call, &command) {
         return Err(End::Memory);
     }
     pump.give_back(command);
-    Ok(text)
+    Ok(())
 }
 
 /// Runs the commands of a source in order and puts their replies, to its end or until memory is wanting, and then
@@ -99,9 +101,17 @@ pub fn serve<S: Source>(
     let mut histories = histories;
     let mut replies = 0;
     let mut failed = false;
+    let mut text = Bytes::new(alloc);
     let end = loop {
-        match step(alloc, &mut pump, &mut store, &mut histories, replies) {
-            Ok(text) => {
+        match step(
+            alloc,
+            &mut pump,
+            &mut store,
+            &mut histories,
+            replies,
+            &mut text,
+        ) {
+            Ok(()) => {
                 failed = send(wire, failed, text.as_slice());
                 replies += 1;
             }

@@ -13,4 +13,4 @@ pub use errors::error_text;
 pub use lines::line;
 pub use reply::{Items, Reply};
 pub use sizes::line_size;
-pub use texts::text;
+pub use texts::{put_text, text};

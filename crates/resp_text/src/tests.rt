@@ -1,4 +1,4 @@
-use crate::{Items, Reply, error_text, line, text};
+use crate::{Items, Reply, error_text, line, put_text, text};
 use flake_base::{Bytes, ErrorKind};
 use std::alloc::Global;
 use std::process::Abort;
@@ -28,6 +28,15 @@ fn simple_strings(rt: HostRuntime) -> Result<(), Fail> {
     check(&rt, rt.alloc(), &Reply::Ok, b"+OK\r\n")?;
     check(&rt, rt.alloc(), &Reply::Pong, b"+PONG\r\n")?;
     check(&rt, rt.alloc(), &Reply::Null, b"$-1\r\n")
+}
+
+#[test]
+fn texts_behind_each_other(rt: HostRuntime) -> Result<(), Fail> {
+    let mut texts = Bytes::new(rt.alloc());
+    put_text(&mut texts, &Reply::Ok)?;
+    put_text(&mut texts, &Reply::Int(7))?;
+    assert_eq!(rt; texts.as_slice(), b"+OK\r\n:7\r\n".as_slice());
+    Ok(())
 }
 
 #[test]

@@ -17,12 +17,14 @@ pub fn text(alloc: Global, reply: &Reply) -> Result<Bytes, Memory>
     ensures some { IfOk result (λ text. 0 < length text.items) }
 {
     let mut text = Bytes::with_room(alloc, size(reply))?;
-    put_reply(&mut text, reply)?;
+    put_text(&mut text, reply)?;
     Ok(text)
 }
 
-fn put_reply(text: &mut Bytes, reply: &Reply) -> Result<(), Memory>
-    ensures { OnOk result (text.new.items ≡ text.old.items ++ model.reply_text (meaning reply.now)) }
+/// Puts the RESP2 text of a reply behind what stands there.
+pub fn put_text(text: &mut Bytes, reply: &Reply) -> Result<(), Memory>
+    ensures text { OnOk result (text.new.items ≡ text.old.items ++ model.reply_text (meaning reply.now)) }
+    ensures some { OnOk result (0 < length text.new.items) }
 {
     match reply {
         Reply::Ok => text.append(b"+OK\r\n"),

@@ -10,8 +10,8 @@ pub returns-in-Err-clause-end : goal.returns-in-Err-clause-end
 returns-in-Err-clause-end g c input before given s =
     ended_so input before given c.next.new.self c.in-Err.end c.args.histories.now (c.in-Err.ensures.end input before given s.pump_is) s.sharded
 
-pub returns-in_default-clause-end : goal.returns-in_default-clause-end
-returns-in_default-clause-end g c input before given s =
+pub returns-in-Err-execute-clause-end : goal.returns-in-Err-execute-clause-end
+returns-in-Err-execute-clause-end g c input before given s =
     stopped_so input before given c.in-Ok.command c.next.new.self 0 c.args.histories.now (inl refl) (c.in-Ok.ensures.command input before given s.pump_is)
     (none_entered given c.args.histories.now (parts c.in-Ok.command) s.sharded)
 
@@ -23,7 +23,7 @@ returns-in-Err-enter-clause-end g c input before given s =
 
 pub returns-clause-reply : goal.returns-clause-reply
 returns-clause-reply g c input before given s =
-    subst (λ pump. HasReplied input before given c.in-Ok-execute.text.items pump c.execute.new.store c.enter.new.self) (sym c.give_back.ensures)
-    (replied_so input before given c.in-Ok.command c.in-Ok-execute.text.items c.next.new.self c.execute.new.store c.enter.new.self (c.in-Ok-execute.ensures.text _ s.store_is) (c.in-Ok.ensures.command input before given s.pump_is).0
-    (c.in-Ok-execute.ensures.store _ s.store_is)
+    subst (λ pump. HasReplied input before given c.execute.new.text.items pump c.execute.new.store c.enter.new.self) (sym c.give_back.ensures)
+    (replied_so input before given c.in-Ok.command c.execute.new.text.items c.next.new.self c.execute.new.store c.enter.new.self (c.in_default.ensures.text _ s.store_is) (c.in-Ok.ensures.command input before given s.pump_is).0
+    (c.in_default.ensures.store _ s.store_is)
     (subst (λ n. IsSharded (session_steps 0 0 given ++ call_steps 0 n 0 (parts c.in-Ok.command)) c.enter.new.self) s.count (c.in_default-enter.ensures.ok (session_steps 0 0 given) s.sharded)))
