@@ -4,8 +4,8 @@ ghost use Rattle.frag_value.specs.Fragments.{value_limit};
 mod copier;
 
 use crate::{
-    AppendError, PlaceError, VALUE_LIMIT, Value, append, fill, hand, hand_over, read_into, release,
-    write,
+    AppendError, PlaceError, VALUE_LIMIT, Value, append, fill, hand, hand_over, hand_range,
+    read_into, release, write,
 };
 use copier::Copier;
 use flake_base::Memory;
@@ -349,4 +349,105 @@ fn check_handed(rt: &impl Abort, alloc: Global, over: bool, held: Held) -> Resul
 fn a_taker_is_handed_each_fragment(rt: HostRuntime) -> Result<(), Fail> {
     check_handed(&rt, rt.alloc(), false, Held { small: 1, large: 4 })?;
     check_handed(&rt, rt.alloc(), true, Held { small: 0, large: 0 })
+}
+
+// Writes a value, and hands a range of it to a taker.
+fn hand_range_to_copier<N: PoolName>(
+    alloc: Global,
+    blank: PoolBlank,
+    bytes: &[u8],
+    from: u64,
+    len: u64,
+) -> Result<Copier, Memory>
+    requires name { (blank.table ≡ N.table) × (blank.sizes ≡ N.sizes) }
+    requires few { length bytes.now ≤ value_limit }
+    requires within { from + len ≤ length bytes.now }
+{
+    let (pool, mut seat) = blank.name::<N>();
+    let Ok(value) = write(alloc, &pool, &mut seat, bytes) else {
+        return Err(Memory);
+    };
+    let mut copier = Copier::new(alloc)?;
+    if from + len <= value.len() {
+        hand_range(&pool, &mut seat, &value, from, len, &mut copier);
+    }
+    Ok(copier)
+}
+
+fn range_handed(
+    alloc: Global,
+    blank: PoolBlank,
+    bytes: &[u8],
+    from: u64,
+    len: u64,
+) -> Result<Copier, Memory>
+    requires few { length bytes.now ≤ value_limit }
+    requires within { from + len ≤ length bytes.now }
+{
+    hand_range_to_copier::<Brand>(alloc, blank, bytes, from, len)
+}
+
+/// A range of a value of 16,385 bytes: its first place, its length, and the address, offset and length of each run.
+type Row = (u64, u64, &'static [(u64, u32, usize)]);
+
+static RANGES: [Row; 9] = [
+    (0, 0, &[]),
+    (16_385, 0, &[]),
+    (0, 1, &[(1_049_600, 0, 1)]),
+    (4_095, 1, &[(1_049_600, 4_095, 1)]),
+    (4_096, 1, &[(1_053_696, 0, 1)]),
+    (4_095, 2, &[(1_049_600, 4_095, 1), (1_053_696, 0, 1)]),
+    (
+        4_090,
+        4_110,
+        &[
+            (1_049_600, 4_090, 6),
+            (1_053_696, 0, 4_096),
+            (1_057_792, 0, 8),
+        ],
+    ),
+    (16_384, 1, &[(1_048_576, 0, 1)]),
+    (
+        0,
+        16_385,
+        &[
+            (1_049_600, 0, 4_096),
+            (1_053_696, 0, 4_096),
+            (1_057_792, 0, 4_096),
+            (1_061_888, 0, 4_096),
+            (1_048_576, 0, 1),
+        ],
+    ),
+];
+
+fn check_range(rt: &impl Abort, alloc: Global, bytes: &[u8], row: Row) -> Result<(), Fail> {
+    let (from, len, want) = row;
+    assert!(rt; bytes.len() == 16_385);
+    assert!(rt; from <= 16_385);
+    assert!(rt; len <= 16_385 - from);
+    let blank = PoolBlank::open(alloc, 2, 4, 1)?;
+    let copier = range_handed(alloc, blank, bytes, from, len)?;
+    assert!(rt; !copier.taking && !copier.whole && copier.size == len);
+    let mut all = Vec::new(alloc);
+    let mut places = Vec::new(alloc);
+    for copy in &copier.copies {
+        all.extend_from_slice(&copy.bytes[..copy.len])?;
+        places.push((copy.address, copy.offset, copy.len))?;
+        assert!(rt; !copy.over);
+    }
+    assert!(rt; places.as_slice() == want, "{from} and {len}");
+    assert!(rt;
+        all.as_slice() == &bytes[from as usize..(from + len) as usize],
+        "{from} and {len}"
+    );
+    Ok(())
+}
+
+#[test]
+fn a_taker_is_handed_each_run_of_a_range(rt: HostRuntime) -> Result<(), Fail> {
+    let bytes = sample(rt.alloc(), 16_385, 3)?;
+    for row in &RANGES {
+        check_range(&rt, rt.alloc(), &bytes, *row)?;
+    }
+    Ok(())
 }
