@@ -55,6 +55,49 @@ fn claims_go_in_ascending_order(rt: HostRuntime) -> Result<(), Fail> {
     Ok(())
 }
 
+// What came of claims of small buffers: how many of the first 63 won, what the next two gave, and what was held then.
+fn claim_to_the_last<N: PoolName>(
+    blank: PoolBlank,
+) -> (u32, Result<u32, NoBuffer>, Result<u32, NoBuffer>, Held)
+    requires { (blank.table ≡ N.table) × (blank.sizes ≡ N.sizes) }
+{
+    let (pool, mut seat) = blank.name::<N>();
+    let mut won: u32 = 0;
+    for _ in 0..63 {
+        if claim_number(&pool, &mut seat, Class::Small).is_ok() {
+            won = won.saturating_add(1);
+        }
+    }
+    let last = claim_number(&pool, &mut seat, Class::Small);
+    let behind = claim_number(&pool, &mut seat, Class::Small);
+    (won, last, behind, pool.close(seat).held())
+}
+
+fn claims_to_the_last(
+    blank: PoolBlank,
+) -> (u32, Result<u32, NoBuffer>, Result<u32, NoBuffer>, Held) {
+    claim_to_the_last::<Brand>(blank)
+}
+
+#[test]
+fn the_last_free_buffer_is_found(rt: HostRuntime) -> Result<(), Fail> {
+    let (won, last, behind, held) = claims_to_the_last(PoolBlank::open(rt.alloc(), 64, 1, 1)?);
+    let none = NoBuffer {
+        class: Class::Small,
+        looked: 64,
+    };
+    assert_eq!(rt; won, 63);
+    assert!(rt; last == Ok(63) && behind == Err(none));
+    assert_eq!(rt;
+        held,
+        Held {
+            small: 64,
+            large: 0
+        }
+    );
+    Ok(())
+}
+
 // The addresses of the first, second and third buffer.
 fn three_addresses<N: PoolName>(blank: PoolBlank) -> [u64; 3]
     requires { (blank.table ≡ N.table) × (blank.sizes ≡ N.sizes) }
