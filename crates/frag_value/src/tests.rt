@@ -443,6 +443,33 @@ fn check_range(rt: &impl Abort, alloc: Global, bytes: &[u8], row: Row) -> Result
     Ok(())
 }
 
+// The bytes in fragments of 4,096: 16 of them, each in a large buffer.
+fn check_longest(rt: &impl Abort, alloc: Global) -> Result<(), Fail> {
+    let bytes = sample(alloc, 65_536, 3)?;
+    let blank = PoolBlank::open(alloc, 2, 17, 1)?;
+    let (copier, left) = handed(alloc, blank, &bytes, false)?;
+    assert!(rt; copier.size == 65_536 && copier.copies.len() == 16);
+    let mut all = Vec::new(alloc);
+    for copy in &copier.copies {
+        assert_eq!(rt; copy.len, 4096);
+        all.extend_from_slice(&copy.bytes[..copy.len])?;
+    }
+    assert!(rt; all.as_slice() == bytes.as_slice());
+    assert_eq!(rt;
+        left,
+        Held {
+            small: 0,
+            large: 16
+        }
+    );
+    Ok(())
+}
+
+#[test]
+fn the_longest_value_has_sixteen_fragments(rt: HostRuntime) -> Result<(), Fail> {
+    check_longest(&rt, rt.alloc())
+}
+
 #[test]
 fn a_taker_is_handed_each_run_of_a_range(rt: HostRuntime) -> Result<(), Fail> {
     let bytes = sample(rt.alloc(), 16_385, 3)?;
