@@ -12,5 +12,4 @@ mod tested;
 mod tests;
 
 pub use command::Command;
-pub use name::VALUE_LIMIT;
 pub use op::Op;

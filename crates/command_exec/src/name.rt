@@ -7,7 +7,7 @@ ghost use Rattle.command_exec.specs.Asked.{asked};
 
 use crate::options::{PLAIN, set_options};
 use resp_reader::Request;
-use shard_store::Setting;
+use shard_store::{Setting, VALUE_LIMIT};
 
 /// The names of commands.
 #[derive(Clone, Copy, Debug)]
@@ -22,9 +22,6 @@ pub(crate) enum Name {
     StrLen,
     GetRange,
 }
-
-/// The most bytes of a value, and of what is appended to one.
-pub const VALUE_LIMIT: usize = 65_536;
 
 /// The most bytes of PING's argument.
 const MESSAGE_LIMIT: usize = 16_384;

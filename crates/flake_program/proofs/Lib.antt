@@ -1,10 +1,3 @@
-pub mod Bytes
-pub mod Entered
-pub mod Held
-pub mod Parts
-pub mod Results
-pub mod Replies
-pub mod Pumped
 pub mod Serving
 pub mod Served
 pub mod Ran

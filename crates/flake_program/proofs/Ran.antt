@@ -8,7 +8,7 @@ use Rattle.flake_base.specs.declared.session.End.TheVariants.{Left}
 use Rattle.flake_base.specs.declared.session.SessionEnd.{SessionEnd}
 use Rattle.flake_model.specs.Said.{summary_from}
 use Rattle.flake_program.specs.declared.outcome.Detail.TheVariants.{Nothing}
-use Rattle.flake_program.specs.Pump.{EndFaults}
+use Rattle.command_pump.specs.Pump.{EndFaults}
 use Rattle.flake_program.specs.Task.{Task}
 use Rattle.flake_program.specs.Outside.{outside}
 use Rattle.flake_program.specs.Outcome.{Done, SourceTold}

@@ -10,7 +10,7 @@ use Rattle.flake_model.specs.Resp.{Words, Parses}
 use Rattle.flake_model.proofs.Faults.{error_stays, long_stays}
 use Rattle.flake_model.proofs.OneParse.{one_parse}
 use Rattle.flake_model.specs.Session.{Session, IsSession, IsTold, EndsAs, IsReadOut}
-use Rattle.flake_program.specs.Pump.{EndFaults}
+use Rattle.command_pump.specs.Pump.{EndFaults}
 use Rattle.flake_program.specs.Task.{Task}
 use Rattle.flake_program.specs.Outside.{outside}
 use Rattle.flake_program.specs.Outcome.{Done, SourceTold}

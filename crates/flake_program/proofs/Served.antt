@@ -9,7 +9,7 @@ use Rattle.flake_model.proofs.OneServed.{one_served}
 use Rattle.flake_model.specs.Run.{wire_texts}
 use Rattle.flake_model.specs.Session.{Session}
 use Rattle.flake_model.specs.Wire.{HasPut, BytesAre, KeptIs}
-use Rattle.flake_program.specs.Pump.{session_at}
+use Rattle.command_pump.specs.Pump.{session_at}
 use Rattle.flake_program.specs.Serving.{texts_to, HasServed, IsRun}
 
 kept_is : (failed : Bool) (old new : ℕ) → (failed ≡ false → new ≡ 0) → KeptIs failed old new

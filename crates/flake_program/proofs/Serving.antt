@@ -17,10 +17,10 @@ use Rattle.flake_model.specs.OneThread.{after_all, reply_on, replies_on, store_o
 use Rattle.flake_model.specs.Journal.{call_steps, session_steps, next_parts, ran_steps}
 use Rattle.flake_model.specs.Wire.{FaultIs}
 use Rattle.flake_model.proofs.OneThread.{replies_on-append, store_on-append, session_steps-more}
-use Rattle.flake_program.specs.Pump.{IsPump, PumpState, HasEnded, ended_at}
+use Rattle.command_pump.specs.Pump.{IsPump, PumpState, HasEnded, ended_at}
 use Rattle.flake_program.specs.Serving.{texts_to, WasSent, AreServing, HasReplied, HasStopped, HasServed}
-use Rattle.flake_program.specs.Store.{Tables, Holds}
-use Rattle.flake_program.proofs.Pumped.{meant, stopped_at}
+use Rattle.byte_store.specs.Store.{Tables, Holds}
+use Rattle.command_pump.proofs.Pumped.{meant, stopped_at}
 
 -- the texts so far, and that of the next reply
 texts_more : (given : List Command) (command : Command) → texts_to (given ++ command ∷ []) ≡ texts_to given ++ reply_text (reply_on (store_on finite.empty given) command)

@@ -6,7 +6,7 @@ use Rattle.std.proofs.lemmas.List.Elements.{All-from_recursion}
 use Rattle.flake_base.specs.Calls.{counted}
 use Rattle.flake_base.specs.Causes.{Rose}
 use Rattle.flake_base.specs.Told.{HostTold, WireTold}
-use Rattle.flake_program.specs.Table.{same_bytes}
+use Rattle.byte_store.specs.Table.{same_bytes}
 use Rattle.flake_program.specs.Task.{Task}
 use Rattle.flake_program.specs.Outside.{outside}
 use Rattle.flake_program.specs.Outcome.{Done, SourceTold}

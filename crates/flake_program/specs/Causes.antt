@@ -4,7 +4,7 @@ use Rattle.flake_base.specs.Causes.{Rose}
 use Rattle.flake_base.specs.declared.session.End.{End}
 use Rattle.flake_base.specs.declared.session.End.TheVariants.{Clean, Protocol, Truncated, TooLong, ReadFault, Memory}
 use Rattle.flake_base.specs.declared.session.End.TheVariants.{Left}
-use Rattle.flake_program.specs.Pump.{EndFaults}
+use Rattle.command_pump.specs.Pump.{EndFaults}
 use Rattle.flake_program.specs.Task.{Task}
 use Rattle.flake_program.specs.Outside.{Outside, faults_of}
 use Rattle.flake_program.specs.Outcome.{Done, ways, read_faults_of}

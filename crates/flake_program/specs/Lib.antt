@@ -1,10 +1,5 @@
-pub mod Given
-pub mod Pump
-pub mod Table
-pub mod Store
 pub mod Serving
 pub mod Room
-pub mod Histories
 pub mod Refusals
 pub mod Task
 pub mod Outside

@@ -4,7 +4,7 @@ use Rattle.flake_base.specs.Roomy.{Roomy}
 use Rattle.flake_base.specs.declared.journal.Entry.{Entry}
 use Rattle.flake_base.specs.declared.session.End.{End}
 use Rattle.flake_base.specs.declared.session.SessionEnd.{SessionEnd}
-use Rattle.flake_program.specs.Histories.{histories}
+use Rattle.command_run.specs.Histories.{histories}
 use Rattle.flake_program.specs.declared.outcome.Detail.{Detail}
 
 -- a source that was opened: its file's number, what it has left, and how often its reads failed

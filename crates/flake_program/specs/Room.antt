@@ -3,7 +3,7 @@ use Rattle.std.specs.Prelude.{◌≡◌, ◌<◌, [], length}
 use Rattle.std.specs.FinMap as finite
 use Rattle.flake_model.specs.OneThread.{IsSharded}
 use Rattle.flake_program.specs.declared.source.Room.{Room}
-use Rattle.flake_program.specs.Store.{Holds}
+use Rattle.byte_store.specs.Store.{Holds}
 
 -- an empty store, empty histories, and room for one end
 pub record IsFresh (room : Room) : Type 0 where

@@ -15,8 +15,8 @@ use Rattle.flake_model.specs.OneThread.{reply_on, replies_on, store_on, IsSharde
 use Rattle.flake_model.specs.Session.{IsSession}
 use Rattle.flake_model.specs.Run.{WasServed, missing_writes, wire_texts}
 use Rattle.flake_model.specs.Wire.{FaultIs, FaultsAre, HasPut, BytesAre, KeptAre}
-use Rattle.flake_program.specs.Pump.{PumpState, IsPump, EndFaults, ended_at, session_at}
-use Rattle.flake_program.specs.Store.{Tables, Holds}
+use Rattle.command_pump.specs.Pump.{PumpState, IsPump, EndFaults, ended_at, session_at}
+use Rattle.byte_store.specs.Store.{Tables, Holds}
 
 -- the texts of the replies to commands, from the empty store
 abbrev pub texts_to : List Command → List ℕ

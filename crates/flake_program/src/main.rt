@@ -1,16 +1,11 @@
 //! A key-value server over files: requests from a file, replies to a wire.
 #![tactic(auto)]
 
-mod execute;
-mod journal;
 mod outcome;
-mod pump;
 mod run;
 mod session;
 mod source;
-mod store;
 mod summary;
-mod table;
 mod tell;
 #[cfg(test)]
 mod tests;

@@ -5,14 +5,13 @@ ghost use Rattle.flake_base.specs.Told.{Took, Flushed};
 ghost use Rattle.flake_model.specs.Command.{Command};
 ghost use Rattle.flake_model.specs.OneThread.{IsSharded};
 ghost use Rattle.flake_model.specs.Wire.{FaultIs};
-ghost use Rattle.flake_program.specs.Store.{Holds};
+ghost use Rattle.byte_store.specs.Store.{Holds};
 ghost use Rattle.flake_program.specs.Serving.{AreServing, HasReplied, HasStopped, HasServed};
-ghost use Rattle.flake_program.specs.Pump.{EndFaults};
+ghost use Rattle.command_pump.specs.Pump.{EndFaults};
 
-use crate::execute::execute;
-use crate::journal::Histories;
-use crate::pump::Pump;
-use crate::store::Store;
+use byte_store::Store;
+use command_pump::Pump;
+use command_run::{Histories, execute};
 use flake_base::{Bytes, End, Memory, SessionEnd, Source, Wire};
 use std::alloc::Global;
 

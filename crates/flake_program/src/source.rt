@@ -2,15 +2,15 @@
 ghost use Rattle.std.specs.Prelude.{◌≡◌, ◌≢◌, ◌<◌, ◌∷◌, [], length, false, IfOk};
 ghost use Rattle.std.specs.FinMap as finite;
 ghost use Rattle.flake_model.specs.OneThread.{IsSharded};
-ghost use Rattle.flake_program.specs.Histories.{histories};
-ghost use Rattle.flake_program.specs.Pump.{EndFaults};
+ghost use Rattle.command_run.specs.Histories.{histories};
+ghost use Rattle.command_pump.specs.Pump.{EndFaults};
 ghost use Rattle.flake_program.specs.Room.{IsFresh};
 ghost use Rattle.flake_program.specs.Serving.{HasServed, IsRun};
-ghost use Rattle.flake_program.specs.Store.{Holds};
+ghost use Rattle.byte_store.specs.Store.{Holds};
 
-use crate::journal::Histories;
 use crate::session::{Served, serve};
-use crate::store::Store;
+use byte_store::Store;
+use command_run::Histories;
 use flake_base::{End, Ends, Journal, Memory, SessionEnd, Source, Wire};
 use std::alloc::Global;
 

@@ -8,5 +8,5 @@ mod setting;
 mod tests;
 
 pub use hash::shard_of;
-pub use part::{Part, PartOp};
+pub use part::{Part, PartOp, VALUE_LIMIT};
 pub use setting::{Setting, When};

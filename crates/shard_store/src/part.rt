@@ -3,6 +3,9 @@ ghost use Rattle.shard_store.specs.Settings.{setting_of};
 
 use crate::{Setting, When};
 
+/// The most bytes of a value, and of what is appended to one.
+pub const VALUE_LIMIT: usize = 65_536;
+
 /// What is done to a key.
 #[derive(Clone, Copy, Debug, PartialEq, Eq)]
 pub enum PartOp {

@@ -5,7 +5,7 @@ use Rattle.std.proofs.lemmas.List.{length-map}
 use Rattle.flake_base.specs.Causes.{Rose}
 use Rattle.flake_program.specs.declared.outcome.Detail.TheVariants.{Nothing}
 use Rattle.flake_program.specs.Outcome.{done, source_told}
-use Rattle.flake_program.specs.Pump.{EndFaults}
+use Rattle.command_pump.specs.Pump.{EndFaults}
 use Rattle.flake_program.specs.Task.{task_of}
 use Rattle.flake_program.proofs.Unopened.{unopened_all}
 use Rattle.flake_program.proofs.Served.{run_on}

@@ -1,6 +1,6 @@
 use Rattle.std.proofs.Common.{◌++◌, ◌∷◌, [], arith, refl, sym, ◌∙◌, subst}
-use Rattle.flake_program.specs.Pump.{EndFaults}
-use Rattle.flake_program.proofs.Pumped.{bounded}
+use Rattle.command_pump.specs.Pump.{EndFaults}
+use Rattle.command_pump.proofs.Pumped.{bounded}
 use Rattle.flake_program.proofs.Serving.{serving_more, sent_more, sent_out, sent_so, nothing_sent}
 use Rattle.flake_program.proofs.session.serve.Goals as goal
 

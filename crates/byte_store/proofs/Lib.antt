@@ -1,0 +1,5 @@
+pub mod Bytes
+pub mod Held
+pub mod Parts
+pub mod Places
+pub mod Results

@@ -1,0 +1,141 @@
+-- A pump: what its source gave, and which commands it has given of that.
+use Rattle.std.specs.Prelude.{◌≡◌, ◌≢◌, ℕ, ◌+◌, ◌-◌, ◌^◌, ◌≤◌, min, Bool, List, [], ◌∷◌, ◌++◌, length, map}
+use Rattle.std.specs.Prelude.{Option, None, IfSome}
+use Rattle.flake_base.specs.Causes.{Rose}
+use Rattle.flake_base.specs.declared.session.End.{End}
+use Rattle.flake_base.specs.declared.session.End.TheVariants.{Clean, Protocol, Truncated, TooLong, ReadFault, Memory}
+use Rattle.flake_base.specs.declared.session.End.TheVariants.{Left}
+use Rattle.flake_model.specs.Resp.{Words, Parses, judged_bytes}
+use Rattle.flake_model.specs.Command.{Command, fault, command_of}
+use Rattle.flake_base.specs.declared.session.SessionEnd.{SessionEnd}
+use Rattle.flake_model.specs.Input.{protocol_error, commands_in}
+use Rattle.flake_model.specs.Session.{Session, IsSession, HasNoError}
+use Rattle.resp_reader.specs.declared.error.ReadError.{ReadError}
+use Rattle.resp_reader.specs.declared.error.ReadError.TheVariants as errors
+use Rattle.resp_reader.specs.Reader.{Progress, Reads, fed_to}
+use Rattle.command_pump.specs.Given.{Gave}
+use Rattle.command_pump.specs.declared.pump.Stage.{Stage}
+use Rattle.command_pump.specs.declared.pump.Stage.TheVariants.{Reading, Refused, Ended}
+
+pub record PumpState : Type 0 where
+  -- what the source still has, where it tells that, and how often its reads failed
+  pub left : Option (List ℕ)
+  pub faults : ℕ
+  pub reader : Progress
+  pub stage : Stage
+  pub taken : ℕ
+
+-- the reader takes pieces, and has so many bytes
+pub record IsOpen (reader : Progress) (taken : ℕ) : Type 0 where
+  pub closed : reader.closed ≡ None
+  pub fed : fed_to reader ≡ taken
+  pub judged : taken ≤ judged_bytes
+
+abbrev pub stage_after : ReadError → Stage
+stage_after (errors.BadCount place) = Refused 1 place
+stage_after (errors.ExpectedBulk place) = Refused 2 place
+stage_after (errors.BadLength place) = Refused 3 place
+stage_after (errors.Inline place) = Refused 4 place
+stage_after (errors.TooLong taken) = Ended TooLong
+stage_after errors.Memory = Ended Memory
+
+-- how many bytes a session took by its end, of those that its source gave
+abbrev pub taken_by : End → ℕ → ℕ
+taken_by Clean given = given
+taken_by (Protocol kind place) given = min (place + 1) (2 ^ 64 - 1)
+taken_by (Truncated place) given = given
+taken_by TooLong given = judged_bytes
+taken_by ReadFault given = given
+taken_by Memory given = given
+taken_by Left given = given
+
+-- the source's count of faults rose where a read failed, and else is as it was
+abbrev pub EndFaults : End → ℕ → ℕ → Type 0
+EndFaults Clean before now = now ≡ before
+EndFaults (Protocol kind place) before now = now ≡ before
+EndFaults (Truncated place) before now = now ≡ before
+EndFaults TooLong before now = now ≡ before
+EndFaults ReadFault before now = Rose before now
+EndFaults Memory before now = now ≡ before
+EndFaults Left before now = now ≡ before
+
+abbrev pub FaultsSo : Stage → ℕ → ℕ → Type 0
+FaultsSo Reading before now = now ≡ before
+FaultsSo (Refused kind place) before now = now ≡ before
+FaultsSo (Ended end) before now = EndFaults end before now
+
+-- nothing is left, where that is told
+abbrev pub IsDone : Option (List ℕ) → Type 0
+IsDone left = IfSome left (λ rest. rest ≡ [])
+
+-- whole requests, and perhaps the front of one
+pub record AreRead (bytes : List ℕ) (requests : List Words) : Type 0 where
+  pub shown : End
+  pub parsed : Parses bytes requests shown
+  pub no_error : (all : List Words) → commands_in all shown ≡ map command_of all
+  pub whole : HasNoError shown
+
+-- the bytes mean something, and these are the first of their requests
+pub record AreFirst (bytes : List ℕ) (requests : List Words) : Type 0 where
+  pub all : List Words
+  pub shown : End
+  pub parsed : Parses bytes all shown
+  pub rest : List Words
+  pub all_are : all ≡ requests ++ rest
+
+-- What the bytes of an ended input mean: the requests that were given and those that are still to be given are theirs.
+abbrev pub IsEnded : End → Option (List ℕ) → List ℕ → List Words → List Command → Progress → Type 0
+IsEnded Clean left bytes requests given reader =
+    IsDone left × Parses bytes (requests ++ reader.requests) Clean × (given ≡ map command_of requests)
+IsEnded (Protocol kind place) left bytes requests given reader =
+    Parses bytes requests (Protocol kind place) × (reader.requests ≡ [])
+    × (given ≡ map command_of requests ++ fault (protocol_error kind) ∷ [])
+IsEnded (Truncated place) left bytes requests given reader =
+    IsDone left × Parses bytes (requests ++ reader.requests) (Truncated place) × (given ≡ map command_of requests)
+IsEnded TooLong left bytes requests given reader =
+    Parses bytes (requests ++ reader.requests) TooLong × (given ≡ map command_of requests)
+IsEnded ReadFault left bytes requests given reader =
+    AreRead bytes (requests ++ reader.requests) × (reader.requests ≡ []) × (given ≡ map command_of requests)
+IsEnded Memory left bytes requests given reader =
+    AreFirst bytes (requests ++ reader.requests) × (given ≡ map command_of requests)
+IsEnded Left left bytes requests given reader = ⊥
+
+abbrev pub IsAt : Stage → Option (List ℕ) → List ℕ → List Words → List Command → Progress → Type 0
+IsAt Reading left bytes requests given reader =
+    Reads bytes requests reader × (reader.closed ≡ None) × (given ≡ map command_of requests)
+IsAt (Refused kind place) left bytes requests given reader =
+    Parses bytes (requests ++ reader.requests) (Protocol kind place) × (given ≡ map command_of requests)
+IsAt (Ended end) left bytes requests given reader = IsEnded end left bytes requests given reader
+
+-- Of an input, and from a count of faults on, these commands were given.
+pub record IsPump (input : Option (List ℕ)) (before : ℕ) (given : List Command) (pump : PumpState) : Type 0 where
+  -- all that the source gave, which is what was taken
+  pub bytes : List ℕ
+  pub requests : List Words
+  pub taken_is : pump.taken ≡ length bytes
+  pub gave : Gave input pump.left bytes
+  pub faults_are : FaultsSo pump.stage before pump.faults
+  pub at : IsAt pump.stage pump.left bytes requests given pump.reader
+
+-- An end was answered: it is answered again, and nothing changes.
+pub record IsOver (end : End) (pump : PumpState) : Type 0 where
+  pub stage : pump.stage ≡ Ended end
+  pub none : pump.reader.requests ≡ []
+  pub taken : pump.taken ≡ taken_by end pump.taken
+
+-- a session that ended so
+abbrev pub ended_at : End → ℕ → ℕ → Bool → SessionEnd
+ended_at end taken replies failed = record { end = end; taken = taken; replies = replies; failed = failed }
+
+abbrev pub session_at : Option (List ℕ) → Option (List ℕ) → List Command → SessionEnd → ℕ → Session
+session_at input left commands end begun =
+    record { input = input; left = left; commands = commands; end = end; begun = begun }
+
+-- Of an input, these commands were given, and it ended so; where memory was wanting there may be more.
+pub record HasEnded (input : Option (List ℕ)) (before : ℕ) (given : List Command) (end : End)
+    (pump : PumpState) : Type 0 where
+  pub faults_are : EndFaults end before pump.faults
+  pub to_the_end : end ≢ Left
+  pub more : List Command
+  pub session : (failed : Bool)
+      → IsSession (session_at input pump.left (given ++ more) (ended_at end pump.taken (length given) failed) 0)

@@ -1,0 +1,283 @@
+// Commands from a source.
+ghost use Rattle.std.specs.Prelude.{◌≡◌, ◌<◌, ◌⊎◌, ◌++◌, ◌∷◌, [], List, ℕ, Option, None, Some, IfOk, IfErr, Err};
+ghost use Rattle.flake_model.specs.Command.{Command as Meaning};
+ghost use Rattle.flake_model.specs.Resp.{Words, Parses};
+ghost use Rattle.flake_model.specs.Input.{protocol_error};
+ghost use Rattle.resp_reader.specs.Reader.{Reads};
+ghost use Rattle.command_pump.specs.Pump.{IsPump, HasEnded, IsOver, taken_by, stage_after};
+
+use command_exec::Command;
+use flake_base::{End, ErrorKind, Failed, Source};
+use resp_reader::{Ended, JUDGED, ReadError, Reader};
+use std::alloc::Global;
+use std::marker::Model;
+use std::mem::replace;
+
+/// The most bytes of one read.
+const PIECE: usize = 4096;
+
+/// How far a pump has come.
+#[derive(Clone, Copy, Debug, PartialEq, Eq)]
+pub enum Stage {
+    /// More bytes may come.
+    Reading,
+    /// The input has an error, whose command isn't given yet.
+    Refused { kind: u8, place: u64 },
+    /// All that is left is in the reader.
+    Ended(End),
+}
+
+/// Reads a session's commands from a source, in pieces, and only when no whole request is left.
+#[derive(Drop)]
+pub struct Pump<S: Source> {
+    alloc: Global,
+    source: S,
+    reader: Reader,
+    stage: Stage,
+    taken: u64,
+    room: [u8; PIECE],
+}
+
+impl<S: Source> Model for Pump<S> {
+    ghost use Rattle.std.specs.Prelude.{◌≡◌};
+    ghost use Rattle.command_pump.specs.Pump.{PumpState, IsOpen};
+    ghost use Rattle.command_pump.specs.declared.pump.Stage.{Stage};
+
+    ghost Value = { PumpState };
+
+    ghost view = { λ p. record {
+      left = S.left p.source;
+      faults = S.read_faults p.source;
+      reader = p.reader;
+      stage = p.stage;
+      taken = p.taken;
+    } };
+
+    ghost invariant = { λ p. p.stage ≡ Stage.Reading → IsOpen p.reader p.taken };
+}
+
+// The error that answers a byte which no request has there.
+fn error_of(kind: u8) -> ErrorKind
+    ensures { result ≡ protocol_error kind }
+{
+    match kind {
+        1 => ErrorKind::ProtocolCount,
+        2 => ErrorKind::ProtocolBulk,
+        3 => ErrorKind::ProtocolLength,
+        _ => ErrorKind::ProtocolInline,
+    }
+}
+
+// What becomes of a pump whose reader doesn't take a piece.
+fn stopped(error: ReadError) -> Stage
+    ensures { result ≡ stage_after error }
+{
+    match error {
+        ReadError::BadCount { place } => Stage::Refused { kind: 1, place },
+        ReadError::ExpectedBulk { place } => Stage::Refused { kind: 2, place },
+        ReadError::BadLength { place } => Stage::Refused { kind: 3, place },
+        ReadError::Inline { place } => Stage::Refused { kind: 4, place },
+        ReadError::TooLong { .. } => Stage::Ended(End::TooLong),
+        ReadError::Memory => Stage::Ended(End::Memory),
+    }
+}
+
+// How many bytes a session took that ended so, of those that the source gave.
+fn taken_at(end: End, given: u64) -> u64
+    ensures { result ≡ taken_by end given }
+{
+    match end {
+        End::Protocol { place, .. } => place.saturating_add(1),
+        End::TooLong => JUDGED,
+        _ => given,
+    }
+}
+
+// How an input ended that was read whole.
+fn input_end(reader: Reader) -> End
+    requires { reader.closed ≡ None }
+    ensures parsed { (bytes : List ℕ) (given : List Words) → Reads bytes given reader
+        → Parses bytes (given ++ reader.requests) result }
+    ensures ends { (result ≡ End.Clean) ⊎ ((place : ℕ) × (result ≡ End.Truncated place)) }
+{
+    match reader.end() {
+        Ended::Clean => End::Clean,
+        Ended::Truncated { place } => End::Truncated { place },
+    }
+}
+
+impl<S: Source> Pump<S> {
+    pub fn new(alloc: Global, source: S) -> Self
+        ensures { IsPump (S.left source) (S.read_faults source) [] result }
+    {
+        Pump {
+            alloc,
+            source,
+            reader: Reader::new(alloc),
+            stage: Stage::Reading,
+            taken: 0,
+            room: [0; PIECE],
+        }
+    }
+
+    /// The next command, or how the input ended, which later calls answer again and change nothing. A byte that no
+    /// request has there makes one command of its own.
+    pub fn next(&mut self) -> Result<Command, End>
+        ensures command { IfOk result (λ command. (input : Option (List ℕ)) (before : ℕ) (given : List Meaning)
+            → IsPump input before given self.old
+            → IsPump input before (given ++ command ∷ []) self.new × (self.new.faults ≡ before)) }
+        ensures end { IfErr result (λ end. (input : Option (List ℕ)) (before : ℕ) (given : List Meaning)
+            → IsPump input before given self.old
+            → HasEnded input before given end self.new) }
+        ensures over { IfErr result (λ end. IsOver end self.new) }
+        ensures again { (end : End) → IsOver end self.old → (result ≡ Err end) × (self.new ≡ self.old) }
+    {
+        loop {
+            if let Some(request) = self.reader.next() {
+                return Ok(Command::of(request));
+            }
+            match self.stage {
+                Stage::Reading => self.read(),
+                Stage::Refused { kind, place } => {
+                    self.stage = Stage::Ended(End::Protocol { kind, place });
+                    return Ok(Command::protocol(error_of(kind)));
+                }
+                Stage::Ended(end) => {
+                    self.taken = taken_at(end, self.taken);
+                    return Err(end);
+                }
+            }
+        }
+    }
+
+    // Reads a piece, and feeds it.
+    fn read(&mut self)
+        requires reading { self.old.stage ≡ Stage.Reading }
+        requires none { self.old.reader.requests ≡ [] }
+        ensures kept { (input : Option (List ℕ)) (before : ℕ) (given : List Meaning)
+            → IsPump input before given self.old → IsPump input before given self.new }
+        ensures further { self.new.stage ≡ Stage.Reading → self.old.taken < self.new.taken }
+    {
+        let Ok(count) = self.source.read(&mut self.room) else {
+            self.stage = Stage::Ended(End::ReadFault);
+            return;
+        };
+        if count == 0 {
+            let reader = replace(&mut self.reader, Reader::new(self.alloc));
+            self.stage = Stage::Ended(input_end(reader));
+            return;
+        }
+        if let Err(error) = self.reader.feed(&self.room[..count]) {
+            self.stage = stopped(error);
+        }
+        self.taken += count as u64;
+    }
+
+    /// Takes back the room of a command's words, for those that come.
+    pub fn give_back(&mut self, command: Command)
+        ensures { self.new ≡ self.old }
+    {
+        if let Some(request) = command.into_request() {
+            self.reader.give_back(request);
+        }
+    }
+
+    /// How many bytes of the input were taken; behind its end by what that is.
+    pub fn taken(&self) -> u64
+        ensures { result ≡ self.now.taken }
+    {
+        self.taken
+    }
+
+    pub fn into_source(self) -> S
+        ensures left { S.left result ≡ self.left }
+        ensures faults { S.read_faults result ≡ self.faults }
+    {
+        self.source
+    }
+}
+
+#[cfg(test)]
+mod tests {
+    use super::*;
+    use flake_base::{Bytes, Fails, MemorySource};
+    use std::process::Abort;
+    use std::test::Fail;
+
+    /// Counts the reads of a source, and keeps the longest room.
+    #[derive(Drop)]
+    struct CountedSource {
+        source: MemorySource,
+        reads: u64,
+        longest: usize,
+    }
+
+    impl Source for CountedSource {
+        ghost left = { λ s. Some s.source.left };
+
+        ghost read_faults = { λ s. s.source.faults };
+
+        fn read(&mut self, room: &mut [u8]) -> Result<usize, Failed> {
+            self.reads = self.reads.saturating_add(1);
+            self.longest = self.longest.max(room.len());
+            self.source.read(room)
+        }
+    }
+
+    fn counted(alloc: Global, input: Bytes) -> Pump<CountedSource> {
+        let source = CountedSource {
+            source: MemorySource::new(input, 1_000_000, Fails::new(alloc)),
+            reads: 0,
+            longest: 0,
+        };
+        Pump::new(alloc, source)
+    }
+
+    // How the input ended, if no command is left.
+    fn end_of(pump: &mut Pump<CountedSource>) -> Option<End> {
+        match pump.next() {
+            Ok(_) => None,
+            Err(end) => Some(end),
+        }
+    }
+
+    // The end comes behind so many commands, after so many reads, and again without any.
+    fn check_end(
+        rt: &impl Abort,
+        pump: &mut Pump<CountedSource>,
+        commands: usize,
+        end: End,
+        taken: u64,
+        reads: u64,
+    ) {
+        for _ in 0..commands {
+            assert_eq!(rt; end_of(pump), None);
+        }
+        for _ in 0..3 {
+            assert_eq!(rt; end_of(pump), Some(end));
+            assert_eq!(rt; pump.taken, taken);
+            assert_eq!(rt; pump.source.reads, reads);
+        }
+    }
+
+    #[test]
+    fn reads_are_of_at_most_4096_bytes(rt: HostRuntime) -> Result<(), Fail> {
+        let alloc = rt.alloc();
+        let mut pings = Bytes::new(alloc);
+        for _ in 0..715 {
+            pings.append(b"*1\r\n$4\r\nPING\r\n")?;
+        }
+        let mut pump = counted(alloc, pings);
+        check_end(&rt, &mut pump, 715, End::Clean, 10_010, 4);
+        assert_eq!(rt; pump.source.longest, 4096);
+        Ok(())
+    }
+
+    #[test]
+    fn an_error_is_answered_once(rt: HostRuntime) -> Result<(), Fail> {
+        let alloc = rt.alloc();
+        let mut pump = counted(alloc, Bytes::from_slice(alloc, b"*1\r\n$01\r\n")?);
+        check_end(&rt, &mut pump, 1, End::Protocol { kind: 3, place: 6 }, 7, 1);
+        Ok(())
+    }
+}

@@ -1,6 +1,0 @@
-use Rattle.std.proofs.Common.{None}
-use Rattle.flake_program.proofs.Bytes.{updated}
-use Rattle.flake_program.proofs.table.remove.Goals as goal
-
-pub returns-clause-removed : goal.returns-clause-removed
-returns-clause-removed c = updated c.args.key.now c.args.table.now c.swap_remove.new.self None c.swap_remove.ensures.updates
