@@ -1,0 +1,17 @@
+//! The text of a journal: a line that tells the number of shards, and a line for each entry.
+#![tactic(auto)]
+
+mod error;
+mod fields;
+mod laws;
+mod lines;
+mod numbers;
+mod reading;
+#[cfg(test)]
+mod tests;
+mod writing;
+
+pub use error::JournalError;
+pub use laws::{one_journal, text_has_lines};
+pub use reading::read_journal;
+pub use writing::journal_text;

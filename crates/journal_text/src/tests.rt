@@ -1,0 +1,122 @@
+use crate::{JournalError, journal_text, read_journal};
+use flake_base::{Entry, Journal, Sequence};
+use std::test::Fail;
+
+fn entry(session: u16, call: u32, part: u16) -> Entry {
+    Entry {
+        session,
+        call,
+        part,
+    }
+}
+
+fn shard(journal: &Journal, shard: usize) -> Option<&Sequence<Entry>> {
+    if shard < journal.len() {
+        Some(journal.get(shard))
+    } else {
+        None
+    }
+}
+
+#[test]
+fn a_journal_is_read(rt: HostRuntime) -> Result<(), Fail> {
+    let journal = read_journal(rt.alloc(), b"shards 8\n4 0 0 0\n4 0 1 0\n")?;
+    assert_eq!(rt; journal.len(), 8);
+    let expected = [entry(0, 0, 0), entry(0, 1, 0)];
+    assert_eq!(rt;
+        shard(&journal, 4).ok_or("fewer shards")?.as_slice(),
+        expected.as_slice()
+    );
+    for other in [0, 1, 2, 3, 5, 6, 7] {
+        assert!(rt; shard(&journal, other).ok_or("fewer shards")?.is_empty());
+    }
+    Ok(())
+}
+
+#[test]
+fn the_largest_numbers_are_read(rt: HostRuntime) -> Result<(), Fail> {
+    let journal = read_journal(rt.alloc(), b"shards 16\n15 15 4294967295 63")?;
+    assert_eq!(rt; journal.len(), 16);
+    let expected = [entry(15, 4_294_967_295, 63)];
+    assert_eq!(rt;
+        shard(&journal, 15).ok_or("fewer shards")?.as_slice(),
+        expected.as_slice()
+    );
+    Ok(())
+}
+
+static TEXTS: [&[u8]; 7] = [
+    b"shards 8\n",
+    b"shards 1\n",
+    b"shards 8\n4 0 0 0\n4 0 1 0\n",
+    b"shards 8\n4 0 0 0\n4 0 1 0\n4 0 1 1\n5 0 2 0\n5 0 3 0\n5 0 3 1\n",
+    b"shards 8\n4 0 0 0\n4 0 1 0\n4 0 2 0\n4 0 5 0\n5 0 3 0\n5 0 4 0\n",
+    b"shards 8\n4 1 0 0\n4 0 0 0\n",
+    b"shards 16\n0 0 10 0\n0 10 9 63\n7 1 4294967295 0\n15 15 100 10\n15 0 0 0\n",
+];
+
+#[test]
+fn what_was_read_is_written_again(rt: HostRuntime) -> Result<(), Fail> {
+    for text in TEXTS {
+        let journal = read_journal(rt.alloc(), text)?;
+        let written = journal_text(rt.alloc(), &journal)?;
+        assert_eq!(rt; written.as_slice(), text);
+        let cut = text.len().saturating_sub(1);
+        let same = read_journal(rt.alloc(), &text[..cut])?;
+        let again = journal_text(rt.alloc(), &same)?;
+        assert_eq!(rt; again.as_slice(), text);
+    }
+    Ok(())
+}
+
+static BAD_LINES: [(&[u8], u64); 41] = [
+    (b"", 1),
+    (b"\n", 1),
+    (b"\nshards 8\n", 1),
+    (b"shards", 1),
+    (b"shards \n", 1),
+    (b"shards 0\n", 1),
+    (b"shards 17\n", 1),
+    (b"shards 08\n", 1),
+    (b"shards 8 \n", 1),
+    (b"shards  8\n", 1),
+    (b" shards 8\n", 1),
+    (b"shards\t8\n", 1),
+    (b"shards 8\r\n", 1),
+    (b"Shards 8\n", 1),
+    (b"shards +8\n", 1),
+    (b"shards 18446744073709551617\n", 1),
+    (b"4 0 0 0\n", 1),
+    (b"shards 8\n\n", 2),
+    (b"shards 8\nshards 8\n", 2),
+    (b"shards 8\n8 0 0 0\n", 2),
+    (b"shards 8\n16 0 0 0\n", 2),
+    (b"shards 8\n4 16 0 0\n", 2),
+    (b"shards 8\n4 0 4294967296 0\n", 2),
+    (b"shards 8\n4 0 18446744073709551616 0\n", 2),
+    (b"shards 8\n4 0 0 64\n", 2),
+    (b"shards 8\n4 0 0\n", 2),
+    (b"shards 8\n4 0 0 \n", 2),
+    (b"shards 8\n4 0 0 0 0\n", 2),
+    (b"shards 8\n04 0 0 0\n", 2),
+    (b"shards 8\n4 00 0 0\n", 2),
+    (b"shards 8\n4 0 01 0\n", 2),
+    (b"shards 8\n4 0 0 00\n", 2),
+    (b"shards 8\n4 0 0 -1\n", 2),
+    (b"shards 8\n4\t0 0 0\n", 2),
+    (b"shards 8\n4  0 0 0\n", 2),
+    (b"shards 8\n 4 0 0 0\n", 2),
+    (b"shards 8\n4 0 0 0 \n", 2),
+    (b"shards 8\n4 0 0 0\r\n", 2),
+    (b"shards 8\n4 0 0 a\n", 2),
+    (b"shards 8\n5 0 0 0\n4 0 0 0\n", 3),
+    (b"shards 8\n4 0 0 0\n4 0 1 0\n\n3 0 2 0\n", 4),
+];
+
+#[test]
+fn bad_lines_are_named(rt: HostRuntime) {
+    for (text, line) in &BAD_LINES {
+        let read = read_journal(rt.alloc(), *text).map(|journal| journal.len());
+        assert_eq!(rt; read, Err(JournalError::BadLine { line: *line }));
+    }
+}
