@@ -57,16 +57,9 @@ fn check_all(rt: &impl Abort, alloc: Global, rows: &[Row]) -> Result<Journal, Fa
     let mut store = Store::new(alloc)?;
     let mut histories = Histories::new(alloc)?;
     let mut text = Bytes::new(alloc);
-    for (call, (words, reply)) in rows.iter().enumerate() {
+    for (call, (words, reply)) in (0..u32::MAX).zip(rows) {
         let command = Command::of(request(alloc, words)?);
-        ran(
-            alloc,
-            &mut store,
-            &mut histories,
-            call as u32,
-            &command,
-            &mut text,
-        )?;
+        ran(alloc, &mut store, &mut histories, call, &command, &mut text)?;
         assert_eq!(rt; text.as_slice(), *reply);
     }
     Ok(histories.into_journal())
@@ -80,7 +73,9 @@ static OF_A: [(u32, u16); 5] = [(1, 0), (3, 0), (3, 2), (4, 0), (4, 2)];
 static OF_B: [(u32, u16); 7] = [(3, 1), (4, 1), (5, 0), (6, 0), (7, 0), (7, 1), (9, 0)];
 
 fn check_history(rt: &impl Abort, journal: &Journal, shard: usize, entries: Entries) {
-    let history = journal.as_slice()[shard].as_slice();
+    let lists = journal.as_slice();
+    assert!(rt; shard < lists.len());
+    let history = lists[shard].as_slice();
     assert_eq!(rt; history.len(), entries.len());
     for (entry, wanted) in history.iter().zip(entries) {
         assert_eq!(rt; entry.session, 0);

@@ -4,5 +4,7 @@
 
 pub mod laws;
 mod need;
+#[cfg(test)]
+mod tests;
 
 pub use need::Need;
