@@ -1,0 +1,4 @@
+pub mod Dealt
+pub mod Room
+pub mod Slots
+pub mod Work

@@ -1,0 +1,63 @@
+// Where a worker works.
+ghost use Rattle.std.specs.Prelude.{All};
+ghost use Rattle.work_queue.specs.Work.{IsReady, IsLeft};
+ghost use Rattle.std.specs.List.{AllZip};
+
+use crate::hand::{Done, Hand, Jobs, Numbered, Takes};
+use crossbeam_queue::Pass;
+use std::sync::Wait;
+use std::thread;
+use std::thread::Threads;
+
+/// A pass of the queue, and what the jobs gave that were taken with it.
+#[derive(Drop)]
+pub(crate) struct Desk<T, X> {
+    pub pass: Pass<Numbered<T>, Hand<T>>,
+    pub done: Vec<Done<X>>,
+}
+
+/// Takes jobs until none is left.
+pub(crate) fn work<R: Wait, T: Send + Drop, X: Drop, F: Fn(T) -> X>(
+    rt: &R,
+    queue: &Jobs<T>,
+    desk: &mut Desk<T, X>,
+    f: &F,
+)
+    requires ready { IsReady queue.now desk.old }
+    requires calls { F.IsAlwaysCallable f.now }
+    ensures { IsLeft queue.now (λ job r. F.post f.now job r) desk.old desk.new }
+{
+    for _ in rt.forever() {
+        let Some(Numbered { number, job }) = queue.pop_as::<Takes, R>(rt, &mut desk.pass) else {
+            return;
+        };
+        let result = f(job);
+        desk.done.push_reserved(Done { number, result });
+    }
+}
+
+/// Each desk has a worker, in a thread of its own where one can be started.
+pub(crate) fn all_work<
+    R: Threads + Wait + Sync,
+    T: Send + Drop,
+    X: Send + Drop,
+    F: Fn(T) -> X + Sync,
+>(rt: &R, queue: &Jobs<T>, desks: &mut [Desk<T, X>], f: &F)
+    requires ready { All (IsReady queue.now) desks.old }
+    requires calls { F.IsAlwaysCallable f.now }
+    ensures { AllZip (IsLeft queue.now (λ job r. F.post f.now job r)) desks.old desks.new }
+{
+    if desks.is_empty() {
+        return;
+    }
+    let threads = desks.len();
+    thread::for_each_mut(
+        rt,
+        desks,
+        threads,
+        &|_place: usize, desk: &mut Desk<T, X>|
+            requires { IsReady queue.now desk.old × F.IsAlwaysCallable f.now }
+            ensures { IsLeft queue.entry.now (λ job r. F.post f.entry.now job r) desk.old desk.new }
+        { work(rt, queue, desk, f) },
+    );
+}

@@ -1,0 +1,14 @@
+//! Jobs that some workers take from one queue, each job once.
+#![tactic(auto)]
+
+mod crew;
+mod desk;
+mod hand;
+mod passes;
+mod room;
+mod slots;
+#[cfg(test)]
+mod tests;
+mod workers;
+
+pub use workers::in_workers;
