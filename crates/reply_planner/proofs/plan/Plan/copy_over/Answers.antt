@@ -1,0 +1,61 @@
+use Rattle.std.proofs.Common.{◌≡◌, ◌+◌, ◌*◌, ◌<◌, ◌≤◌, length, Some, sym, ap, ◌∙◌, subst, arith}
+use Rattle.std.specs.Option.{MatchOption}
+use Rattle.view_sums.specs.Total.{total}
+use Rattle.pin_core.specs.Holding.{at}
+use Rattle.pinned_pool.specs.Moves.{front_of}
+use Rattle.pinned_pool.proofs.Keys.{some-at}
+use Rattle.frag_value.specs.Taken.{IsNext, placed_over}
+use Rattle.reply_planner.specs.Planned.{Planned, terms, planned}
+use Rattle.reply_planner.specs.Plans.{IsPlan}
+use Rattle.reply_planner.specs.Owned.{buffers_of}
+use Rattle.reply_planner.specs.Told.{Told, told, with_run}
+use Rattle.reply_planner.specs.declared.terms.Terms.{Terms}
+use Rattle.reply_planner.proofs.KeptAt.{length-run}
+use Rattle.reply_planner.proofs.Moved.{begun_is, length-buffers}
+use Rattle.reply_planner.proofs.Runs.{after_short, fits_short}
+use Rattle.reply_planner.proofs.plan.Plan.copy_over.Goals as goal
+
+pub append_run-requires-clause-held : goal.append_run-requires-clause-held
+append_run-requires-clause-held g c =
+    subst (λ b. 0 < total (at b) c.args.owner.now.holds) (sym c.buffer-buffer.ensures.buffer) (some-at c.args.frag.hold c.args.owner.now.holds c.requires.held)
+
+pub append_run-requires-clause-room : goal.append_run-requires-clause-room
+append_run-requires-clause-room g c =
+    let inside = c.self.inside in
+    let z = g.N.PoolName.sizes in
+    let old = told z inside.history in
+    let base : Terms = terms inside.need.descriptors (buffers_of inside.lists.staged.items) inside.threshold in
+    let begun = begun_is old.begun (λ b. IsNext 0 c.args.frag.len b) (subst (λ (p : Planned). MatchOption p.begun ⊥ (λ b. IsNext 0 c.args.frag.len b)) (sym c.self.view_is) c.requires.next) in
+    let next = subst (λ o. MatchOption o ⊥ (λ b. IsNext 0 c.args.frag.len b)) (ap (λ (p : Planned). p.begun) (sym c.self.view_is) ∙ begun.1) c.requires.next in
+    let was = subst (λ o. IsPlan z (planned base old.taken o) inside.lists.text.items inside.lists.segments.items inside.lists.pins.items inside.lists.staged.items inside.run inside.paid inside.seat) begun.1 c.self.invariant.0 in
+    let test : c.args.frag.len < c.self.inside.threshold = subst (λ (p : Planned). c.args.frag.len < p.base.threshold) (sym c.self.view_is) c.requires.short in
+    omega (
+      arith,
+      c.self.invariant.1.text,
+      length-buffers inside.lists.staged.items,
+      fits_short z base old.taken inside.lists.text.items inside.lists.segments.items inside.lists.pins.items inside.lists.staged.items inside.run inside.paid inside.seat begun.0 0 c.args.frag.len was next c.requires.filled.0 test,
+    )
+
+pub invariant_of-self : goal.invariant_of-self
+invariant_of-self g c =
+    let inside = c.self.inside in
+    let z = g.N.PoolName.sizes in
+    let old = told z inside.history in
+    let base : Terms = terms inside.need.descriptors (buffers_of inside.lists.staged.items) inside.threshold in
+    let begun = begun_is old.begun (λ b. IsNext 0 c.args.frag.len b) (subst (λ (p : Planned). MatchOption p.begun ⊥ (λ b. IsNext 0 c.args.frag.len b)) (sym c.self.view_is) c.requires.next) in
+    let next = subst (λ o. MatchOption o ⊥ (λ b. IsNext 0 c.args.frag.len b)) (ap (λ (p : Planned). p.begun) (sym c.self.view_is) ∙ begun.1) c.requires.next in
+    let was = subst (λ o. IsPlan z (planned base old.taken o) inside.lists.text.items inside.lists.segments.items inside.lists.pins.items inside.lists.staged.items inside.run inside.paid inside.seat) begun.1 c.self.invariant.0 in
+    let test : c.args.frag.len < c.self.inside.threshold = subst (λ (p : Planned). c.args.frag.len < p.base.threshold) (sym c.self.view_is) c.requires.short in
+    let front = front_of c.buffer-buffer.result c.args.owner.now.holds in
+    let fits : 0 + c.args.frag.len ≤ 8 * length front = subst (λ b. 0 + c.args.frag.len ≤ 8 * length (front_of b c.args.owner.now.holds)) (sym c.buffer-buffer.ensures.buffer) (omega (arith, c.requires.filled.1)) in
+    let f = placed_over z c.args.owner.now.holds (c.buffer-buffer.result, c.args.frag.len) in
+    let new : told z c.add.new.self ≡ record { taken = old.taken; begun = with_run f (Some begun.0) } =
+    c.add.ensures ∙ (λ i. record { taken = old.taken; begun = with_run (placed_over z (c.of.ensures i).holds (c.buffer-buffer.result, c.args.frag.len)) (begun.1 i) }) in (
+      subst (λ (t : Told). IsPlan z (planned base t.taken t.begun) c.append_run.new.text.items inside.lists.segments.items inside.lists.pins.items inside.lists.staged.items inside.run inside.paid inside.seat) (sym new)
+          (after_short z base old.taken inside.lists.text.items inside.lists.segments.items inside.lists.pins.items inside.lists.staged.items inside.run inside.paid inside.seat begun.0 0 c.args.frag.len was next c.requires.filled.0 f (length-run 0 c.args.frag.len front fits) c.append_run.new.text.items test c.append_run.ensures.items),
+      record {
+        text = omega (arith, c.self.invariant.1.text, c.append_run.ensures.capacity);
+        segments = c.self.invariant.1.segments;
+        pins = c.self.invariant.1.pins;
+      },
+    )

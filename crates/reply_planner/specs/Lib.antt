@@ -1,0 +1,10 @@
+pub mod Places
+pub mod Owned
+pub mod Stages
+pub mod Filled
+pub mod Parcels
+pub mod Told
+pub mod Laid
+pub mod Planned
+pub mod Plans
+pub mod Sealed

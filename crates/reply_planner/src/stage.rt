@@ -1,0 +1,192 @@
+ghost use Rattle.std.specs.Prelude.{
+  ◌≡◌,
+  ◌+◌,
+  ◌*◌,
+  ◌≤◌,
+  [],
+  length,
+  take,
+  drop,
+  vec_len,
+  vec_capacity,
+  IfOk,
+  IfErr,
+  OnOk,
+  OnErr,
+};
+ghost use Rattle.view_sums.specs.Total.{Each};
+ghost use Rattle.pin_core.specs.declared.class.Class.TheVariants.{Small};
+ghost use Rattle.pinned_pool.specs.Classes.{just};
+ghost use Rattle.pinned_pool.specs.Sought.{Sought};
+ghost use Rattle.reply_planner.specs.Owned.{AreOwn, IsStaging, keys_for, buffers_of};
+ghost use Rattle.reply_planner.specs.Stages.{
+  stage_size,
+  IsOrdered,
+  inserted,
+  merged,
+  IsOpened,
+  WhyUnopened,
+  IsClosed,
+  found_none,
+};
+
+use crate::error::OpenError;
+use crate::lists::Lists;
+use flake_base::Memory;
+use pinned_pool::{Class, Hold, Pool, PoolName, PoolSeat};
+use reply_layout::Need;
+use std::alloc::Global;
+use std::marker::Model;
+
+/// How many staging buffers a session has.
+pub const STAGE_SIZE: usize = 128;
+
+/// The staging buffers of a session that no reply uses. Contracts see them in ascending order.
+///
+/// The session's seat has an exclusive hold of each.
+#[derive(Drop)]
+pub struct Stage<N: PoolName> {
+    // In descending order, so that the last one has the least address.
+    pub(crate) free: Vec<Hold<N>>,
+    // Lists that came back.
+    pub(crate) spare: Vec<Lists<N>>,
+    pub(crate) alloc: Global,
+}
+
+impl<N: PoolName> Model for Stage<N> {
+    ghost use Rattle.std.specs.Prelude.{ℕ, List, ◌≤◌, length, reverse, vec_len, vec_capacity};
+    ghost use Rattle.view_sums.specs.Total.{Each};
+    ghost use Rattle.reply_planner.specs.Owned.{IsStaging, buffers_of};
+    ghost use Rattle.reply_planner.specs.Stages.{IsOrdered};
+
+    ghost Value = { List ℕ };
+
+    ghost view = { λ s. buffers_of (reverse s.free.items) };
+
+    ghost invariant = { λ s. Each (IsStaging N.sizes) s.free.items × (128 ≤ vec_capacity s.free)
+        × (length s.free.items ≤ 128) × IsOrdered (buffers_of (reverse s.free.items)) };
+}
+
+impl<N: PoolName> Stage<N> {
+    /// Claims 128 small buffers.
+    pub fn open(
+        alloc: Global,
+        pool: &Pool<N>,
+        seat: &mut PoolSeat<N>,
+    ) -> Result<Stage<N>, OpenError>
+        ensures opened { IfOk result (λ s. IsOpened N.sizes s seat.old seat.new) }
+        ensures refused { IfErr result (λ e. WhyUnopened N.sizes e seat.old seat.new) }
+        ensures sought { Sought N.sizes (just Small stage_size) (found_none result) seat.old seat.new }
+    {
+        let mut holds = Vec::with_capacity(alloc, STAGE_SIZE)?;
+        let mut stage = Stage {
+            free: Vec::with_capacity(alloc, STAGE_SIZE)?,
+            spare: Vec::with_capacity(alloc, STAGE_SIZE)?,
+            alloc,
+        };
+        if let Err(none) = pool.claim_each(seat, Class::Small, STAGE_SIZE, &mut holds) {
+            pool.unclaim(seat, &mut holds);
+            return Err(OpenError::NoBuffer(none));
+        }
+        seat.is_seat();
+        stage.put_all(&mut holds);
+        Ok(stage)
+    }
+
+    /// How many staging buffers are free.
+    pub fn free(&self) -> u32
+        ensures free { result ≡ length self.now }
+        ensures few { result ≤ stage_size }
+        ensures ordered { IsOrdered self.now }
+    {
+        self.free.len() as u32
+    }
+
+    /// Gives all holds back.
+    pub fn close(self, pool: &Pool<N>, seat: &mut PoolSeat<N>)
+        requires all { length self ≡ stage_size }
+        requires own { AreOwn seat.old.holds self }
+        ensures { IsClosed self seat.old seat.new }
+    {
+        let mut stage = self;
+        while let Some(hold) = stage.free.pop() {
+            pool.unpin(seat, hold);
+        }
+    }
+
+    /// Lends lists with room for a reply, and the holds of its staging buffers: the first ones.
+    pub(crate) fn lend(&mut self, need: Need) -> Result<Lists<N>, Memory>
+        requires { need.stage ≤ length self.old }
+        ensures rest { OnOk result (self.new ≡ drop need.stage self.old) }
+        ensures staged { IfOk result (λ l. l.staged.items ≡ keys_for (take need.stage self.old)) }
+        ensures staging { IfOk result (λ l. Each (IsStaging N.sizes) l.staged.items) }
+        ensures empty { IfOk result (λ l. (l.text.items ≡ []) × (l.segments.items ≡ []) × (l.pins.items ≡ [])) }
+        ensures text { IfOk result (λ l. 512 * need.stage ≤ vec_capacity l.text) }
+        ensures room { IfOk result (λ l.
+            (need.descriptors ≤ vec_capacity l.segments) × (need.descriptors ≤ vec_capacity l.pins)) }
+        ensures memory { OnErr result (self.new ≡ self.old) }
+    {
+        let mut lists = match self.spare.pop() {
+            Some(lists) => lists,
+            None => Lists::new(self.alloc),
+        };
+        lists.clear();
+        lists.reserve(need)?;
+        self.move_least(need.stage as usize, &mut lists.staged);
+        Ok(lists)
+    }
+
+    // Moves the holds of the first buffers out.
+    fn move_least(&mut self, count: usize, staged: &mut Vec<Hold<N>>)
+        requires count { count ≤ length self.old }
+        requires room { (staged.old.items ≡ []) × (count ≤ vec_capacity staged.old) }
+        ensures rest { self.new ≡ drop count self.old }
+        ensures staged { staged.new.items ≡ keys_for (take count self.old) }
+        ensures staging { Each (IsStaging N.sizes) staged.new.items }
+    {
+        while staged.len() < count {
+            if let Some(hold) = self.free.pop() {
+                staged.push_reserved(hold);
+            }
+        }
+    }
+
+    // Puts a hold in its place.
+    pub(crate) fn put(&mut self, hold: Hold<N>)
+        requires staging { IsStaging N.sizes hold }
+        requires room { length self.old + 1 ≤ stage_size }
+        ensures { self.new ≡ inserted hold.buffer self.old }
+    {
+        let mut place = self.free.len();
+        while place > 0 && self.free[place - 1].buffer() < hold.buffer() {
+            place -= 1;
+        }
+        // There is room, so it doesn't fail.
+        let _ = self.free.insert(place, hold);
+    }
+
+    // Puts several holds in their places.
+    pub(crate) fn put_all(&mut self, holds: &mut Vec<Hold<N>>)
+        requires staging { Each (IsStaging N.sizes) holds.old.items }
+        requires room { length self.old + length holds.old.items ≤ stage_size }
+        ensures stage { self.new ≡ merged (buffers_of holds.old.items) self.old }
+        ensures none { holds.new.items ≡ [] }
+    {
+        while let Some(hold) = holds.pop() {
+            self.put(hold);
+        }
+    }
+
+    /// Takes lists back, with the staging buffers in them.
+    pub(crate) fn restore(&mut self, lists: Lists<N>)
+        requires staging { Each (IsStaging N.sizes) lists.staged.items }
+        requires room { length self.old + length lists.staged.items ≤ stage_size }
+        ensures { self.new ≡ merged (buffers_of lists.staged.items) self.old }
+    {
+        let mut lists = lists;
+        self.put_all(&mut lists.staged);
+        if self.spare.len() < self.spare.capacity() {
+            self.spare.push_reserved(lists);
+        }
+    }
+}
