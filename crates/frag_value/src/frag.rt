@@ -3,6 +3,7 @@ ghost use Rattle.frag_value.specs.Values.{size_of, IsValue};
 ghost use Rattle.pinned_pool.specs.Moves.{loose_key};
 
 use pinned_pool::{Hold, NamesHolds, PoolName};
+use std::alloc::Global;
 use std::marker::Model;
 
 /// Bytes at the beginning of a buffer.
@@ -33,6 +34,16 @@ impl<N: PoolName> Model for Value<N> {
 }
 
 impl<N: PoolName> Value<N> {
+    /// No bytes, in no fragments. It takes no memory.
+    pub fn empty(alloc: Global) -> Self
+        ensures { result ≡ [] }
+    {
+        Value {
+            frags: Vec::new(alloc),
+            len: 0,
+        }
+    }
+
     /// How many bytes it has.
     pub fn len(&self) -> u64
         ensures size { result ≡ size_of self.now }

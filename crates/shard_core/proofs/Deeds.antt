@@ -1,0 +1,95 @@
+-- What the parts do, by the definitions.
+use Rattle.std.proofs.Common.{◌≡◌, ℕ, Bool, true, false, cond, List, [], ◌++◌, length, Option, None, Some, is_some, refl, sym, ap, ◌∙◌, subst, append-nil}
+use Rattle.std.specs.Option.{option_map}
+use Rattle.std.specs.FinMap as finite
+use Rattle.pin_core.specs.Holding.{Holding}
+use Rattle.pin_core.specs.declared.sizes.Sizes.{Sizes}
+use Rattle.flake_base.specs.declared.segment.Seg.{Seg}
+use Rattle.flake_model.specs.Store.{Store, When, always, if_missing, if_present, Operation, set, Answer, keeps, puts, removes, found, done, missing, stores, key_of, answer, change_by, changed, bytes_at, first_at}
+use Rattle.flake_model.specs.Deed.{Places, places_at, placed, kept_fragments, AreStored}
+use Rattle.frag_value.specs.Values.{IsCut, value_bytes}
+use Rattle.frag_value.specs.Taken.{entire, Piece}
+use Rattle.shard_core.specs.Kept.{Entries, Frags, value_at, frags_of, bytes_kept, Agrees, addresses_of, segs_of}
+use Rattle.shard_core.specs.Answers.{shown, old_answer}
+use Rattle.shard_core.specs.Pieces.{pieces_at, pieces_of}
+use Rattle.shard_core.specs.Done.{IsDone}
+use Rattle.shard_core.specs.declared.answer.PartAnswer.{PartAnswer}
+use Rattle.shard_core.proofs.Holds.{places_of}
+use Rattle.shard_core.proofs.Runs.{segs-cut, count-addresses}
+
+same_old : (f g : Frags → List ℕ) (o : Option Frags) → f (frags_of o) ≡ g (frags_of o) → option_map f o ≡ option_map g o
+same_old f g None e = refl
+same_old f g (Some v) e = ap Some e
+
+pub present : {X Y : Type 0} (f : X → Y) (o : Option X) → is_some (option_map f o) ≡ is_some o
+present f None = refl
+present f (Some v) = refl
+
+pub is_there : (z : Sizes) (es : Entries) (hs : List Holding) (s : Store) (p : Places) (key : List ℕ) → Agrees z es hs s p → is_some (finite.get s key) ≡ is_some (value_at key es)
+is_there z es hs s p key a = ap is_some (sym (a.bytes key)) ∙ present (value_bytes hs) (value_at key es)
+
+-- a set that stores over a value hands it over
+over_pieces : (w : When) (asks : Bool) (key bytes : List ℕ) (o : Option (List ℕ)) (were : List ℕ) → stores w o ≡ true
+    → pieces_at entire true (old_answer asks o) were 0 ≡ pieces_of (set w asks key bytes) (old_answer asks o) were 0
+over_pieces always asks key bytes o were e = refl
+over_pieces if_present asks key bytes o were e = refl
+over_pieces if_missing true key bytes None were e = refl
+over_pieces if_missing false key bytes None were e = refl
+over_pieces if_missing asks key bytes (Some v) were e = absurd (cc)
+
+module _ (z : Sizes) (w : When) (asks : Bool) (key bytes : List ℕ) (s : Store) (p : Places) (es now : Entries) (hs mid holds : List Holding) (said : PartAnswer) (segs0 segs1 : List Seg) (t0 t1 : List Piece)
+    (a : Agrees z es hs s p) where
+  -- a set that stores
+  pub set_done : (old : Option Frags) (v : Frags) → stores w (bytes_kept key es hs) ≡ true → old ≡ value_at key es → value_bytes mid (frags_of old) ≡ value_bytes hs (frags_of old)
+      → said ≡ shown (old_answer asks (option_map (value_bytes mid) old))
+      → t1 ≡ t0 ++ pieces_at entire true (old_answer asks (option_map (value_bytes mid) old)) (addresses_of z (frags_of old)) 0
+      → segs1 ≡ segs0 ++ segs_of z v → IsCut (length bytes) v
+      → Agrees z now holds (finite.insert s key bytes) (finite.insert p key (addresses_of z v))
+      → IsDone z (set w asks key bytes) s p now holds said segs0 segs1 t0 t1
+  set_done old v does was same says taken segs cut agrees =
+      let stored : List ℕ = addresses_of z v in
+      let there : option_map (value_bytes mid) old ≡ finite.get s key = same_old (value_bytes mid) (value_bytes hs) old same ∙ ap (option_map (value_bytes hs)) was ∙ a.bytes key in
+      let yes : stores w (finite.get s key) ≡ true = ap (stores w) (sym (a.bytes key)) ∙ does in
+      let answer_is : answer s (set w asks key bytes) ≡ old_answer asks (finite.get s key) = ap (λ t. cond asks (found (finite.get s key)) (cond t done missing)) yes in
+      let change_is : change_by s (set w asks key bytes) ≡ puts bytes = ap (λ t. cond t (puts bytes) keeps) yes in
+      let places = places_of z es hs s p key a ∙ ap (λ o. addresses_of z (frags_of o)) (sym was) in
+      record {
+        stored = stored;
+        says = says ∙ ap (λ o. shown (old_answer asks o)) there ∙ ap shown (sym answer_is);
+        agrees = subst (λ what. Agrees z now holds (changed s key what) (placed p key what stored)) (sym change_is) agrees;
+        stored_is = subst (λ what. AreStored what 0 (places_at p key) stored) (sym change_is) (count-addresses z bytes v cut, refl);
+        segs_are = segs ∙ ap (λ l. segs0 ++ l) (segs-cut z (length bytes) v cut);
+        pieces = taken ∙ ap (λ l. t0 ++ l) ((λ i. pieces_at entire true (old_answer asks (there i)) (sym places i) 0) ∙ over_pieces w asks key bytes (finite.get s key) (places_at p key) yes ∙ ap (λ x. pieces_of (set w asks key bytes) x (places_at p key) 0) (sym answer_is));
+      }
+
+-- a part that changes nothing
+pub same_done : (z : Sizes) (operation : Operation) (s : Store) (p : Places) (now : Entries) (holds : List Holding) (said : PartAnswer) (segs0 segs1 : List Seg) (t0 t1 : List Piece) (says_is : Answer)
+    → change_by s operation ≡ keeps → answer s operation ≡ says_is → said ≡ shown says_is → Agrees z now holds s p → segs1 ≡ segs0
+    → t1 ≡ t0 ++ pieces_of operation says_is (places_at p (key_of operation)) (first_at s operation)
+    → IsDone z operation s p now holds said segs0 segs1 t0 t1
+same_done z operation s p now holds said segs0 segs1 t0 t1 says_is change_is answer_is says agrees segs taken =
+    let key : List ℕ = key_of operation in
+    record {
+      stored = [];
+      says = says ∙ ap shown (sym answer_is);
+      agrees = subst (λ what. Agrees z now holds (changed s key what) (placed p key what [])) (sym change_is) agrees;
+      stored_is = subst (λ what. AreStored what (kept_fragments (bytes_at s key) operation) (places_at p key) []) (sym change_is) refl;
+      segs_are = segs ∙ sym (append-nil segs0);
+      pieces = taken ∙ ap (λ l. t0 ++ l) (ap (λ x. pieces_of operation x (places_at p key) (first_at s operation)) (sym answer_is));
+    }
+
+-- a key that goes
+pub gone_done : (z : Sizes) (operation : Operation) (s : Store) (p : Places) (now : Entries) (holds : List Holding) (said : PartAnswer) (segs : List Seg) (t : List Piece) (says_is : Answer)
+    → change_by s operation ≡ removes → answer s operation ≡ says_is → said ≡ shown says_is → Agrees z now holds (finite.remove s (key_of operation)) (finite.remove p (key_of operation))
+    → pieces_of operation says_is (places_at p (key_of operation)) (first_at s operation) ≡ []
+    → IsDone z operation s p now holds said segs segs t t
+gone_done z operation s p now holds said segs t says_is change_is answer_is says agrees none =
+    let key : List ℕ = key_of operation in
+    record {
+      stored = [];
+      says = says ∙ ap shown (sym answer_is);
+      agrees = subst (λ what. Agrees z now holds (changed s key what) (placed p key what [])) (sym change_is) agrees;
+      stored_is = subst (λ what. AreStored what (kept_fragments (bytes_at s key) operation) (places_at p key) []) (sym change_is) refl;
+      segs_are = sym (append-nil segs);
+      pieces = sym (append-nil t) ∙ ap (λ l. t ++ l) (sym none ∙ ap (λ x. pieces_of operation x (places_at p key) (first_at s operation)) (sym answer_is));
+    }

@@ -1,0 +1,9 @@
+pub mod Entries
+pub mod Changed
+pub mod Holds
+pub mod Runs
+pub mod Carried
+pub mod Brought
+pub mod Extended
+pub mod Deeds
+pub mod Appends

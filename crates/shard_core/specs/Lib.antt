@@ -1,0 +1,9 @@
+pub mod Keys
+pub mod Kept
+pub mod Answers
+pub mod Pieces
+pub mod Demand
+pub mod Paid
+pub mod Moved
+pub mod Done
+pub mod Shelves

@@ -1,0 +1,48 @@
+-- What a part costs the seat that pays.
+use Rattle.std.specs.Prelude.{◌≡◌, ℕ, ◌+◌, ◌<◌, List, [], ◌++◌, length}
+use Rattle.pin_core.specs.Buffers.{buffers}
+use Rattle.pin_core.specs.declared.sizes.Sizes.{Sizes}
+use Rattle.pin_core.specs.declared.class.Class.{Class}
+use Rattle.pinned_pool.specs.Claims.{count_of}
+use Rattle.pinned_pool.specs.Classes.{class_at, buffers_in}
+use Rattle.pinned_pool.specs.Sought.{Sought}
+use Rattle.pinned_pool.specs.Views.{looked_at}
+use Rattle.pinned_pool.specs.declared.pool.NoBuffer.{NoBuffer}
+use Rattle.pinned_pool.specs.declared.view.View.{View}
+use Rattle.flake_model.specs.Store.{Operation, append}
+use Rattle.frag_value.specs.Fragments.{value_limit}
+use Rattle.frag_value.specs.Values.{size_of}
+use Rattle.frag_value.specs.declared.error.AppendError.{AppendError}
+use Rattle.frag_value.specs.declared.error.AppendError.TheVariants as unadded
+use Rattle.frag_value.specs.declared.error.PlaceError.{PlaceError}
+use Rattle.frag_value.specs.declared.error.PlaceError.TheVariants as unplaced
+use Rattle.shard_core.specs.Kept.{Frags}
+use Rattle.shard_core.specs.Demand.{part_row}
+
+-- Holds, credits and returns are as before. Claims and looks only grew: within these rows, and so many requests found no
+-- buffer.
+pub record IsPaid (z : Sizes) (rows : Class → ℕ) (requests : ℕ) (old new : View) : Type 0 where
+  pub holds : new.holds ≡ old.holds
+  pub credits : new.credits ≡ old.credits
+  pub returns : new.returns ≡ old.returns
+  pub claims : (more : List ℕ) × (new.claims ≡ old.claims ++ more)
+  pub looks : (more : List (ℕ × ℕ)) × (new.looks ≡ old.looks ++ more)
+  pub sought : Sought z rows requests old new
+
+-- each buffer of the class was found held once more, and fewer of them were claimed than the part's row says
+pub record HasNone (z : Sizes) (operation : Operation) (none : NoBuffer) (old new : View) : Type 0 where
+  pub looked : none.looked ≡ count_of z none.class
+  pub found : (b : ℕ) → b < buffers z → class_at z b ≡ none.class → looked_at b old.looks < looked_at b new.looks
+  pub fewer : buffers_in z none.class new.claims
+      < buffers_in z none.class old.claims + part_row none.class operation
+
+-- why a part is refused
+abbrev pub WhyRefused : Sizes → Operation → PlaceError → View → View → Type 0
+WhyRefused z operation (unplaced.NoBuffer none) old new = HasNone z operation none old new
+WhyRefused z operation unplaced.Memory old new = Unit {0}
+
+-- why bytes are not appended
+abbrev pub WhyUnadded : Sizes → Frags → List ℕ → AppendError → View → View → Type 0
+WhyUnadded z v bytes (unadded.TooLong n) old new = value_limit < size_of v + length bytes
+WhyUnadded z v bytes (unadded.NoBuffer none) old new = HasNone z (append [] bytes) none old new
+WhyUnadded z v bytes unadded.Memory old new = Unit {0}

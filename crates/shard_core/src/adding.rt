@@ -1,0 +1,154 @@
+//! Appends.
+ghost use Rattle.std.specs.Prelude.{◌≡◌, ◌<◌, ◌≤◌, List, Some, None, length, IfErr, OnErr};
+ghost use Rattle.indexmap.specs.IndexMap.{index_of_by};
+ghost use Rattle.flake_model.specs.Store.{append as append_op};
+ghost use Rattle.frag_value.specs.Changes.{found_none};
+ghost use Rattle.frag_value.specs.Fragments.{value_limit, frags_limit};
+ghost use Rattle.frag_value.specs.Taken.{Piece};
+ghost use Rattle.pin_core.specs.declared.class.Class.{Class};
+ghost use Rattle.shard_core.specs.Demand.{part_row};
+ghost use Rattle.shard_core.specs.Done.{Does, StandsAsBefore};
+ghost use Rattle.shard_core.specs.Keys.{is_key};
+ghost use Rattle.shard_core.specs.Kept.{IsKept, value_at};
+ghost use Rattle.shard_core.specs.Answers.{outcome_of};
+ghost use Rattle.shard_core.specs.Paid.{IsPaid, WhyRefused};
+
+use crate::answer::PartAnswer;
+use crate::carrying::extend;
+use crate::kept::{Kept, exchange};
+use crate::placing::place;
+use crate::showing::show;
+use flake_base::Segs;
+use frag_value::{AppendError, PlaceError, Value};
+use pinned_pool::{Pool, PoolName, PoolSeat};
+use std::alloc::Global;
+
+// Bytes for a key that is missing.
+fn add_first<P: PoolName>(
+    alloc: Global,
+    pool: &Pool<P>,
+    kept: &mut Kept<P>,
+    payer: &mut PoolSeat<P>,
+    key: &[u8],
+    bytes: &[u8],
+    stored: &mut Segs,
+) -> Result<PartAnswer, PlaceError>
+    requires kept { IsKept P.sizes kept.old.values.entries kept.old.own }
+    requires missing { index_of_by (is_key key.now) kept.old.values ≡ None }
+    requires few { length bytes.now ≤ value_limit }
+    requires credits { 1 < payer.old.credits }
+    requires spare { frags_limit ≤ stored.old.spare }
+    ensures kept { IsKept P.sizes kept.new.values.entries kept.new.own }
+    ensures done { (t : List Piece) → Does P.sizes (append_op key.now bytes.now)
+        kept.old.values.entries kept.old.own.holds kept.new.values.entries kept.new.own.holds result
+        stored.old.items stored.new.items t t }
+    ensures same { StandsAsBefore P.sizes kept.old.values.entries kept.old.own.holds
+        kept.new.values.entries kept.new.own.holds result }
+    ensures untold { OnErr result (stored.new.items ≡ stored.old.items) }
+    ensures cause { IfErr result (λ e. WhyRefused P.sizes (append_op key.now bytes.now) e payer.old payer.new) }
+    ensures paid { IsPaid P.sizes (λ (class : Class). part_row class (append_op key.now bytes.now)) (found_none result)
+        payer.old payer.new }
+{
+    let none = match place(
+        alloc, pool, kept, payer, key, None, bytes, stored,
+    ) {
+        Ok(none) => none,
+        Err(error) => return Err(error),
+    };
+    let length = bytes.len() as u64;
+    let _ = none;
+    Ok(PartAnswer::Length(length))
+}
+
+// Why the append is refused, unless it is its answer.
+fn refused(error: AppendError) -> Result<PartAnswer, PlaceError>
+    ensures { result ≡ outcome_of error }
+{
+    match error {
+        AppendError::TooLong { length: _ } => Ok(PartAnswer::TooLong),
+        AppendError::NoBuffer(none) => Err(PlaceError::NoBuffer(none)),
+        AppendError::Memory => Err(PlaceError::Memory),
+    }
+}
+
+// Bytes behind the value that the key has at this index. While it is away, an empty value has its place.
+fn add_more<P: PoolName>(
+    alloc: Global,
+    pool: &Pool<P>,
+    kept: &mut Kept<P>,
+    payer: &mut PoolSeat<P>,
+    key: &[u8],
+    index: usize,
+    bytes: &[u8],
+    stored: &mut Segs,
+) -> Result<PartAnswer, PlaceError>
+    requires kept { IsKept P.sizes kept.old.values.entries kept.old.own }
+    requires there { index_of_by (is_key key.now) kept.old.values ≡ Some index }
+    requires few { length bytes.now ≤ value_limit }
+    requires credits { 1 < payer.old.credits }
+    requires spare { frags_limit ≤ stored.old.spare }
+    ensures kept { IsKept P.sizes kept.new.values.entries kept.new.own }
+    ensures done { (t : List Piece) → Does P.sizes (append_op key.now bytes.now)
+        kept.old.values.entries kept.old.own.holds kept.new.values.entries kept.new.own.holds result
+        stored.old.items stored.new.items t t }
+    ensures same { StandsAsBefore P.sizes kept.old.values.entries kept.old.own.holds
+        kept.new.values.entries kept.new.own.holds result }
+    ensures untold { OnErr result (stored.new.items ≡ stored.old.items) }
+    ensures cause { IfErr result (λ e. WhyRefused P.sizes (append_op key.now bytes.now) e payer.old payer.new) }
+    ensures paid { IsPaid P.sizes (λ (class : Class). part_row class (append_op key.now bytes.now)) (found_none result)
+        payer.old payer.new }
+{
+    kept.own.is_seat();
+    let old = exchange(
+        &mut kept.values,
+        key,
+        index,
+        Value::empty(alloc),
+    );
+    old.is_value();
+    match extend(alloc, pool, &mut kept.own, payer, old, bytes) {
+        Ok(value) => {
+            let length = value.len();
+            show(pool, &value, stored);
+            let _ = exchange(&mut kept.values, key, index, value);
+            Ok(PartAnswer::Length(length))
+        }
+        Err((error, value)) => {
+            let _ = exchange(&mut kept.values, key, index, value);
+            refused(error)
+        }
+    }
+}
+
+/// Puts bytes behind what the key has.
+pub(crate) fn add<P: PoolName>(
+    alloc: Global,
+    pool: &Pool<P>,
+    kept: &mut Kept<P>,
+    payer: &mut PoolSeat<P>,
+    key: &[u8],
+    bytes: &[u8],
+    stored: &mut Segs,
+) -> Result<PartAnswer, PlaceError>
+    requires kept { IsKept P.sizes kept.old.values.entries kept.old.own }
+    requires few { length bytes.now ≤ value_limit }
+    requires credits { 1 < payer.old.credits }
+    requires spare { frags_limit ≤ stored.old.spare }
+    ensures kept { IsKept P.sizes kept.new.values.entries kept.new.own }
+    ensures done { (t : List Piece) → Does P.sizes (append_op key.now bytes.now)
+        kept.old.values.entries kept.old.own.holds kept.new.values.entries kept.new.own.holds result
+        stored.old.items stored.new.items t t }
+    ensures same { StandsAsBefore P.sizes kept.old.values.entries kept.old.own.holds
+        kept.new.values.entries kept.new.own.holds result }
+    ensures untold { OnErr result (stored.new.items ≡ stored.old.items) }
+    ensures cause { IfErr result (λ e. WhyRefused P.sizes (append_op key.now bytes.now) e payer.old payer.new) }
+    ensures paid { IsPaid P.sizes (λ (class : Class). part_row class (append_op key.now bytes.now)) (found_none result)
+        payer.old payer.new }
+{
+    match kept.values.get_index_of(key) {
+        Some(index) => add_more(
+            alloc, pool, kept, payer, key, index, bytes, stored,
+        ),
+        None => add_first(alloc, pool, kept, payer, key, bytes, stored),
+    }
+}

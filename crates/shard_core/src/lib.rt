@@ -1,0 +1,18 @@
+//! One shard of the store: a map from keys to values whose fragments its seat holds, and what a part of a command does
+//! to it.
+#![tactic(auto)]
+
+mod adding;
+mod answer;
+mod applying;
+mod carrying;
+mod giving;
+mod kept;
+mod placing;
+mod reading;
+mod setting;
+mod shelf;
+mod showing;
+
+pub use answer::PartAnswer;
+pub use shelf::Shelf;

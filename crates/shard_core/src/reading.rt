@@ -1,0 +1,113 @@
+//! Parts that change nothing.
+ghost use Rattle.std.specs.Prelude.{◌≡◌, ◌+◌, ◌<◌, ◌≤◌, ◌++◌, None, length, is_some, false};
+ghost use Rattle.std.specs.FinMap as finite;
+ghost use Rattle.indexmap.specs.IndexMap.{index_of_by};
+ghost use Rattle.flake_model.specs.Range.{first_place, range_of};
+ghost use Rattle.flake_model.specs.Store.{Store, value as answered, found as answer_found, bytes_at};
+ghost use Rattle.flake_model.specs.Deed.{Places, places_at};
+ghost use Rattle.frag_value.specs.Taken.{entire, ranged};
+ghost use Rattle.shard_core.specs.Keys.{is_key};
+ghost use Rattle.shard_core.specs.Kept.{IsKept, Agrees, StillAgrees};
+ghost use Rattle.shard_core.specs.Pieces.{pieces_at};
+ghost use Rattle.shard_core.specs.Answers.{shown};
+
+use crate::answer::PartAnswer;
+use crate::kept::{Kept, Values, value_in};
+use frag_value::{Taker, hand, hand_range};
+use pinned_pool::{Pool, PoolName, PoolSeat};
+use range_pick::{Span, span};
+
+/// The value of a key, which was looked up, goes to the taker. Its holds stay.
+pub(crate) fn get<P: PoolName, T: Taker<P>>(
+    pool: &Pool<P>,
+    kept: &mut Kept<P>,
+    key: &[u8],
+    found: Option<usize>,
+    taker: &mut T,
+) -> PartAnswer
+    requires found { index_of_by (is_key key.now) kept.old.values ≡ found }
+    requires kept { IsKept P.sizes kept.old.values.entries kept.old.own }
+    requires room { 0 < T.room taker.old }
+    requires none { T.begun taker.old ≡ None }
+    ensures kept { IsKept P.sizes kept.new.values.entries kept.new.own }
+    ensures agrees { let hs = kept.old.own.holds in let now = kept.new.own.holds in
+        StillAgrees P.sizes kept.old.values.entries hs kept.new.values.entries now }
+    ensures says { (s : Store) (p : Places) → Agrees P.sizes kept.old.values.entries kept.old.own.holds s p
+        → result ≡ shown (answer_found (finite.get s key.now)) }
+    ensures taken { (s : Store) (p : Places) → Agrees P.sizes kept.old.values.entries kept.old.own.holds s p
+        → T.taken taker.new ≡ T.taken taker.old
+            ++ pieces_at entire false (answer_found (finite.get s key.now)) (places_at p key.now) 0 }
+    ensures none { T.begun taker.new ≡ None }
+    ensures base { T.base taker.new ≡ T.base taker.old }
+    ensures room { T.room taker.old + length (T.taken taker.old) ≤ T.room taker.new + length (T.taken taker.new) }
+{
+    match found {
+        Some(index) => {
+            let value = value_in(&kept.values, key, index);
+            value.is_value();
+            hand(pool, &mut kept.own, value, taker);
+            PartAnswer::Bulk
+        }
+        None => PartAnswer::Null,
+    }
+}
+
+/// A range of the value goes to the taker. A missing key has no bytes.
+pub(crate) fn get_range<P: PoolName, T: Taker<P>>(
+    pool: &Pool<P>,
+    kept: &mut Kept<P>,
+    key: &[u8],
+    start: i64,
+    end: i64,
+    taker: &mut T,
+) -> PartAnswer
+    requires kept { IsKept P.sizes kept.old.values.entries kept.old.own }
+    requires room { 0 < T.range_room taker.old }
+    requires none { T.begun taker.old ≡ None }
+    ensures kept { IsKept P.sizes kept.new.values.entries kept.new.own }
+    ensures agrees { let hs = kept.old.own.holds in let now = kept.new.own.holds in
+        StillAgrees P.sizes kept.old.values.entries hs kept.new.values.entries now }
+    ensures says { result ≡ PartAnswer.Bulk }
+    ensures taken { (s : Store) (p : Places) → Agrees P.sizes kept.old.values.entries kept.old.own.holds s p
+        → T.taken taker.new ≡ T.taken taker.old
+            ++ pieces_at ranged false (answered (range_of (bytes_at s key.now) start end)) (places_at p key.now)
+                (first_place (length (bytes_at s key.now)) start) }
+    ensures none { T.begun taker.new ≡ None }
+    ensures base { T.base taker.new ≡ T.base taker.old }
+    ensures room { T.range_room taker.old + length (T.taken taker.old)
+        ≤ T.range_room taker.new + length (T.taken taker.new) }
+{
+    match kept.values.get(key) {
+        Some(value) => {
+            value.is_value();
+            let Span { from, len } = span(value.len(), start, end);
+            hand_range(pool, &mut kept.own, value, from, len, taker);
+            PartAnswer::Bulk
+        }
+        None => {
+            taker.begin_part(0);
+            taker.finish();
+            PartAnswer::Bulk
+        }
+    }
+}
+
+pub(crate) fn exists<P: PoolName>(values: &Values<P>, own: &PoolSeat<P>, key: &[u8]) -> bool
+    ensures { (s : Store) (p : Places) → Agrees P.sizes values.now.entries own.now.holds s p
+        → result ≡ is_some (finite.get s key.now) }
+{
+    let _ = own;
+    values.contains_key(key)
+}
+
+/// How many bytes the key has.
+pub(crate) fn size<P: PoolName>(kept: &Kept<P>, key: &[u8]) -> u64
+    requires kept { IsKept P.sizes kept.now.values.entries kept.now.own }
+    ensures { (s : Store) (p : Places) → Agrees P.sizes kept.now.values.entries kept.now.own.holds s p
+        → result ≡ length (bytes_at s key.now) }
+{
+    match kept.values.get(key) {
+        Some(value) => value.len(),
+        None => 0,
+    }
+}
