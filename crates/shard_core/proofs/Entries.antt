@@ -96,8 +96,10 @@ others : {K X : Type 0} (eq : K → K → Bool) (test : K → Bool) (old new : L
 unfolding KeepsOthers
 others eq test old new h = h
 
-apart : (bs cs ks : List ℕ) → same_bytes bs cs ≡ false → same_bytes bs ks ≡ true → same_bytes cs ks ≡ false
-apart bs cs ks n y = nat_list_eq_equiv.symm cs ks ∙ sym (nat_list_eq_equiv.congr bs ks cs y) ∙ n
+other_key : (bs cs ks : List ℕ) → same_bytes bs cs ≡ false → same_bytes bs ks ≡ true → same_bytes cs ks ≡ false
+other_key bs cs ks differ same =
+    let one : bs ≡ ks = (bytes_decides bs ks).0 same in
+    ap (same_bytes cs) (sym one) ∙ nat_list_eq_equiv.symm cs bs ∙ differ
 
 -- after a change at the bytes bs, the map has w there and has elsewhere what it had
 pub updated : {S : Type 0} (bs : List ℕ) (m n : HashMap (Vec ℕ) Frags S) (w : Option Frags) → UpdatesBy key_eq (λ (k : Vec ℕ). same_bytes bs k.items) m n w
@@ -105,6 +107,6 @@ pub updated : {S : Type 0} (bs : List ℕ) (m n : HashMap (Vec ℕ) Frags S) (w 
 updated bs m n w h cs =
     ⊎_elim
     (λ y. subst (λ l. value_at l n.entries ≡ w) ((bytes_decides bs cs).0 y) h.1 ∙ sym (cond-true (same_bytes bs cs) w (value_at cs m.entries) y))
-    (λ no. others key_eq (λ (k : Vec ℕ). same_bytes bs k.items) m.entries n.entries h.3 (λ (k : Vec ℕ). same_bytes cs k.items) (λ x y. nat_list_eq_equiv.congr cs x.items y.items) (λ k. apart bs cs k.items no)
+    (λ no. others key_eq (λ (k : Vec ℕ). same_bytes bs k.items) m.entries n.entries h.3 (λ (k : Vec ℕ). same_bytes cs k.items) (λ x y. nat_list_eq_equiv.congr cs x.items y.items) (λ k. other_key bs cs k.items no)
     ∙ sym (cond-false (same_bytes bs cs) w (value_at cs m.entries) no))
     (cases_Bool (same_bytes bs cs))

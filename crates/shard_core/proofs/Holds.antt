@@ -120,9 +120,18 @@ module _ (z : Sizes) (es : Entries) (hs now : List Holding) (v : Frags) (fronts 
       ap (front_of c) gone ∙ front-left_by fronts c (keys_of v) hs one (subst (λ l. 0 < total (at c) l) gone there)) a.filled
 
   pub gone_held : AreHeld z es [] now
-  gone_held = record { values = a.values; filled = all_filled z es hs now gone_same; in_hand = tt;
-    exact = λ weight. omega (arith, ap (total (λ (h : Holding). weight (key_of h))) gone, total-left_by (λ (h : Holding). weight (key_of h)) (keys_of v) hs, total-map weight key_of (taken_by (keys_of v) hs),
-        ap (total weight) (taken_by-keys (keys_of v) hs (hand_keys z es v hs a)), a.exact weight);
+  gone_held = record {
+    values = a.values;
+    filled = all_filled z es hs now gone_same;
+    in_hand = tt;
+    exact = λ weight. omega (
+      arith,
+      ap (total (λ (h : Holding). weight (key_of h))) gone,
+      total-left_by (λ (h : Holding). weight (key_of h)) (keys_of v) hs,
+      total-map weight key_of (taken_by (keys_of v) hs),
+      ap (total weight) (taken_by-keys (keys_of v) hs (hand_keys z es v hs a)),
+      a.exact weight,
+    );
   }
 
   pub gone_agrees : (s : Store) (p : Places) → Agrees z es hs s p → Agrees z es now s p
@@ -138,8 +147,13 @@ module _ (z : Sizes) (es : Entries) (hand : Frags) (v w : View) (same : unmarked
     values = a.values;
     filled = all_filled z es v.holds w.holds marked_same;
     in_hand = (each_there v.holds w.holds hand (λ c some. same_front c v w same) a.in_hand).0;
-    exact = λ weight. omega (arith, total-map (λ (h : Holding). weight (key_of h)) unmarked w.holds, ap (λ (u : View). total (λ (h : Holding). weight (key_of h)) u.holds) same,
-        total-map (λ (h : Holding). weight (key_of h)) unmarked v.holds, a.exact weight);
+    exact = λ weight. omega (
+      arith,
+      total-map (λ (h : Holding). weight (key_of h)) unmarked w.holds,
+      ap (λ (u : View). total (λ (h : Holding). weight (key_of h)) u.holds) same,
+      total-map (λ (h : Holding). weight (key_of h)) unmarked v.holds,
+      a.exact weight,
+    );
   }
 
   pub marked_agrees : (s : Store) (p : Places) → Agrees z es v.holds s p → Agrees z es w.holds s p
@@ -273,17 +287,29 @@ module _ (z : Sizes) (es : Entries) (hs : List Holding) (a : AreHeld z es [] hs)
       choose first second same_buffer true e =
           let one_key : key ≡ other = (bytes_decides key other).0 e in
           let both : Some first.0 ≡ Some second.0 = sym first.1 ∙ ap (λ k. value_at k es) one_key ∙ second.1 in
-          let one_value : first.0 ≡ second.0 = cc in
-          (one_key, dite (ℕ_discrete n m) (λ d. d) (λ ne. absurd (omega (arith,
+          let one_value : first.0 ≡ second.0 = cc in (
+            one_key,
+            dite (ℕ_discrete n m) (λ d. d) (λ ne. absurd (omega (
+              arith,
               uses-two second.2.part.0 second.0 n m first.2.part second.2.part ne (subst (λ v. slice_get v n ≡ Some first.2.part) one_value first.2.there) second.2.there same_buffer refl,
-              asked-loose second.2.part.0 second.0, found-le (asks (loose_key second.2.part.0)) (is_key other) es second.0 second.1, once second.2.part.0))))
+              asked-loose second.2.part.0 second.0,
+              found-le (asks (loose_key second.2.part.0)) (is_key other) es second.0 second.1,
+              once second.2.part.0,
+            ))),
+          )
       choose first second same_buffer false e =
           let b : ℕ = second.2.part.0 in
-          absurd (omega (arith,
-              uses-one b first.0 n first.2.part first.2.there same_buffer, uses-one b second.0 m second.2.part second.2.there refl, asked-loose b first.0, asked-loose b second.0,
-              two-le (asks (loose_key b)) (is_key key) (is_key other)
-              (λ k y w. let one : key ≡ k.items = (bytes_decides key k.items).0 y in let two : other ≡ k.items = (bytes_decides other k.items).0 w in let yes : same_bytes key other ≡ true = (bytes_decides key other).1 (one ∙ sym two) in let no = sym yes ∙ e in absurd (cc))
-              es first.0 second.0 first.1 second.1, once b))
+          absurd (omega (
+            arith,
+            uses-one b first.0 n first.2.part first.2.there same_buffer,
+            uses-one b second.0 m second.2.part second.2.there refl,
+            asked-loose b first.0,
+            asked-loose b second.0,
+            two-le (asks (loose_key b)) (is_key key) (is_key other)
+                (λ k y w. let one : key ≡ k.items = (bytes_decides key k.items).0 y in let two : other ≡ k.items = (bytes_decides other k.items).0 w in let yes : same_bytes key other ≡ true = (bytes_decides key other).1 (one ∙ sym two) in let no = sym yes ∙ e in absurd (cc))
+                es first.0 second.0 first.1 second.1,
+            once b,
+          ))
 
 pub poor-marked : (v w : View) → unmarked_view w ≡ unmarked_view v → IsPoor v → IsPoor w
 poor-marked v w same p = record {

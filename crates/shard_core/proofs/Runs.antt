@@ -90,7 +90,7 @@ take-same a b (x ∷ xs) (inr none) = absurd (omega (arith, none))
 
 some-runs : (over : Bool) (address : ℕ) (addresses : List ℕ) (offset : ℕ) (bytes : List ℕ) → 0 < length bytes
     → runs_over over (address ∷ addresses) offset bytes
-        ≡ record { address = address; offset = offset; bytes = take (4096 - offset) bytes; over = over } ∷ runs_over over addresses 0 (drop (4096 - offset) bytes)
+    ≡ record { address = address; offset = offset; bytes = take (4096 - offset) bytes; over = over } ∷ runs_over over addresses 0 (drop (4096 - offset) bytes)
 some-runs over address addresses offset [] some = absurd (omega (arith, some))
 some-runs over address addresses offset (b ∷ bytes) some = refl
 
@@ -124,7 +124,7 @@ module _ (z : Sizes) (hs : List Holding) where
   -- a whole value
   runs-whole : (over : Bool) (n : ℕ) (v : Frags) → IsCut n v → Each (IsFilled hs) v
       → map (λ (p : ℕ × ℕ). let run : Placed = record { address = address_of z p.0; offset = 0; bytes = frag_bytes hs p; over = over } in run) v
-          ≡ runs_over over (addresses_of z v) 0 (value_bytes hs v)
+      ≡ runs_over over (addresses_of z v) 0 (value_bytes hs v)
   runs-whole over n [] cut filled = refl
   runs-whole over n (p ∷ v) cut filled =
       let both = behind-first p v n cut filled.0 in
@@ -170,16 +170,16 @@ module _ (z : Sizes) (hs : List Holding) where
         let front_long : length front ≡ p.1 - from = omega (arith, length-drop from (frag_bytes hs p), long) in
         let count : length bytes ≡ size = omega (arith, length-take size (drop from all), length-drop from all, length-append (frag_bytes hs p) (value_bytes hs v), long, length-bytes-value hs v filled.1, inside) in
         let first_bytes : take (4096 - from) bytes ≡ take m (drop from (bytes_of (front_of p.0 hs))) =
-            take-twice (4096 - from) size m (drop from all) (omega (arith, inside, cut.0, cut.1, rest_size, near))
-            ∙ ap (take m) split
-            ∙ take-front m front (value_bytes hs v) (omega (arith, front_long))
-            ∙ part-first p from m (omega (arith, begins)) in
+        take-twice (4096 - from) size m (drop from all) (omega (arith, inside, cut.0, cut.1, rest_size, near))
+        ∙ ap (take m) split
+        ∙ take-front m front (value_bytes hs v) (omega (arith, front_long))
+        ∙ part-first p from m (omega (arith, begins)) in
         let which : (size - (4096 - from) ≡ left) ⊎ (length (value_bytes hs v) ≡ 0) =
-            ⊎_elim (λ full. inl (omega (arith, full, near))) (λ none. inr (ap (λ w. length (value_bytes hs w)) none)) (first-full n p v cut) in
+        ⊎_elim (λ full. inl (omega (arith, full, near))) (λ none. inr (ap (λ w. length (value_bytes hs w)) none)) (first-full n p v cut) in
         let last_bytes : drop (4096 - from) bytes ≡ take left (drop 0 (value_bytes hs v)) =
-            drop-take (4096 - from) size (size - (4096 - from)) (drop from all) refl
-            ∙ ap (take (size - (4096 - from))) (drop-twice (4096 - from) from 4096 all (omega (arith, near)) ∙ (behind-first p v n cut filled.0).1)
-            ∙ take-same (size - (4096 - from)) left (value_bytes hs v) which in
+        drop-take (4096 - from) size (size - (4096 - from)) (drop from all) refl
+        ∙ ap (take (size - (4096 - from))) (drop-twice (4096 - from) from 4096 all (omega (arith, near)) ∙ (behind-first p v n cut filled.0).1)
+        ∙ take-same (size - (4096 - from)) left (value_bytes hs v) which in
         (λ i. some-run z hs p.0 from m (omega (arith, begins, some)) i ++ placed_range z hs v (past i) left)
         ∙ ap (λ l. placed_part z hs p.0 from m ∷ l) (rest 0 left (omega (arith, inside)))
         ∙ (λ i. record { address = address_of z p.0; offset = from; bytes = sym first_bytes i; over = false } ∷ runs_over false (addresses_of z v) 0 (sym last_bytes i))
@@ -193,7 +193,7 @@ module _ (z : Sizes) (hs : List Holding) where
         let all_left : size - (p.1 - from) ≡ size = omega (arith, far, full) in
         let past : from - p.1 ≡ from - 4096 = omega (arith, full) in
         let skipped : drop from (frag_bytes hs p ++ value_bytes hs v) ≡ drop (from - 4096) (value_bytes hs v) =
-            drop-past from (from - 4096) (frag_bytes hs p) (value_bytes hs v) (omega (arith, long, full, far)) in
+        drop-past from (from - 4096) (frag_bytes hs p) (value_bytes hs v) (omega (arith, long, full, far)) in
         let number : from / 4096 ≡ suc ((from - 4096) / 4096) = omega (arith, far) in
         let place : from % 4096 ≡ (from - 4096) % 4096 = omega (arith, far) in
         (λ i. run_of z hs p.0 from (none i) ++ placed_range z hs v (past i) (all_left i))

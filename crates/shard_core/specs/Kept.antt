@@ -66,7 +66,8 @@ abbrev pub segs_of : Sizes → Frags → List Seg
 segs_of z v = map (λ (p : ℕ × ℕ). record { address = address_of z p.0; len = p.1 }) v
 
 -- at each key lie the bytes of the store, at its places
-pub record Agrees (z : Sizes) (entries : Entries) (holds : List Holding) (store : Store) (places : Places) : Type 0 where
+pub record Agrees (z : Sizes) (entries : Entries) (holds : List Holding) (store : Store) (places : Places)
+    : Type 0 where
   pub bytes : (key : List ℕ) → option_map (value_bytes holds) (value_at key entries) ≡ finite.get store key
   pub places_are : (key : List ℕ) → option_map (addresses_of z) (value_at key entries) ≡ finite.get places key
 

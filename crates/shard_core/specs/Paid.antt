@@ -19,8 +19,8 @@ use Rattle.frag_value.specs.declared.error.PlaceError.TheVariants as unplaced
 use Rattle.shard_core.specs.Kept.{Frags}
 use Rattle.shard_core.specs.Demand.{part_row}
 
--- Holds, credits and returns are as before. Claims and looks only grew: within these rows, and so many requests found no
--- buffer.
+-- Holds, credits and returns are as before. Claims and looks only grew: within these rows, and so many requests found
+-- no buffer.
 pub record IsPaid (z : Sizes) (rows : Class → ℕ) (requests : ℕ) (old new : View) : Type 0 where
   pub holds : new.holds ≡ old.holds
   pub credits : new.credits ≡ old.credits

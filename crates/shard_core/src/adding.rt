@@ -16,7 +16,7 @@ ghost use Rattle.shard_core.specs.Paid.{IsPaid, WhyRefused};
 use crate::answer::PartAnswer;
 use crate::carrying::extend;
 use crate::kept::{Kept, exchange};
-use crate::placing::place;
+use crate::placing::place_first;
 use crate::showing::show;
 use flake_base::Segs;
 use frag_value::{AppendError, PlaceError, Value};
@@ -49,14 +49,11 @@ fn add_first<P: PoolName>(
     ensures paid { IsPaid P.sizes (λ (class : Class). part_row class (append_op key.now bytes.now)) (found_none result)
         payer.old payer.new }
 {
-    let none = match place(
-        alloc, pool, kept, payer, key, None, bytes, stored,
-    ) {
-        Ok(none) => none,
+    match place_first(alloc, pool, kept, payer, key, bytes, stored) {
+        Ok(()) => {}
         Err(error) => return Err(error),
-    };
+    }
     let length = bytes.len() as u64;
-    let _ = none;
     Ok(PartAnswer::Length(length))
 }
 
@@ -99,12 +96,7 @@ fn add_more<P: PoolName>(
         payer.old payer.new }
 {
     kept.own.is_seat();
-    let old = exchange(
-        &mut kept.values,
-        key,
-        index,
-        Value::empty(alloc),
-    );
+    let old = exchange(&mut kept.values, key, index, Value::empty(alloc));
     old.is_value();
     match extend(alloc, pool, &mut kept.own, payer, old, bytes) {
         Ok(value) => {
@@ -146,9 +138,7 @@ pub(crate) fn add<P: PoolName>(
         payer.old payer.new }
 {
     match kept.values.get_index_of(key) {
-        Some(index) => add_more(
-            alloc, pool, kept, payer, key, index, bytes, stored,
-        ),
+        Some(index) => add_more(alloc, pool, kept, payer, key, index, bytes, stored),
         None => add_first(alloc, pool, kept, payer, key, bytes, stored),
     }
 }

@@ -63,11 +63,9 @@ fn apply_other<P: PoolName, T: Taker<P>>(
             Ok(get(pool, kept, part.key, found, taker))
         }
         PartOp::GetRange { start, end } => Ok(get_range(pool, kept, part.key, start, end, taker)),
-        PartOp::Append => add(
-            alloc, pool, kept, payer, part.key, part.value, stored,
-        ),
+        PartOp::Append => add(alloc, pool, kept, payer, part.key, part.value, stored),
         PartOp::Del => Ok(PartAnswer::Did(del(pool, kept, part.key))),
-        PartOp::Exists => Ok(PartAnswer::Did(exists(&kept.values, &kept.own, part.key))),
+        PartOp::Exists => Ok(PartAnswer::Did(exists(kept, part.key))),
         PartOp::StrLen => Ok(PartAnswer::Length(size(kept, part.key))),
         _ => unreachable!(),
     }

@@ -70,8 +70,8 @@ pub(crate) fn extend<P: PoolName>(
     ensures returned { IfErr result (λ e. (e.1 ≡ old) × IsCarried P.sizes old old own.old own.new) }
     ensures same { IfErr result (λ e. value_bytes own.new.holds old ≡ value_bytes own.old.holds old) }
     ensures cause { IfErr result (λ e. WhyUnadded P.sizes old bytes.now e.0 payer.old payer.new) }
-    ensures paid { IsPaid P.sizes (λ (class : Class). part_row class (append_op [] bytes.now)) (found_none_behind result)
-        payer.old payer.new }
+    ensures paid { IsPaid P.sizes (λ (class : Class). part_row class (append_op [] bytes.now))
+        (found_none_behind result) payer.old payer.new }
 {
     old.is_value();
     bring_out(pool, own, payer, &old);

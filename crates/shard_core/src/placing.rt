@@ -70,8 +70,8 @@ fn place_over<P: PoolName>(
     Ok(exchange(&mut kept.values, key, index, value))
 }
 
-// Puts a value at a key that is missing.
-fn place_first<P: PoolName>(
+/// Puts a value at a key that is missing.
+pub(crate) fn place_first<P: PoolName>(
     alloc: Global,
     pool: &Pool<P>,
     kept: &mut Kept<P>,
@@ -133,9 +133,7 @@ pub(crate) fn place<P: PoolName>(
 {
     match found {
         Some(index) => {
-            let old = place_over(
-                alloc, pool, kept, payer, key, index, bytes, stored,
-            )?;
+            let old = place_over(alloc, pool, kept, payer, key, index, bytes, stored)?;
             Ok(Some(old))
         }
         None => {

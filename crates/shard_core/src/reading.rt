@@ -12,9 +12,9 @@ ghost use Rattle.shard_core.specs.Pieces.{pieces_at};
 ghost use Rattle.shard_core.specs.Answers.{shown};
 
 use crate::answer::PartAnswer;
-use crate::kept::{Kept, Values, value_in};
+use crate::kept::{Kept, value_in};
 use frag_value::{Taker, hand, hand_range};
-use pinned_pool::{Pool, PoolName, PoolSeat};
+use pinned_pool::{Pool, PoolName};
 use range_pick::{Span, span};
 
 /// The value of a key, which was looked up, goes to the taker. Its holds stay.
@@ -36,7 +36,7 @@ pub(crate) fn get<P: PoolName, T: Taker<P>>(
         → result ≡ shown (answer_found (finite.get s key.now)) }
     ensures taken { (s : Store) (p : Places) → Agrees P.sizes kept.old.values.entries kept.old.own.holds s p
         → T.taken taker.new ≡ T.taken taker.old
-            ++ pieces_at entire false (answer_found (finite.get s key.now)) (places_at p key.now) 0 }
+        ++ pieces_at entire false (answer_found (finite.get s key.now)) (places_at p key.now) 0 }
     ensures none { T.begun taker.new ≡ None }
     ensures base { T.base taker.new ≡ T.base taker.old }
     ensures room { T.room taker.old + length (T.taken taker.old) ≤ T.room taker.new + length (T.taken taker.new) }
@@ -70,8 +70,8 @@ pub(crate) fn get_range<P: PoolName, T: Taker<P>>(
     ensures says { result ≡ PartAnswer.Bulk }
     ensures taken { (s : Store) (p : Places) → Agrees P.sizes kept.old.values.entries kept.old.own.holds s p
         → T.taken taker.new ≡ T.taken taker.old
-            ++ pieces_at ranged false (answered (range_of (bytes_at s key.now) start end)) (places_at p key.now)
-                (first_place (length (bytes_at s key.now)) start) }
+        ++ pieces_at ranged false (answered (range_of (bytes_at s key.now) start end)) (places_at p key.now)
+        (first_place (length (bytes_at s key.now)) start) }
     ensures none { T.begun taker.new ≡ None }
     ensures base { T.base taker.new ≡ T.base taker.old }
     ensures room { T.range_room taker.old + length (T.taken taker.old)
@@ -92,12 +92,12 @@ pub(crate) fn get_range<P: PoolName, T: Taker<P>>(
     }
 }
 
-pub(crate) fn exists<P: PoolName>(values: &Values<P>, own: &PoolSeat<P>, key: &[u8]) -> bool
-    ensures { (s : Store) (p : Places) → Agrees P.sizes values.now.entries own.now.holds s p
+/// Whether the key is there.
+pub(crate) fn exists<P: PoolName>(kept: &Kept<P>, key: &[u8]) -> bool
+    ensures { (s : Store) (p : Places) → Agrees P.sizes kept.now.values.entries kept.now.own.holds s p
         → result ≡ is_some (finite.get s key.now) }
 {
-    let _ = own;
-    values.contains_key(key)
+    kept.values.contains_key(key)
 }
 
 /// How many bytes the key has.

@@ -60,17 +60,9 @@ fn store<P: PoolName, T: Taker<P>>(
     ensures paid { IsPaid P.sizes (λ (class : Class). fragments_in class (fragments_of bytes.now)) (found_none result)
         payer.old payer.new }
 {
-    let old = place(
-        alloc, pool, kept, payer, key, found, bytes, stored,
-    )?;
+    let old = place(alloc, pool, kept, payer, key, found, bytes, stored)?;
     kept.own.is_seat();
-    Ok(give_up(
-        pool,
-        &mut kept.own,
-        old,
-        setting.asks,
-        taker,
-    ))
+    Ok(give_up(pool, &mut kept.own, old, setting.asks, taker))
 }
 
 /// The key and its value go. The answer is whether it was there.
@@ -79,7 +71,7 @@ pub(crate) fn del<P: PoolName>(pool: &Pool<P>, kept: &mut Kept<P>, key: &[u8]) -
     ensures kept { IsKept P.sizes kept.new.values.entries kept.new.own }
     ensures agrees { (s : Store) (p : Places) → Agrees P.sizes kept.old.values.entries kept.old.own.holds s p
         → Agrees P.sizes kept.new.values.entries kept.new.own.holds
-            (finite.remove s key.now) (finite.remove p key.now) }
+        (finite.remove s key.now) (finite.remove p key.now) }
     ensures says { (s : Store) (p : Places) → Agrees P.sizes kept.old.values.entries kept.old.own.holds s p
         → result ≡ is_some (finite.get s key.now) }
 {

@@ -55,8 +55,8 @@ impl<P: PoolName> Shelf<P> {
         }
     }
 
-    /// Does a part. New values are claimed and filled on the payer's seat and then moved here, and old ones go from here once
-    /// the new one stands. After a refusal nothing has changed but the payer's claims and looks.
+    /// Does a part. New values are claimed and filled on the payer's seat and then moved here, and old ones go from
+    /// here once the new one stands. After a refusal nothing has changed but the payer's claims and looks.
     pub fn apply<T: Taker<P>>(
         &mut self,
         alloc: Global,
@@ -87,17 +87,10 @@ impl<P: PoolName> Shelf<P> {
         ensures room { is_ranged (operation_of part.now) ≡ false
             → T.room taker.old + length (T.taken taker.old) ≤ T.room taker.new + length (T.taken taker.new) }
         ensures range_room { is_ranged (operation_of part.now) ≡ true
-            → T.range_room taker.old + length (T.taken taker.old) ≤ T.range_room taker.new + length (T.taken taker.new) }
+            → T.range_room taker.old + length (T.taken taker.old)
+            ≤ T.range_room taker.new + length (T.taken taker.new) }
     {
-        apply(
-            alloc,
-            pool,
-            &mut self.kept,
-            payer,
-            part,
-            taker,
-            stored,
-        )
+        apply(alloc, pool, &mut self.kept, payer, part, taker, stored)
     }
 
     /// Does nothing, and tells a proof what is true of every shelf.

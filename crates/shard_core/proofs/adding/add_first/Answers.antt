@@ -7,11 +7,11 @@ use Rattle.shard_core.proofs.Changed.{missing_key}
 use Rattle.shard_core.proofs.Appends.{paid_row, none_row, add_done}
 use Rattle.shard_core.proofs.adding.add_first.Goals as goal
 
+pub place_first-requires-clause-missing : goal.place_first-requires-clause-missing
+place_first-requires-clause-missing g c = missing_key c.args.key.now c.args.kept.now.values.entries c.requires.missing
+
 pub returns-clause-kept : goal.returns-clause-kept
-returns-clause-kept g c =
-    let at = c.in-Ok.ensures.placed in
-    let gone = at.found ∙ missing_key c.args.key.now c.args.kept.now.values.entries c.requires.missing in
-    record { poor = at.poor; held = subst (λ o. AreHeld g.P.PoolName.sizes c.place.new.kept.values.entries (frags_of o) c.place.new.kept.own.holds) gone at.held }
+returns-clause-kept g c = record { poor = c.in-Ok.ensures.placed.poor; held = c.in-Ok.ensures.placed.held }
 
 pub returns-clause-done : goal.returns-clause-done
 returns-clause-done g c = λ t s p a.
@@ -19,16 +19,16 @@ returns-clause-done g c = λ t s p a.
     let at = c.in-Ok.ensures.placed in
     let key = c.args.key.now in
     let es = c.args.kept.now.values.entries in
-    let now = c.place.new.kept.values.entries in
+    let now = c.place_first.new.kept.values.entries in
     let none : finite.get s key ≡ None = sym (a.bytes key) ∙ ap (option_map (value_bytes c.args.kept.now.own.holds)) (missing_key key es c.requires.missing) in
-    add_done z key c.args.bytes.now s p now c.place.new.kept.own.holds c.args.stored.now.items c.place.new.stored.items t None none
+    add_done z key c.args.bytes.now s p now c.place_first.new.kept.own.holds c.args.stored.now.items c.place_first.new.stored.items t None none
     (length c.args.bytes.now) at.value refl c.requires.few at.cut refl at.segs_are (at.agrees s p a)
 
 pub returns-clause-paid : goal.returns-clause-paid
-returns-clause-paid g c = paid_row g.P.PoolName.sizes c.args.key.now c.args.bytes.now _ c.args.payer.now c.place.new.payer c.in-Ok.ensures.paid
+returns-clause-paid g c = paid_row g.P.PoolName.sizes c.args.key.now c.args.bytes.now _ c.args.payer.now c.place_first.new.payer c.in-Ok.ensures.paid
 
 pub returns-in-Err-clause-paid : goal.returns-in-Err-clause-paid
-returns-in-Err-clause-paid g c = paid_row g.P.PoolName.sizes c.args.key.now c.args.bytes.now _ c.args.payer.now c.place.new.payer c.in-Err.ensures.paid
+returns-in-Err-clause-paid g c = paid_row g.P.PoolName.sizes c.args.key.now c.args.bytes.now _ c.args.payer.now c.place_first.new.payer c.in-Err.ensures.paid
 
 pub returns-in-Err-clause-cause : goal.returns-in-Err-clause-cause
-returns-in-Err-clause-cause g c = none_row g.P.PoolName.sizes c.args.key.now c.args.bytes.now c.in-Err.error c.args.payer.now c.place.new.payer c.in-Err.ensures.cause
+returns-in-Err-clause-cause g c = none_row g.P.PoolName.sizes c.args.key.now c.args.bytes.now c.in-Err.error c.args.payer.now c.place_first.new.payer c.in-Err.ensures.cause

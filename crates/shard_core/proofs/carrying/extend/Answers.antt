@@ -36,7 +36,7 @@ returns-in-Ok-clause-paid g c =
     let hs = c.args.own.now.holds in
     let has = has_keys v hs c.requires.value.held in
     let whole = back-whole z v c.args.bytes.now hs c.args.payer.now c.bring_out.new.payer c.append.new.seat c.bring_back.new.payer c.is_value.ensures has out.value c.is_seat.ensures out.payer w done.appended
-        (λ none. let e = done.empty none in (same_ok w v _ _ refl refl e.0, e.1)) in
+    (λ none. let e = done.empty none in (same_ok w v _ _ refl refl e.0, e.1)) in
     paid z v c.args.bytes.now hs c.args.payer.now c.bring_out.new.payer c.append.new.seat c.bring_back.new.payer c.is_value.ensures has out.value c.is_seat.ensures out.payer
     (keys_of w) c.bring_back.ensures.payer done.claims 0 whole (λ none. (refl, (done.empty none).1)) done.sought
 
@@ -49,9 +49,11 @@ returns-in-Err-clause-returned g c =
     let v = c.args.old in
     let w = c.in-Err.value in
     let is : w ≡ v = done.refused.0 in
-    let has : HasValue c.append.new.seat.holds w = subst (λ (y : Frags × List Holding). HasValue y.1 y.0) (λ i. (sym is i, sym done.refused.1 i)) out.value in
-    (is, subst (λ x. IsCarried z v x c.args.own.now c.bring_back-in-Err.new.own) is
-    (carried z v w c.args.own.now c.bring_out.new.own c.bring_back-in-Err.new.own c.append.new.seat out.own back.own has back.filled back.value))
+    let has : HasValue c.append.new.seat.holds w = subst (λ (y : Frags × List Holding). HasValue y.1 y.0) (λ i. (sym is i, sym done.refused.1 i)) out.value in (
+      is,
+      subst (λ x. IsCarried z v x c.args.own.now c.bring_back-in-Err.new.own) is
+          (carried z v w c.args.own.now c.bring_out.new.own c.bring_back-in-Err.new.own c.append.new.seat out.own back.own has back.filled back.value),
+    )
 
 pub returns-in-Err-clause-cause : goal.returns-in-Err-clause-cause
 returns-in-Err-clause-cause g c =

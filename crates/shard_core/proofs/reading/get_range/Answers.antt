@@ -45,10 +45,10 @@ returns-in-Some-clause-taken g c = λ s p a.
     let first = first_place (length (value_bytes hs v)) c.args.start in
     c.hand_range.ensures.taken
     ∙ ap (λ l. g.T.Taker.taken c.args.taker.now ++ l)
-        (range-pieces z hs v c.span-from.result.from c.span-from.result.len first (range_of (value_bytes hs v) c.args.start c.args.end) c.is_value.ensures filled
-            (c.span-from.ensures.from ∙ (λ i. min (first_place ((len ∙ size) i) (begins i)) (len i)))
-            (omega (arith, c.span-from.ensures.within, len)) text
-        ∙ (λ i. pieces_at ranged false (value (range_of (bytes i) c.args.start c.args.end)) (places i) (first_place (length (bytes i)) c.args.start)))
+    (range-pieces z hs v c.span-from.result.from c.span-from.result.len first (range_of (value_bytes hs v) c.args.start c.args.end) c.is_value.ensures filled
+    (c.span-from.ensures.from ∙ (λ i. min (first_place ((len ∙ size) i) (begins i)) (len i)))
+    (omega (arith, c.span-from.ensures.within, len)) text
+    ∙ (λ i. pieces_at ranged false (value (range_of (bytes i) c.args.start c.args.end)) (places i) (first_place (length (bytes i)) c.args.start)))
 
 pub returns-in-Some-clause-room : goal.returns-in-Some-clause-room
 returns-in-Some-clause-room g c =
