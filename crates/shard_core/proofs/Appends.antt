@@ -1,8 +1,7 @@
 -- Appends, by the definitions.
-use Rattle.std.proofs.Common.{◌≡◌, ℕ, ◌+◌, ◌*◌, ◌<◌, ◌≤◌, Bool, true, false, cond, List, [], ◌∷◌, ◌++◌, length, take, Option, None, Some, Result, Ok, Err, nat_le, refl, sym, ap, ◌∙◌, subst, append-nil, arith}
+use Rattle.std.proofs.Common.{◌≡◌, ℕ, ◌+◌, ◌*◌, ◌<◌, ◌≤◌, Bool, true, false, cond, List, [], ◌∷◌, ◌++◌, length, take, Option, Some, Result, Ok, Err, nat_le, refl, sym, ap, ◌∙◌, subst, append-nil, arith}
 use Rattle.std.proofs.lemmas.Bool.{le-leb, leb-true, false_from_ne_true}
 use Rattle.std.proofs.lemmas.List.{map-append, take_at, length-append}
-use Rattle.std.specs.Global.{Vec}
 use Rattle.std.specs.Option.{option_map}
 use Rattle.std.specs.Result.{IfOk, IfErr, OnErr}
 use Rattle.std.specs.Ordering.{nat_cmp, eq_by_cmp}
@@ -14,11 +13,10 @@ use Rattle.pin_core.specs.declared.class.Class.{Class}
 use Rattle.pinned_pool.specs.Addresses.{address_of}
 use Rattle.pinned_pool.specs.Moves.{left_by}
 use Rattle.pinned_pool.specs.Named.{IsSeat}
-use Rattle.pinned_pool.specs.Sought.{Sought}
 use Rattle.pinned_pool.specs.declared.view.View.{View}
 use Rattle.pinned_pool.proofs.SoughtLaws.{sought_within}
 use Rattle.flake_base.specs.declared.segment.Seg.{Seg}
-use Rattle.flake_model.specs.Store.{Store, Keyed, append, Change, keeps, puts, length_is, too_long, value_limit, answer, change_by, changed, bytes_of, first_at}
+use Rattle.flake_model.specs.Store.{Store, Keyed, append, Change, keeps, puts, length_is, too_long, value_limit, answer, change_by, changed, bytes_of}
 use Rattle.flake_model.specs.Deed.{Places, places_at, placed, AreStored}
 use Rattle.flake_model.specs.Fragments.{full_fragments}
 use Rattle.frag_value.specs.Fragments.{fragments_of, fragments_in}

@@ -1,16 +1,14 @@
 -- A value that was written for one seat and brought to another.
 use Rattle.std.proofs.Common.{◌≡◌, ℕ, ◌<◌, cond, List, [], ◌++◌, append-nil, length, map, Option, None, Some, refl, sym, ap, ◌∙◌, subst, arith}
-use Rattle.std.specs.Global.{Vec}
-use Rattle.std.specs.FinMap as finite
 use Rattle.view_sums.specs.Total.{total, Each}
-use Rattle.pin_core.specs.Holding.{Holding, Key, at}
+use Rattle.pin_core.specs.Holding.{Holding, at}
 use Rattle.pin_core.specs.declared.class.Class.{Class}
 use Rattle.pin_core.specs.declared.sizes.Sizes.{Sizes}
 use Rattle.flake_base.specs.declared.segment.Seg.{Seg}
 use Rattle.pinned_pool.specs.Sought.{Sought}
 use Rattle.pinned_pool.proofs.SoughtLaws.{sought_still}
 use Rattle.std.specs.Cmp.Lexicographic.{bytes_decides}
-use Rattle.pinned_pool.specs.Moves.{key_of, taken_by, left_by, front_of, loose_key, losing, gaining}
+use Rattle.pinned_pool.specs.Moves.{key_of, taken_by, front_of, loose_key, losing, gaining}
 use Rattle.pinned_pool.specs.Named.{IsSeat}
 use Rattle.pinned_pool.specs.declared.view.View.{View}
 use Rattle.pinned_pool.proofs.Keys.{some-at, taken_by-keys}

@@ -6,7 +6,7 @@ use Rattle.pin_core.specs.declared.sizes.Sizes.{Sizes}
 use Rattle.pinned_pool.specs.Moves.{means, key_of, without, taken_by, left_by, times, asked, HasHolds, loose_key, losing, gaining}
 use Rattle.pinned_pool.specs.Named.{IsSeat}
 use Rattle.pinned_pool.specs.declared.view.View.{View}
-use Rattle.pinned_pool.proofs.Keys.{means-true, same_key-refl, taken_by-keys}
+use Rattle.pinned_pool.proofs.Keys.{same_key-refl, taken_by-keys}
 use Rattle.pinned_pool.proofs.AfterSteps.{times-append, times-loose, times-taken_by, left_by-append, without-own}
 use Rattle.frag_value.specs.Values.{IsValue, IsFilled, keys_of, value_bytes, HasValue, full_of, partial_of}
 use Rattle.frag_value.proofs.Released.{asked-loose, has_keys, keys-append}

@@ -1,7 +1,7 @@
 -- A map after one call: a value was put at a key, or a key was taken out.
-use Rattle.std.proofs.Common.{◌≡◌, ℕ, zero, suc, ◌+◌, ◌<◌, Bool, true, false, cond, List, [], ◌∷◌, map, Option, None, Some, is_some, get_or, position, refl, sym, ap, ◌∙◌, subst, arith, IsPermutation}
+use Rattle.std.proofs.Common.{◌≡◌, ℕ, zero, suc, ◌+◌, Bool, true, false, cond, List, [], ◌∷◌, Option, None, Some, is_some, get_or, position, refl, sym, ap, ◌∙◌, subst, arith, IsPermutation}
 use Rattle.std.specs.Global.{Vec}
-use Rattle.std.specs.List.{slice_get, AllByRecursion, swap_remove, sum_by}
+use Rattle.std.specs.List.{slice_get, AllByRecursion, sum_by}
 use Rattle.std.specs.Cmp.{IsEquivalence}
 use Rattle.std.specs.Cmp.Lexicographic.{nat_list_eq_equiv, bytes_decides}
 use Rattle.std.specs.HashMap.{HashMap}

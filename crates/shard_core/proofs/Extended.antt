@@ -8,7 +8,7 @@ use Rattle.pinned_pool.specs.Views.{looked_at}
 use Rattle.pin_core.specs.declared.sizes.Sizes.{Sizes}
 use Rattle.pin_core.specs.declared.class.Class.{Class}
 use Rattle.pin_core.specs.declared.class.Class.TheVariants.{Small, Large}
-use Rattle.pinned_pool.specs.Classes.{just, same_class, buffers_in}
+use Rattle.pinned_pool.specs.Classes.{same_class, buffers_in}
 use Rattle.pinned_pool.specs.Moves.{taken_by, left_by, HasHolds, losing, gaining}
 use Rattle.pinned_pool.specs.Sought.{Sought}
 use Rattle.pinned_pool.proofs.SoughtLaws.{sought_within, sought_still}

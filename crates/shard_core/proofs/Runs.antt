@@ -1,5 +1,5 @@
 -- A value's fragments as a taker and a list of segments have them.
-use Rattle.std.proofs.Common.{◌≡◌, ℕ, ℤ, zero, suc, ◌+◌, ◌-◌, ◌*◌, ◌/◌, ◌%◌, ◌<◌, ◌≤◌, ◌⊎◌, inl, inr, ⊎_elim, min, Bool, true, false, List, [], ◌∷◌, ◌++◌, map, length, take, drop, refl, sym, ap, ◌∙◌, subst, append-nil, arith}
+use Rattle.std.proofs.Common.{◌≡◌, ℕ, ℤ, zero, suc, ◌+◌, ◌-◌, ◌/◌, ◌%◌, ◌<◌, ◌≤◌, ◌⊎◌, inl, inr, ⊎_elim, min, Bool, true, false, List, [], ◌∷◌, ◌++◌, map, length, take, drop, refl, sym, ap, ◌∙◌, append-nil, arith}
 use Rattle.std.proofs.lemmas.List.{length-append, length-drop, length-take}
 use Rattle.view_sums.specs.Total.{Each}
 use Rattle.pin_core.specs.Holding.{Holding}
@@ -14,7 +14,7 @@ use Rattle.flake_model.proofs.Fragments.{many_fragments}
 use Rattle.frag_value.specs.Values.{IsValue, IsCut, IsFilled, size_of, frag_bytes, value_bytes}
 use Rattle.frag_value.specs.Taken.{Placed, begun_with, entire, ranged, whole, run_of, placed_part, placed_all, placed_range, over_all}
 use Rattle.frag_value.proofs.Cuts.{length-bytes-value, cut-count, size-cut}
-use Rattle.frag_value.proofs.Hands.{length-bytes, length-frag}
+use Rattle.frag_value.proofs.Hands.{length-frag}
 use Rattle.frag_value.proofs.Ranges.{some-run}
 use Rattle.shard_core.specs.Kept.{Frags, addresses_of, segs_of}
 use Rattle.shard_core.specs.Pieces.{runs_over, runs_at, pieces_at, segs_at}

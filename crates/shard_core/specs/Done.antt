@@ -1,6 +1,5 @@
 -- What a part does to a shard and to its taker.
 use Rattle.std.specs.Prelude.{◌≡◌, ℕ, Bool, true, false, List, ◌++◌, Result, IfOk, OnErr}
-use Rattle.std.specs.FinMap as finite
 use Rattle.pin_core.specs.Holding.{Holding}
 use Rattle.pin_core.specs.declared.sizes.Sizes.{Sizes}
 use Rattle.flake_base.specs.declared.segment.Seg.{Seg}

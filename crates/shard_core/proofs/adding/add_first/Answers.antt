@@ -1,8 +1,7 @@
-use Rattle.std.proofs.Common.{◌≡◌, None, length, refl, sym, ap, ◌∙◌, subst}
+use Rattle.std.proofs.Common.{◌≡◌, None, length, refl, sym, ap, ◌∙◌}
 use Rattle.std.specs.Option.{option_map}
 use Rattle.std.specs.FinMap as finite
 use Rattle.frag_value.specs.Values.{value_bytes}
-use Rattle.shard_core.specs.Kept.{frags_of, value_at, AreHeld}
 use Rattle.shard_core.proofs.Changed.{missing_key}
 use Rattle.shard_core.proofs.Appends.{paid_row, none_row, add_done}
 use Rattle.shard_core.proofs.adding.add_first.Goals as goal

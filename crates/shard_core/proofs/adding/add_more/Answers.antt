@@ -1,6 +1,4 @@
-use Rattle.std.proofs.Common.{◌≡◌, ℕ, List, [], None, Some, position, refl, sym, ap, ◌∙◌, subst}
-use Rattle.std.specs.Map.{keys_of}
-use Rattle.indexmap.specs.IndexMap.{set_value_at}
+use Rattle.std.proofs.Common.{[], position, refl, sym, ap, ◌∙◌, subst}
 use Rattle.pin_core.specs.declared.class.Class.{Class}
 use Rattle.flake_model.specs.Store.{append}
 use Rattle.frag_value.specs.Changes.{found_none}

@@ -1,4 +1,4 @@
-use Rattle.std.proofs.Common.{◌≡◌, List, refl, sym, ap, ◌∙◌, subst}
+use Rattle.std.proofs.Common.{◌≡◌, List, refl, sym, ◌∙◌, subst}
 use Rattle.pin_core.specs.Holding.{Holding}
 use Rattle.pinned_pool.specs.Moves.{left_by}
 use Rattle.frag_value.specs.Changes.{without_buffer}

@@ -1,7 +1,6 @@
-use Rattle.std.proofs.Common.{◌≡◌, List, ℕ, cond, Some, refl, sym, ap, ◌∙◌, subst}
+use Rattle.std.proofs.Common.{Some, sym, ap, ◌∙◌}
 use Rattle.indexmap.specs.IndexMap.{set_value_at}
 use Rattle.indexmap.proofs.CallerLemmas.{keys-with_value_at}
-use Rattle.shard_core.specs.Keys.{same_bytes}
 use Rattle.shard_core.specs.Kept.{value_at}
 use Rattle.shard_core.proofs.Changed.{at_index, changed-set}
 use Rattle.shard_core.proofs.kept.exchange.Goals as goal

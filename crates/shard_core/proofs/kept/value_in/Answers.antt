@@ -1,6 +1,4 @@
-use Rattle.std.proofs.Common.{◌≡◌, Some, sym, ap, ◌∙◌}
-use Rattle.std.specs.List.{slice_get}
-use Rattle.std.specs.Map.{values_of}
+use Rattle.std.proofs.Common.{sym, ◌∙◌}
 use Rattle.frag_value.proofs.Lists.{got-map}
 use Rattle.shard_core.proofs.Changed.{at_index}
 use Rattle.shard_core.proofs.kept.value_in.Goals as goal

@@ -1,7 +1,5 @@
 use Rattle.frag_value.proofs.Released.{has_keys}
-use Rattle.frag_value.specs.Changes.{found_none}
-use Rattle.frag_value.specs.Fragments.{fragments_of, fragments_in}
-use Rattle.shard_core.proofs.Brought.{brought, brought_paid, refused_paid}
+use Rattle.shard_core.proofs.Brought.{brought}
 use Rattle.shard_core.proofs.placing.bring.Goals as goal
 
 pub lend-requires-clause-held : goal.lend-requires-clause-held

@@ -1,4 +1,4 @@
-use Rattle.std.proofs.Common.{◌≡◌, List, ℕ, cond, None, Some, sym, ap, ◌∙◌, append-nil}
+use Rattle.std.proofs.Common.{cond, None, Some, sym, ap, ◌∙◌}
 use Rattle.indexmap.specs.IndexMap.{insert_entry}
 use Rattle.shard_core.specs.Keys.{same_bytes, key_eq}
 use Rattle.shard_core.specs.Kept.{value_at}

@@ -1,4 +1,4 @@
-use Rattle.std.proofs.Common.{◌≡◌, ◌+◌, ◌-◌, min, ◌++◌, [], ◌∷◌, false, None, Some, length, take, drop, MatchOption, sym, ap, ◌∙◌, subst, arith}
+use Rattle.std.proofs.Common.{◌≡◌, ◌+◌, min, ◌++◌, [], ◌∷◌, false, None, Some, length, MatchOption, sym, ap, ◌∙◌, subst, arith}
 use Rattle.std.proofs.Common.{to_z-of_z}
 use Rattle.std.specs.Option.{option_map}
 use Rattle.std.specs.FinMap as finite
