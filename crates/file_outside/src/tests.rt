@@ -157,7 +157,7 @@ struct Tape<'a> {
 }
 
 impl<'a> Read for Tape<'a> {
-    fn read(&mut self, buf: &mut [u8]) -> io::Result<usize> {
+    fn read(&mut self, room: &mut [u8]) -> io::Result<usize> {
         self.reads = self.reads.saturating_add(1);
         if self.reads % 2 == 1 {
             return Err(io::Error::from(ErrorKind::Interrupted));
@@ -165,8 +165,8 @@ impl<'a> Read for Tape<'a> {
         if self.bytes.is_empty() {
             return Err(io::Error::from(ErrorKind::UnexpectedEof));
         }
-        let count = buf.len().min(self.bytes.len());
-        buf[..count].copy_from_slice(&self.bytes[..count]);
+        let count = room.len().min(self.bytes.len());
+        room[..count].copy_from_slice(&self.bytes[..count]);
         self.bytes = &self.bytes[count..];
         Ok(count)
     }

@@ -4,7 +4,8 @@ use Rattle.std.specs.Fmt.{decimal}
 use Rattle.std.specs.List.{AllByRecursion}
 use Rattle.resp_reader.specs.declared.head.Head.TheVariants.{Count, Length}
 use Rattle.resp_reader.specs.declared.begun.State.{State}
-use Rattle.resp_reader.specs.declared.begun.State.TheVariants.{Start, InCount, CountEnd, AtWord, InLength, LengthEnd, InWord, WordEnd, Null, Whole}
+use Rattle.resp_reader.specs.declared.begun.State.TheVariants.{Start, InCount, CountEnd, AtWord, InLength}
+use Rattle.resp_reader.specs.declared.begun.State.TheVariants.{LengthEnd, InWord, WordEnd, Null, Whole}
 use Rattle.resp_reader.specs.declared.begun.Begun.{Begun}
 use Rattle.resp_reader.specs.declared.begun.Stop.{Stop}
 use Rattle.resp_reader.specs.declared.begun.Stop.TheVariants.{Fault, Memory}
@@ -59,7 +60,8 @@ IsOpen (Whole count) = ⊥
 
 -- A state leads to another by the bytes up to the rest, whatever the words are.
 abbrev pub Moves : State → List ℕ → State → List ℕ → Type 0
-Moves old bytes new rest = (words : Words) (word : List ℕ) → IsState old words word → IsState new words word × (state_front old words word ++ bytes ≡ state_front new words word ++ rest)
+Moves old bytes new rest = (words : Words) (word : List ℕ) → IsState old words word → IsState new words word
+    × (state_front old words word ++ bytes ≡ state_front new words word ++ rest)
 
 -- The bytes have an error at this place behind those that lead to the state.
 abbrev pub Stops : State → List ℕ → Stop → Type 0

@@ -4,7 +4,8 @@ use Rattle.flake_base.specs.declared.session.End.{End}
 use Rattle.flake_base.specs.declared.session.End.TheVariants as ends
 use Rattle.flake_model.specs.Resp.{Words, Element, AllElements, stream, requests_of, IsCutShort, judged_bytes, Parses}
 use Rattle.resp_reader.specs.declared.error.ReadError.{ReadError}
-use Rattle.resp_reader.specs.declared.error.ReadError.TheVariants.{BadCount, ExpectedBulk, BadLength, Inline, TooLong, Memory}
+use Rattle.resp_reader.specs.declared.error.ReadError.TheVariants.{BadCount, ExpectedBulk, BadLength}
+use Rattle.resp_reader.specs.declared.error.ReadError.TheVariants.{Inline, TooLong, Memory}
 use Rattle.resp_reader.specs.declared.error.Ended.{Ended}
 use Rattle.resp_reader.specs.declared.error.Ended.TheVariants.{Clean, Truncated}
 use Rattle.resp_reader.specs.declared.parser.Parser.{Parser}
@@ -44,7 +45,10 @@ IsTaken Memory = ⊥
 
 -- the error of a kind
 abbrev pub error_at : ℕ → ℕ → ReadError
-error_at kind place = if kind == 1 then BadCount place else if kind == 2 then ExpectedBulk place else if kind == 3 then BadLength place else Inline place
+error_at kind place =
+    if kind == 1 then BadCount place else
+    if kind == 2 then ExpectedBulk place else
+    if kind == 3 then BadLength place else Inline place
 
 -- the end of an input that was fed whole
 abbrev pub input_end : Ended → End
@@ -61,10 +65,13 @@ pub record IsReadTo (bytes : List ℕ) (requests : List Words) (place : ℕ) (fr
   pub place_is : place ≡ length (stream elements)
   pub cut_short : IsCutShort front
 
--- The bytes that were fed in all mean the requests that were given, those that are still to be given, and, where the reader is closed, its error.
+-- The bytes that were fed in all mean the requests that were given, those that are still to be given, and, where the
+-- reader is closed, its error.
 abbrev pub Reads : List ℕ → List Words → Progress → Type 0
-Reads bytes given reader = MatchOption reader.closed (IsReadTo bytes (given ++ reader.requests) reader.place reader.front)
+Reads bytes given reader =
+    MatchOption reader.closed (IsReadTo bytes (given ++ reader.requests) reader.place reader.front)
     (λ error. IsTaken error × Parses bytes (given ++ reader.requests) (end_of error))
 
 abbrev pub progress : Parser → Option ReadError → Progress
-progress parser closed = record { requests = parser.ready.items; front = front_of parser.begun; place = parser.place; closed = closed }
+progress parser closed =
+    record { requests = parser.ready.items; front = front_of parser.begun; place = parser.place; closed = closed }

@@ -1,5 +1,6 @@
 // Elements in pieces of any length.
-ghost use Rattle.std.specs.Prelude.{◌≡◌, ◌≢◌, ◌<◌, ◌≤◌, ◌+◌, ◌++◌, ◌∷◌, [], List, ℕ, length, IfOk, IfErr, IfSome, IfNone, OnOk, Err};
+ghost use Rattle.std.specs.Prelude.{◌≡◌, ◌≢◌, ◌<◌, ◌≤◌, ◌+◌, ◌++◌, ◌∷◌, [], List};
+ghost use Rattle.std.specs.Prelude.{ℕ, length, IfOk, IfErr, IfSome, IfNone, OnOk, Err};
 ghost use Rattle.resp_reader.specs.Head.{IsDigits, IsWhole};
 ghost use Rattle.resp_reader.specs.Begun.{IsArray, IsState, IsOpen, Moves, Stops, IsSound, front_of, Breaks, Grows};
 ghost use Rattle.flake_model.specs.Resp.{Words, IsWord, bulk_string};
@@ -218,7 +219,8 @@ impl Begun {
     pub fn back(&mut self, mark: Mark)
         ensures state { self.new.state ≡ mark.state }
         ensures words { (words : Words) (word : List ℕ) → length words ≡ mark.words → length word ≡ mark.len
-            → GrowsFrom words word self.old.room.words self.old.room.word → (self.new.room.words ≡ words) × (self.new.room.word ≡ word) }
+            → GrowsFrom words word self.old.room.words self.old.room.word
+            → (self.new.room.words ≡ words) × (self.new.room.word ≡ word) }
     {
         self.room.back(mark.words, mark.len);
         self.state = mark.state;

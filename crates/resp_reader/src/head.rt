@@ -1,5 +1,6 @@
 // The lines that begin arrays and words, in pieces of any length.
-ghost use Rattle.std.specs.Prelude.{◌≡◌, ◌≢◌, ◌<◌, ◌≤◌, ◌+◌, ◌++◌, ◌∷◌, [], List, ℕ, length, slice_index, IsTrue, IfSome, IfNone, IfOk, IfErr, MatchOption, Some};
+ghost use Rattle.std.specs.Prelude.{◌≡◌, ◌≢◌, ◌<◌, ◌≤◌, ◌+◌, ◌++◌, ◌∷◌, [], List, ℕ};
+ghost use Rattle.std.specs.Prelude.{length, slice_index, IsTrue, IfSome, IfNone, IfOk, IfErr, MatchOption, Some};
 ghost use Rattle.std.specs.Fmt.{decimal};
 ghost use Rattle.resp_reader.specs.Head.{limit_of, digits_text, IsDigits, IsWhole, NoLine, LineFault};
 

@@ -7,5 +7,6 @@ ghost use Rattle.resp_reader.specs.Reader.{Progress, Reads};
 /// same back.
 pub fn any_cutting()
     ensures { (bytes : List ℕ) (given others : List Words) (a b : Progress) → Reads bytes given a → Reads bytes others b
-        → (given ++ a.requests ≡ others ++ b.requests) × (a.closed ≡ b.closed) × (a.closed ≡ None → (a.front ≡ b.front) × (a.place ≡ b.place)) }
+        → (given ++ a.requests ≡ others ++ b.requests) × (a.closed ≡ b.closed)
+        × (a.closed ≡ None → (a.front ≡ b.front) × (a.place ≡ b.place)) }
 {}

@@ -1,5 +1,6 @@
 // Elements behind one another, in pieces of any length.
-ghost use Rattle.std.specs.Prelude.{◌≡◌, ◌≢◌, ◌<◌, ◌≤◌, ◌+◌, ◌++◌, ◌∷◌, [], List, ℕ, length, IfOk, OnOk, OnErr, IfErr, Some, None};
+ghost use Rattle.std.specs.Prelude.{◌≡◌, ◌≢◌, ◌<◌, ◌≤◌, ◌+◌, ◌++◌, ◌∷◌, [], List};
+ghost use Rattle.std.specs.Prelude.{ℕ, length, IfOk, OnOk, OnErr, IfErr, Some, None};
 ghost use Rattle.std.specs.Option.{option_to_list};
 ghost use Rattle.flake_model.specs.Resp.{Words, array, request_of, judged_bytes};
 ghost use Rattle.resp_reader.specs.WordRoom.{GrowsFrom};
@@ -70,7 +71,8 @@ impl Parser {
         ensures kept { OnOk result (IsKept self.new) }
         ensures ok { OnOk result ((bytes : List ℕ) (given : List Words) → Reads bytes given (progress self.old None)
             → Reads (bytes ++ piece.now) given (progress self.new None)) }
-        ensures err { IfErr result (λ e. e ≢ ReadError.Memory → (bytes : List ℕ) (given : List Words) → Reads bytes given (progress self.old None)
+        ensures err { IfErr result (λ e. e ≢ ReadError.Memory → (bytes : List ℕ) (given : List Words)
+            → Reads bytes given (progress self.old None)
             → Reads (bytes ++ piece.now) given (progress self.new (Some e))) }
         ensures memory { IfErr result (λ e. e ≡ ReadError.Memory → IsBack self.old self.new) }
         ensures taken { OnOk result (self.new.taken ≡ self.old.taken + length piece.now) }
@@ -140,7 +142,8 @@ impl Parser {
     // Takes back the words of the request at this place, if there is one, and drops those behind it.
     fn reclaim(&mut self, held: usize)
         ensures same { length self.old.ready.items ≤ held → self.new ≡ self.old }
-        ensures words { (ready others : List Words) (first : Words) → length ready ≡ held → self.old.ready.items ≡ ready ++ first ∷ others
+        ensures words { (ready others : List Words) (first : Words) → length ready ≡ held
+            → self.old.ready.items ≡ ready ++ first ∷ others
             → (self.new.ready.items ≡ ready) × (self.new.begun.room.words ≡ first) }
         ensures state { self.new.begun.state ≡ self.old.begun.state }
         ensures places { (self.new.taken ≡ self.old.taken) × (self.new.place ≡ self.old.place) }
@@ -283,7 +286,8 @@ impl Parser {
             ≡ self.old.ready.items ++ option_to_list (request_of (array self.old.begun.room.words))) }
         ensures given { OnOk result ((self.new.begun.room.words ≡ []) × (self.new.begun.room.word ≡ [])) }
         ensures err { IfErr result (λ e. e ≡ Stop.Memory) }
-        ensures kept { OnErr result ((self.new.ready.items ≡ self.old.ready.items) × (self.new.begun.room ≡ self.old.begun.room)) }
+        ensures kept { OnErr result ((self.new.ready.items ≡ self.old.ready.items)
+            × (self.new.begun.room ≡ self.old.begun.room)) }
         ensures state { self.new.begun.state ≡ self.old.begun.state }
         ensures places { (self.new.taken ≡ self.old.taken) × (self.new.place ≡ self.old.place) }
     {

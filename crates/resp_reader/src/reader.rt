@@ -1,4 +1,5 @@
-ghost use Rattle.std.specs.Prelude.{◌≡◌, ◌≢◌, ◌+◌, ◌≤◌, ◌++◌, ◌↔◌, [], List, ℕ, length, None, Some, IsNone, OnOk, IfErr, IfSome};
+ghost use Rattle.std.specs.Prelude.{◌≡◌, ◌≢◌, ◌+◌, ◌≤◌, ◌++◌, ◌↔◌, [], List};
+ghost use Rattle.std.specs.Prelude.{ℕ, length, None, Some, IsNone, OnOk, IfErr, IfSome};
 ghost use Rattle.std.specs.Option.{option_to_list};
 ghost use Rattle.flake_model.specs.Resp.{Words, Parses, judged_bytes};
 ghost use Rattle.resp_reader.specs.Reader.{Reads, fed_to, input_end};
@@ -76,7 +77,8 @@ impl Reader {
         ensures none { IsNone result ↔ (self.old.requests ≡ []) }
         ensures front { (self.new.front ≡ self.old.front) × (self.new.place ≡ self.old.place) }
         ensures closed { self.new.closed ≡ self.old.closed }
-        ensures fed { (bytes : List ℕ) (given : List Words) → Reads bytes given self.old → Reads bytes (given ++ option_to_list result) self.new }
+        ensures fed { (bytes : List ℕ) (given : List Words) → Reads bytes given self.old
+            → Reads bytes (given ++ option_to_list result) self.new }
     {
         self.parser.ready.pop_front()
     }
@@ -91,7 +93,8 @@ impl Reader {
     /// How the input ends that was fed, where no more comes.
     pub fn end(self) -> Ended
         requires { self.closed ≡ None }
-        ensures { (bytes : List ℕ) (given : List Words) → Reads bytes given self → Parses bytes (given ++ self.requests) (input_end result) }
+        ensures { (bytes : List ℕ) (given : List Words) → Reads bytes given self
+            → Parses bytes (given ++ self.requests) (input_end result) }
     {
         if self.parser.place == self.parser.taken {
             Ended::Clean

@@ -1,5 +1,6 @@
 // The words of one request, in one room.
-ghost use Rattle.std.specs.Prelude.{◌≡◌, ◌<◌, ◌≤◌, ◌+◌, ◌++◌, ◌∷◌, [], List, ℕ, length, take, slice_index, slice_index_or, slice_range, OnOk, OnErr};
+ghost use Rattle.std.specs.Prelude.{◌≡◌, ◌<◌, ◌≤◌, ◌+◌, ◌++◌, ◌∷◌, [], List};
+ghost use Rattle.std.specs.Prelude.{ℕ, length, take, slice_index, slice_index_or, slice_range, OnOk, OnErr};
 ghost use Rattle.flake_model.specs.Resp.{Words};
 ghost use Rattle.resp_reader.specs.WordRoom.{AreEnds, GrowsFrom, last_end, words_to};
 
