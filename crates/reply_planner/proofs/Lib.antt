@@ -21,3 +21,4 @@ pub mod Sealed
 pub mod GivenUp
 pub mod UsedFirst
 pub mod Lent
+pub mod Grown
