@@ -1,14 +1,15 @@
 -- The staging buffers of a session.
-use Rattle.std.specs.Prelude.{◌≡◌, ℕ, ◌<◌, ◌≤◌, List, [], ◌∷◌, nat_lt, if◌then◌else◌, length, Result, Ok, Err}
+use Rattle.std.specs.Prelude.{◌≡◌, ℕ, ◌<◌, ◌≤◌, reverse, List, [], ◌∷◌, nat_lt, if◌then◌else◌, length, Result, Ok, Err}
 use Rattle.view_sums.specs.Total.{total, Each}
-use Rattle.pin_core.specs.Holding.{Holding, at}
+use Rattle.flake_base.specs.declared.segment.Seg.{Seg}
+use Rattle.pin_core.specs.Holding.{Holding, Key, at}
 use Rattle.pin_core.specs.declared.class.Class.TheVariants.{Small}
 use Rattle.pin_core.specs.declared.sizes.Sizes.{Sizes}
 use Rattle.pinned_pool.specs.Claimed.{with_claimed, KeepsCredits, NoneFree}
 use Rattle.pinned_pool.specs.Moves.{left_by}
 use Rattle.pinned_pool.specs.declared.pool.NoBuffer.{NoBuffer}
 use Rattle.pinned_pool.specs.declared.view.View.{View}
-use Rattle.reply_planner.specs.Owned.{AreOwn, keys_for}
+use Rattle.reply_planner.specs.Owned.{AreOwn, IsStaging, keys_for, buffers_of}
 use Rattle.reply_planner.specs.declared.error.OpenError.{OpenError}
 
 abbrev pub stage_size : ℕ
@@ -22,6 +23,17 @@ IsFrom a (b ∷ bs) = (a ≤ b) × IsFrom b bs
 abbrev pub IsOrdered : List ℕ → Type 0
 IsOrdered [] = Unit {0}
 IsOrdered (b ∷ bs) = IsFrom b bs
+
+-- a stage's holds, which lie in descending order, and how many there is room for
+pub record IsStage (z : Sizes) (holds : List Key) (capacity : ℕ) : Type 0 where
+  pub staging : Each (IsStaging z) holds
+  pub room : stage_size ≤ capacity
+  pub few : length holds ≤ stage_size
+  pub ordered : IsOrdered (buffers_of (reverse holds))
+
+-- the lists of no reply
+abbrev pub AreEmpty : List ℕ → List Seg → List Key → List Key → Type 0
+AreEmpty text segments pins staged = (text ≡ []) × (segments ≡ []) × (pins ≡ []) × (staged ≡ [])
 
 -- each number is above the one before it
 abbrev pub IsAbove : ℕ → List ℕ → Type 0

@@ -1,4 +1,5 @@
-ghost use Rattle.std.specs.Prelude.{◌≡◌, ◌*◌, ◌≤◌, [], vec_len, vec_capacity, OnOk};
+ghost use Rattle.std.specs.Prelude.{◌*◌, ◌≤◌, vec_capacity, OnOk};
+ghost use Rattle.reply_planner.specs.Stages.{AreEmpty};
 
 use flake_base::{Memory, Seg};
 use pinned_pool::{Hold, PoolName};
@@ -19,8 +20,7 @@ pub(crate) struct Lists<N: PoolName> {
 
 impl<N: PoolName> Lists<N> {
     pub(crate) fn new(alloc: Global) -> Self
-        ensures { (result.text.items ≡ []) × (result.segments.items ≡ []) × (result.pins.items ≡ [])
-            × (result.staged.items ≡ []) }
+        ensures { AreEmpty result.text.items result.segments.items result.pins.items result.staged.items }
     {
         Lists {
             text: Vec::new(alloc),
@@ -32,8 +32,7 @@ impl<N: PoolName> Lists<N> {
 
     // Empties the lists.
     pub(crate) fn clear(&mut self)
-        ensures { (self.new.text.items ≡ []) × (self.new.segments.items ≡ []) × (self.new.pins.items ≡ [])
-            × (self.new.staged.items ≡ []) }
+        ensures { AreEmpty self.new.text.items self.new.segments.items self.new.pins.items self.new.staged.items }
     {
         self.text.clear();
         self.segments.clear();
@@ -43,10 +42,8 @@ impl<N: PoolName> Lists<N> {
 
     // Makes room for all that the need allows.
     pub(crate) fn reserve(&mut self, need: Need) -> Result<(), Memory>
-        requires { (self.old.text.items ≡ []) × (self.old.segments.items ≡ []) × (self.old.pins.items ≡ [])
-            × (self.old.staged.items ≡ []) }
-        ensures empty { (self.new.text.items ≡ []) × (self.new.segments.items ≡ []) × (self.new.pins.items ≡ [])
-            × (self.new.staged.items ≡ []) }
+        requires { AreEmpty self.old.text.items self.old.segments.items self.old.pins.items self.old.staged.items }
+        ensures empty { AreEmpty self.new.text.items self.new.segments.items self.new.pins.items self.new.staged.items }
         ensures text { OnOk result (512 * need.stage ≤ vec_capacity self.new.text) }
         ensures segments { OnOk result (need.descriptors ≤ vec_capacity self.new.segments) }
         ensures pins { OnOk result (need.descriptors ≤ vec_capacity self.new.pins) }

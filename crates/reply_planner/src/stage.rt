@@ -54,17 +54,15 @@ pub struct Stage<N: PoolName> {
 }
 
 impl<N: PoolName> Model for Stage<N> {
-    ghost use Rattle.std.specs.Prelude.{ℕ, List, ◌≤◌, length, reverse, vec_len, vec_capacity};
-    ghost use Rattle.view_sums.specs.Total.{Each};
-    ghost use Rattle.reply_planner.specs.Owned.{IsStaging, buffers_of};
-    ghost use Rattle.reply_planner.specs.Stages.{IsOrdered};
+    ghost use Rattle.std.specs.Prelude.{ℕ, List, reverse, vec_capacity};
+    ghost use Rattle.reply_planner.specs.Owned.{buffers_of};
+    ghost use Rattle.reply_planner.specs.Stages.{IsStage};
 
     ghost Value = { List ℕ };
 
     ghost view = { λ s. buffers_of (reverse s.free.items) };
 
-    ghost invariant = { λ s. Each (IsStaging N.sizes) s.free.items × (128 ≤ vec_capacity s.free)
-        × (length s.free.items ≤ 128) × IsOrdered (buffers_of (reverse s.free.items)) };
+    ghost invariant = { λ s. IsStage N.sizes s.free.items (vec_capacity s.free) };
 }
 
 impl<N: PoolName> Stage<N> {

@@ -36,4 +36,9 @@ invariant_of-self g c =
     let n = vec_len c.loop-self.staged in
     let free = c.loop-self.self-inside.free.items in
     let before : length c.args.self.now ≡ length c.self.inside.free.items = ap length (sym c.self.view_is) ∙ length-shown c.self.inside.free.items in
-    (i.staging, i.room, omega (arith, was.2, before, length-shown free, ap length i.left, length-drop n c.args.self.now), subst IsOrdered (sym i.left) (ordered-drop n c.args.self.now (subst IsOrdered c.self.view_is was.3)))
+    record {
+      staging = i.staging;
+      room = i.room;
+      few = omega (arith, was.few, before, length-shown free, ap length i.left, length-drop n c.args.self.now);
+      ordered = subst IsOrdered (sym i.left) (ordered-drop n c.args.self.now (subst IsOrdered c.self.view_is was.ordered));
+    }

@@ -29,7 +29,7 @@ returns g c =
       | else-loop-place-test w ↦ inl (omega (arith, w.loop-place-test.false))
     ] in
     let some : vec_len c.self.inside.free < vec_capacity c.self.inside.free =
-    omega (arith, c.self.invariant.1, c.requires.room, ap length c.self.view_is, length-shown free, c.self.inside.free.ok) in
+    omega (arith, c.self.invariant.room, c.requires.room, ap length c.self.view_is, length-shown free, c.self.inside.free.ok) in
     let items = ap (λ t. cond t (insert free place c.args.hold) free) (c.insert.ensures.succeeds some) in
     shown-put c.args.hold free c.insert.new.self.items place c.args.self.now c.self.view_is (c.insert.ensures.items ∙ items) i.passed stop
 
@@ -38,11 +38,12 @@ invariant_of-self g c =
     let z = g.N.PoolName.sizes in
     let free = c.self.inside.free.items in
     let was = c.self.invariant in
-    let some : vec_len c.self.inside.free < vec_capacity c.self.inside.free = omega (arith, was.1, c.requires.room, ap length c.self.view_is, length-shown free, c.self.inside.free.ok) in
+    let some : vec_len c.self.inside.free < vec_capacity c.self.inside.free = omega (arith, was.room, c.requires.room, ap length c.self.view_is, length-shown free, c.self.inside.free.ok) in
     let items = c.insert.ensures.items ∙ ap (λ t. cond t (insert free c.loop-place.place c.args.hold) free) (c.insert.ensures.succeeds some) in
-    let placed : shown c.insert.new.self.items ≡ inserted c.args.hold.buffer c.args.self.now = returns g c in (
-      subst (Each (IsStaging z)) (sym items) (each_insert (IsStaging z) c.args.hold free c.loop-place.place was.0 c.requires.staging),
-      omega (arith, was.1, c.insert.ensures.capacity),
-      omega (arith, c.requires.room, ap length c.self.view_is, length-shown free, ap length placed, length-shown c.insert.new.self.items, length-inserted c.args.hold.buffer c.args.self.now),
-      subst IsOrdered (sym placed) (ordered-inserted c.args.hold.buffer c.args.self.now (subst IsOrdered c.self.view_is was.3)),
-    )
+    let placed : shown c.insert.new.self.items ≡ inserted c.args.hold.buffer c.args.self.now = returns g c in
+    record {
+      staging = subst (Each (IsStaging z)) (sym items) (each_insert (IsStaging z) c.args.hold free c.loop-place.place was.staging c.requires.staging);
+      room = omega (arith, was.room, c.insert.ensures.capacity);
+      few = omega (arith, c.requires.room, ap length c.self.view_is, length-shown free, ap length placed, length-shown c.insert.new.self.items, length-inserted c.args.hold.buffer c.args.self.now);
+      ordered = subst IsOrdered (sym placed) (ordered-inserted c.args.hold.buffer c.args.self.now (subst IsOrdered c.self.view_is was.ordered));
+    }
