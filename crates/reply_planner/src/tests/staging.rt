@@ -88,22 +88,22 @@ fn the_least_buffers_are_lent(rt: HostRuntime) -> Result<(), Fail> {
     Ok(())
 }
 
-// Claims a small buffer, and opens a stage. The answer is why that failed, and how many buffers are held then.
-fn open_beside<N: PoolName>(alloc: Global, blank: PoolBlank) -> Result<(OpenError, Held), Memory>
+// Claims a small buffer, opens a stage, which is refused, and gives the buffer back. The answer is also how many are held then.
+fn open_beside<N: PoolName>(alloc: Global, blank: PoolBlank) -> Result<(NoBuffer, Held), Memory>
     requires name { (blank.table ≡ N.table) × (blank.sizes ≡ N.sizes) }
 {
     let (pool, mut seat) = blank.name::<N>();
     let Ok(hold) = pool.claim(&mut seat, Class::Small) else {
         return Err(Memory);
     };
-    let Err(why) = Stage::open(alloc, &pool, &mut seat) else {
+    let Err(OpenError::NoBuffer(none)) = Stage::open(alloc, &pool, &mut seat) else {
         return Err(Memory);
     };
     pool.unpin(&mut seat, hold);
-    Ok((why, pool.close(seat).held()))
+    Ok((none, pool.close(seat).held()))
 }
 
-fn opened_beside(alloc: Global, blank: PoolBlank) -> Result<(OpenError, Held), Memory> {
+fn opened_beside(alloc: Global, blank: PoolBlank) -> Result<(NoBuffer, Held), Memory> {
     open_beside::<Brand>(alloc, blank)
 }
 
@@ -112,12 +112,12 @@ fn check_refused(rt: &impl Abort, alloc: Global, small: u32) -> Result<(), Fail>
     requires { (0 < small) × (small ≤ 128) }
 {
     let blank = PoolBlank::open(alloc, small, 3, 2)?;
-    let (why, held) = opened_beside(alloc, blank)?;
-    let none = NoBuffer {
+    let (none, held) = opened_beside(alloc, blank)?;
+    let all = NoBuffer {
         class: Class::Small,
         looked: small,
     };
-    assert!(rt; why == OpenError::NoBuffer(none));
+    assert_eq!(rt; none, all);
     assert_eq!(rt; held, Held { small: 0, large: 0 });
     Ok(())
 }
