@@ -22,3 +22,4 @@ pub mod GivenUp
 pub mod UsedFirst
 pub mod Lent
 pub mod Grown
+pub mod Gathered
