@@ -1,5 +1,5 @@
 -- A buffer that is filled from its first word on.
-use Rattle.std.proofs.Common.{◌≡◌, ℕ, suc, ◌+◌, ◌*◌, ◌/◌, ◌<◌, List, [], ◌∷◌, ◌++◌, length, take, sym, ap, ◌∙◌, append-nil, append_assoc, length-append, arith}
+use Rattle.std.proofs.Common.{◌≡◌, ℕ, suc, ◌+◌, ◌/◌, ◌<◌, List, [], ◌∷◌, ◌++◌, length, take, sym, ap, ◌∙◌, append-nil, append_assoc, length-append, arith}
 use Rattle.pinned_pool.specs.Bytes.{bytes_of, put_all, PutsBytes}
 use Rattle.pinned_pool.specs.declared.view.View.{View}
 use Rattle.frag_value.specs.Filled.{Fills}

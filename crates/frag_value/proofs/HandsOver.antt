@@ -1,5 +1,5 @@
 -- A value whose holds go with it, fragment by fragment.
-use Rattle.std.proofs.Common.{◌≡◌, ℕ, suc, ◌+◌, ◌-◌, ◌*◌, ◌<◌, ◌≤◌, List, [], ◌∷◌, ◌++◌, Bool, true, false, cond, Some, length, map, take, sym, refl, ap, ◌∙◌, subst, append_assoc, append-nil, arith}
+use Rattle.std.proofs.Common.{◌≡◌, ℕ, ◌+◌, ◌-◌, ◌*◌, ◌<◌, ◌≤◌, List, [], ◌∷◌, ◌++◌, Bool, true, false, cond, Some, length, take, sym, refl, ap, ◌∙◌, subst, append_assoc, append-nil, arith}
 use Rattle.std.specs.Option.{MatchOption}
 use Rattle.std.specs.Prelude.{Option}
 use Rattle.pin_core.specs.Holding.{Holding, Key, at}
@@ -12,7 +12,7 @@ use Rattle.pinned_pool.specs.declared.view.View.{View}
 use Rattle.pinned_pool.proofs.Keys.{some-at}
 use Rattle.pinned_pool.proofs.AfterSteps.{left_by-append, front-left_by}
 use Rattle.pinned_pool.specs.Moves.{loose_key}
-use Rattle.frag_value.specs.Values.{keys_of, uses, size_of, IsCut, IsFilled, IsValue, frag_bytes, HasValue}
+use Rattle.frag_value.specs.Values.{keys_of, uses, size_of, IsCut, IsFilled, IsValue, HasValue}
 use Rattle.pinned_pool.specs.Bytes.{bytes_of}
 use Rattle.frag_value.specs.Taken.{Placed, Begun, entire, placed_over, over_all, more, IsNext, IfFirst, behind_first, Loses, HandsOver, OverSoFar}
 use Rattle.frag_value.proofs.Sames.{same-yes}

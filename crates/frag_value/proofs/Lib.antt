@@ -20,3 +20,7 @@ pub mod Appended
 pub mod HandsOver
 pub mod Ranges
 pub mod Seeking
+pub mod Counting
+pub mod Staying
+pub mod Exact
+pub mod HeldCounts

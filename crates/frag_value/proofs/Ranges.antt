@@ -4,7 +4,7 @@ use Rattle.std.specs.List.{slice_get}
 use Rattle.std.proofs.lemmas.List.{length-take, length-drop}
 use Rattle.pin_core.specs.Holding.{Holding}
 use Rattle.pin_core.specs.declared.sizes.Sizes.{Sizes}
-use Rattle.view_sums.specs.Total.{total, Each}
+use Rattle.view_sums.specs.Total.{Each}
 use Rattle.view_sums.proofs.Sums.{total-append}
 use Rattle.view_sums.proofs.Eachs.{each-append}
 use Rattle.pinned_pool.specs.Moves.{front_of}

@@ -8,7 +8,7 @@ use Rattle.pinned_pool.specs.Classes.{class_at, just, buffers_in}
 use Rattle.pinned_pool.specs.Sought.{Sought}
 use Rattle.pinned_pool.specs.declared.pool.NoBuffer.{NoBuffer}
 use Rattle.pinned_pool.specs.declared.view.View.{View}
-use Rattle.pinned_pool.proofs.InClasses.{looked-more, decide, just-here, just-else, just-both, just-most}
+use Rattle.pinned_pool.proofs.InClasses.{looked-more, decide, just-else, just-both, just-most}
 use Rattle.pinned_pool.proofs.SoughtLaws.{sought_nothing, sought_within}
 use Rattle.frag_value.specs.Fragments.{fragments_in}
 use Rattle.frag_value.specs.Claimed.{ClaimsFor, NoneLeft}

@@ -7,6 +7,7 @@ mod error;
 mod filling;
 mod frag;
 mod handing;
+pub mod laws;
 mod limits;
 mod placing;
 mod read;

@@ -1,6 +1,6 @@
 -- Lists with the same items, each as often.
-use Rattle.std.proofs.Common.{◌≡◌, ℕ, zero, suc, ◌+◌, ◌*◌, List, [], ◌∷◌, ◌++◌, length, map, replicate, sym, refl, ap, ◌∙◌, arith}
-use Rattle.view_sums.specs.Total.{total, SameItems}
+use Rattle.std.proofs.Common.{◌≡◌, ℕ, zero, suc, ◌+◌, ◌*◌, ◌<◌, Bool, true, false, cond, List, [], ◌∷◌, ◌++◌, length, map, replicate, sym, refl, ap, ◌∙◌, subst, arith}
+use Rattle.view_sums.specs.Total.{total, Each, SameItems}
 use Rattle.view_sums.proofs.Sums.{total-append, total-map}
 
 module _ {A : Type 0} where
@@ -49,3 +49,23 @@ module _ {A : Type 0} (weight : A → ℕ) where
   pub total-replicate : (n : ℕ) (x : A) → total weight (replicate n x) ≡ n * weight x
   total-replicate zero x = omega arith
   total-replicate (suc n) x = omega (arith, total-replicate n x)
+
+-- a fact of each item, where a test tells items apart
+module _ {A : Type 0} (test : A → A → Bool) (own : (x : A) → test x x ≡ true) (one : (x y : A) → test x y ≡ true → x ≡ y) (P : A → Type 0) where
+  abbrev often : A → List A → ℕ
+  often x xs = total (λ y. cond (test x y) 1 0) xs
+
+  by_test : (x y : A) (xs : List A) (t : Bool) → test x y ≡ t → P y → (0 < often x xs → P x) → 0 < cond t 1 0 + often x xs → P x
+  by_test x y xs true e here later some = subst P (sym (one x y e)) here
+  by_test x y xs false e here later some = later (omega (arith, some))
+
+  is_among : (x : A) (xs : List A) → Each P xs → 0 < often x xs → P x
+  is_among x [] all some = absurd (omega arith)
+  is_among x (y ∷ xs) all some = by_test x y xs (test x y) refl all.0 (is_among x xs all.1) some
+
+  each_among : (xs : List A) → ((x : A) → 0 < often x xs → P x) → Each P xs
+  each_among [] all = tt
+  each_among (x ∷ xs) all = (all x (omega (arith, ap {B = ℕ} (λ t. cond t 1 0) (own x))), each_among xs (λ y some. all y (omega (arith, some))))
+
+  pub each_items : (xs ys : List A) → SameItems xs ys → Each P xs → Each P ys
+  each_items xs ys same all = each_among ys (λ y some. is_among y xs all (omega (arith, same (λ u. cond (test y u) 1 0), some)))

@@ -1,5 +1,4 @@
-use Rattle.std.proofs.Common.{◌≡◌, ◌+◌, ◌/◌, ◌%◌, length, ap, subst, arith}
-use Rattle.pin_core.specs.declared.class.Class.{Class}
+use Rattle.std.proofs.Common.{length, ap, subst, arith}
 use Rattle.pinned_pool.specs.Claimed.{ClaimsMore}
 use Rattle.frag_value.proofs.ByClass.{full_claims, all_claims}
 use Rattle.frag_value.proofs.claims.claim_for.Goals as goal

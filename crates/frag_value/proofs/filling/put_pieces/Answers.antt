@@ -1,4 +1,4 @@
-use Rattle.std.proofs.Common.{◌≡◌, ℕ, ◌+◌, ◌-◌, ◌/◌, ◌%◌, ◌<◌, ◌≤◌, ◌++◌, List, take, drop, length, ap, sym, ◌∙◌, append_assoc, length-append, arith}
+use Rattle.std.proofs.Common.{◌≡◌, ℕ, ◌+◌, ◌-◌, ◌++◌, List, take, drop, length, ap, ◌∙◌, append_assoc, length-append, arith}
 use Rattle.std.specs.Int.{w64, to_le_bytes}
 use Rattle.std.proofs.lemmas.List.{length-take, length-drop, take_all, take-append-drop}
 use Rattle.pinned_pool.proofs.Still.{put-sole, put-length}
