@@ -14,7 +14,8 @@ abbrev pub put_all : ℕ → ℕ → List ℕ → View → View
 put_all b i [] v = v
 put_all b i (w ∷ ws) v = put_all b (suc i) ws (put b i w v)
 
--- bytes were written to a buffer from the word at an index on, 8 to a word, of which the last one may have others behind them
+-- bytes were written to a buffer from the word at an index on, 8 to a word, of which the last one may have others
+-- behind them
 pub record PutsBytes (b i : ℕ) (bytes : List ℕ) (old new : View) : Type 0 where
   pub words : List ℕ
   pub count : length words ≡ (length bytes + 7) / 8

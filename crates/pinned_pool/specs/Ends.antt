@@ -14,7 +14,12 @@ pub record End : Type 0 where
   pub large : ℕ
 
 abbrev pub end_of : Sizes → View → End
-end_of z v = record { seat = v; small = held_in (λ weight. total weight v.holds) 0 z.small; large = held_in (λ weight. total weight v.holds) z.small z.large }
+end_of z v = record {
+  seat = v;
+  small = held_in (λ weight. total weight v.holds) 0 z.small;
+  large = held_in
+      (λ weight. total weight v.holds) z.small z.large;
+}
 
 -- how many of the n words from the first on are not 0
 abbrev pub nonzero_in : List ℕ → ℕ → ℕ → ℕ

@@ -25,18 +25,24 @@ pub record WonByLive (views : List View) (b : ℕ) : Type 0 where
 
 pub record InWords (z : Sizes) (words : List ℕ) (views : List View) : Type 0 where
   -- an exclusive hold is the only hold of its buffer
-  pub only : (seat k other j : ℕ) (h g : Holding) → Holds views seat k h → Holds views other j g → h.exclusive ≡ true → g.buffer ≡ h.buffer → (other ≡ seat) × (j ≡ k)
+  pub only : (seat k other j : ℕ) (h g : Holding) → Holds views seat k h → Holds views other j g → h.exclusive ≡ true
+      → g.buffer ≡ h.buffer → (other ≡ seat) × (j ≡ k)
   -- of two holds of one buffer one is pinned
-  pub loose : (seat k other j : ℕ) (h g : Holding) → Holds views seat k h → Holds views other j g → g.buffer ≡ h.buffer → h.pinned ≡ false → g.pinned ≡ false → (other ≡ seat) × (j ≡ k)
+  pub loose : (seat k other j : ℕ) (h g : Holding) → Holds views seat k h → Holds views other j g → g.buffer ≡ h.buffer
+      → h.pinned ≡ false → g.pinned ≡ false → (other ≡ seat) × (j ≡ k)
   -- each hold is of a buffer of the pool, which its front fits
-  pub near : (seat k : ℕ) (h : Holding) → Holds views seat k h → (h.buffer < buffers z) × (length h.front ≤ room z h.buffer)
+  pub near : (seat k : ℕ) (h : Holding) → Holds views seat k h
+      → (h.buffer < buffers z) × (length h.front ≤ room z h.buffer)
   -- each hold's front is what its buffer's data words begin with
-  pub begins : (seat k i : ℕ) (h : Holding) → Holds views seat k h → i < length h.front → slice_index words (word_at z h.buffer i) ≡ slice_index h.front i
+  pub begins : (seat k i : ℕ) (h : Holding) → Holds views seat k h → i < length h.front
+      → slice_index words (word_at z h.buffer i) ≡ slice_index h.front i
   -- all holds of one buffer have the same front
-  pub agree : (seat k other j : ℕ) (h g : Holding) → Holds views seat k h → Holds views other j g → g.buffer ≡ h.buffer → g.front ≡ h.front
+  pub agree : (seat k other j : ℕ) (h g : Holding) → Holds views seat k h → Holds views other j g → g.buffer ≡ h.buffer
+      → g.front ≡ h.front
   -- each buffer that has a hold, and each buffer in a seat's looks, was won by a live seat
   pub held : (seat k : ℕ) (h : Holding) → Holds views seat k h → WonByLive views h.buffer
-  pub looked : (seat k : ℕ) (v : View) (l : ℕ × ℕ) → get_elem? views seat ≡ some v → get_elem? v.looks k ≡ some l → WonByLive views l.0
+  pub looked : (seat k : ℕ) (v : View) (l : ℕ × ℕ) → get_elem? views seat ≡ some v → get_elem? v.looks k ≡ some l
+      → WonByLive views l.0
 
 abbrev pub SoundInWords : Type 0
 SoundInWords = (z : Sizes) (words : List ℕ) (views : List View) → IsSoundTable z words views → InWords z words views

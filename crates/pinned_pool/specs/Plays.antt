@@ -27,7 +27,8 @@ module _ {S : Type 0} where
 
   abbrev pub unpin_tells : Bool → Step S → Me S View → ℕ → Me S View → Type 0
   unpin_tells pin st m r n =
-      (n ≡ (unpin (r == 1) (record { buffer = st.word; pinned = pin }) m.0, m.1)) × (r ≡ 1 → total (at st.word) n.0.holds ≡ 0)
+      (n ≡ (unpin (r == 1) (record { buffer = st.word; pinned = pin }) m.0, m.1))
+      × (r ≡ 1 → total (at st.word) n.0.holds ≡ 0)
 
   -- a load that tells what the rule says of the seat's own holds
   abbrev pub rule_tells : Step S → Me S View → ℕ → Me S View → Type 0

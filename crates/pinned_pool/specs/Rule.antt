@@ -1,5 +1,6 @@
 -- The rule of a pool's table: what holds of its words and of the views of all seats between any two steps.
-use Rattle.std.specs.Prelude.{◌≡◌, ℕ, ◌+◌, ◌^◌, ◌<◌, ◌≤◌, List, ◌==◌, if◌then◌else◌, length, map, drop, replicate, slice_index}
+use Rattle.std.specs.Prelude.{◌≡◌, ℕ, ◌+◌, ◌^◌, ◌<◌, ◌≤◌, List, ◌==◌, if◌then◌else◌, length, map, drop, replicate}
+use Rattle.std.specs.Prelude.{slice_index}
 use mathlib.Core.Option.{some}
 use lib.ListN.{get_elem?}
 use Rattle.view_sums.specs.Numbered.{by_number}
@@ -27,7 +28,11 @@ credits_by seat v = replicate v.credits seat
 
 -- the plain list of holds: the holders are the seats, by their numbers
 abbrev pub pins_of : Sizes → List ℕ → List View → Pins ℕ
-pins_of z words views = record { holds = by_number holds_by 0 views; words = drop (buffers z) words; credits = by_number credits_by 0 views }
+pins_of z words views = record {
+  holds = by_number holds_by 0 views;
+  words = drop (buffers z) words;
+  credits = by_number credits_by 0 views;
+}
 
 pub record IsSoundTable (z : Sizes) (words : List ℕ) (views : List View) : Type 0 where
   pub sized : length words ≡ table_words z

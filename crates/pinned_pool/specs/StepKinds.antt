@@ -1,5 +1,6 @@
 -- The kinds of step on a pool's table, and what is true of each.
-use Rattle.std.specs.Prelude.{◌≡◌, ◌≢◌, ℕ, ◌+◌, ◌-◌, ◌<◌, ◌≤◌, List, [], ◌∷◌, ◌++◌, Bool, ◌==◌, length, map, slice_index, slice_set}
+use Rattle.std.specs.Prelude.{◌≡◌, ◌≢◌, ℕ, ◌+◌, ◌-◌, ◌<◌, ◌≤◌, List, [], ◌∷◌, ◌++◌, Bool, ◌==◌, length, map}
+use Rattle.std.specs.Prelude.{slice_index, slice_set}
 use mathlib.Core.Option.{some}
 use lib.ListN.{get_elem?}
 use Rattle.view_sums.specs.Total.{total}
@@ -10,7 +11,8 @@ use Rattle.pin_core.specs.PinStep as event
 use Rattle.pin_core.specs.declared.sizes.Sizes.{Sizes}
 use Rattle.pinned_pool.specs.Views.{nobody, all_holds}
 use Rattle.pinned_pool.specs.Rule.{word_at, pins_of, IsSoundTable}
-use Rattle.pinned_pool.specs.Moves.{key_of, times, taken_by, front_of, won, lost, pin, put, unpin, split_old, split_new, joined}
+use Rattle.pinned_pool.specs.Moves.{key_of, times, taken_by, front_of, won, lost, pin, put, unpin, split_old, split_new}
+use Rattle.pinned_pool.specs.Moves.{joined}
 use Rattle.pinned_pool.specs.declared.view.View.{View}
 
 pub data Kind : Type 0 where

@@ -5,7 +5,8 @@ use Rattle.pin_core.specs.Holding.{Holding, loose_at}
 use Rattle.pinned_pool.specs.declared.view.View.{View}
 
 abbrev pub view : List Holding → ℕ → List ℕ → List (ℕ × ℕ) → ℕ → List ℕ → View
-view holds credits claims looks returns lasts = record { holds = holds; credits = credits; claims = claims; looks = looks; returns = returns; lasts = lasts }
+view holds credits claims looks returns lasts =
+    record { holds = holds; credits = credits; claims = claims; looks = looks; returns = returns; lasts = lasts }
 
 -- a spent seat has nothing
 abbrev pub nobody : View

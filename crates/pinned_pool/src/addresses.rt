@@ -8,8 +8,9 @@ use crate::pool::Pool;
 const BASE: u64 = 1_048_576;
 
 impl<N: PoolName> Pool<N> {
-    /// The address of the buffer's first byte. The small buffers stand one after another, 512 bytes each, and behind them
-    /// the large ones, 4,096 bytes each. A number behind the last buffer has the address that a further one would have.
+    /// The address of the buffer's first byte. The small buffers stand one after another, 512 bytes each, and behind
+    /// them the large ones, 4,096 bytes each. A number behind the last buffer has the address that a further one would
+    /// have.
     pub fn address(&self, buffer: u32) -> u64
         ensures { result ≡ address_of N.sizes buffer }
     {

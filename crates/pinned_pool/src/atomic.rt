@@ -1,5 +1,5 @@
-// The atomic steps, each a short function. No other file of this crate names the part of the table that threads share, so what a
-// call does to it is what these functions tell.
+// The atomic steps, each a short function. The code of no other file of this crate names the part of the table that
+// threads share (only ghost clauses do, where a pool is named), so what a call does to it is what these functions tell.
 ghost use Rattle.std.specs.Prelude.{
   ◌≡◌,
   ℕ,
@@ -43,7 +43,8 @@ impl<N: PoolName> Pool<N> {
     // A compare-exchange of the count word.
     pub(crate) fn try_claim(&self, seat: &mut PoolSeat<N>, buffer: u32) -> bool
         requires { buffer < buffers N.sizes }
-        ensures { MatchBool result ((seat.new ≡ won buffer seat.old) × (total (at buffer) seat.old.holds ≡ 0)) ((found : ℕ) × (0 < found) × (seat.new ≡ lost buffer found seat.old)) }
+        ensures { MatchBool result ((seat.new ≡ won buffer seat.old) × (total (at buffer) seat.old.holds ≡ 0))
+            ((found : ℕ) × (0 < found) × (seat.new ≡ lost buffer found seat.old)) }
     {
         let at = &mut seat.seat;
         let found = self
@@ -56,7 +57,8 @@ impl<N: PoolName> Pool<N> {
     // A load of the count word, which costs far less than a compare-exchange.
     pub(crate) fn seems_free(&self, seat: &mut PoolSeat<N>, buffer: u32) -> bool
         requires { buffer < buffers N.sizes }
-        ensures { MatchBool result (seat.new ≡ seat.old) ((found : ℕ) × (0 < found) × (seat.new ≡ lost buffer found seat.old)) }
+        ensures { MatchBool result (seat.new ≡ seat.old)
+            ((found : ℕ) × (0 < found) × (seat.new ≡ lost buffer found seat.old)) }
     {
         let at = &mut seat.seat;
         let found = self.table.shared.load::<Look>(at, buffer as usize);

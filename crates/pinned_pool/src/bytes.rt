@@ -35,7 +35,8 @@ impl<N: PoolName> Pool<N> {
     fn put_whole(&self, seat: &mut PoolSeat<N>, hold: &Hold<N>, index: u32, bytes: &[u8])
         requires whole { length bytes.now % 8 ≡ 0 }
         requires exclusive { 0 < total (sole_at hold.now.buffer) seat.old.holds }
-        requires index { (index ≤ length (front_of hold.now.buffer seat.old.holds)) × (8 * index + length bytes.now ≤ 8 * room N.sizes hold.now.buffer) }
+        requires index { (index ≤ length (front_of hold.now.buffer seat.old.holds))
+            × (8 * index + length bytes.now ≤ 8 * room N.sizes hold.now.buffer) }
         ensures { PutsBytes hold.now.buffer index bytes.now seat.old seat.new }
     {
         let buffer = hold.buffer();
@@ -46,11 +47,12 @@ impl<N: PoolName> Pool<N> {
         }
     }
 
-    /// Writes bytes from the word at an index on, 8 to a word, each in a single step. The last word is filled up with zeros, and
-    /// the front ends with it.
+    /// Writes bytes from the word at an index on, 8 to a word, each in a single step. The last word is filled up with
+    /// zeros, and the front ends with it.
     pub fn put_bytes(&self, seat: &mut PoolSeat<N>, hold: &Hold<N>, index: u32, bytes: &[u8])
         requires exclusive { 0 < total (sole_at hold.now.buffer) seat.old.holds }
-        requires index { (index ≤ length (front_of hold.now.buffer seat.old.holds)) × (8 * index + length bytes.now ≤ 8 * room N.sizes hold.now.buffer) }
+        requires index { (index ≤ length (front_of hold.now.buffer seat.old.holds))
+            × (8 * index + length bytes.now ≤ 8 * room N.sizes hold.now.buffer) }
         ensures { PutsBytes hold.now.buffer index bytes.now seat.old seat.new }
     {
         let whole = bytes.len() / 8;
@@ -67,7 +69,8 @@ impl<N: PoolName> Pool<N> {
         requires held { 0 < total (at buffer) seat.old.holds }
         requires inside { 8 * index + length room.old ≤ 8 * length (front_of buffer seat.old.holds) }
         ensures seat { seat.new ≡ seat.old }
-        ensures bytes { room.new ≡ take (length room.old) (drop (8 * index) (bytes_of (front_of buffer seat.old.holds))) }
+        ensures bytes { room.new
+            ≡ take (length room.old) (drop (8 * index) (bytes_of (front_of buffer seat.old.holds))) }
     {
         seat.is_seat();
         let first = self.first_word(buffer);
@@ -90,7 +93,8 @@ impl<N: PoolName> Pool<N> {
         requires held { 0 < total (at buffer) seat.old.holds }
         requires inside { index < length (front_of buffer seat.old.holds) }
         ensures seat { seat.new ≡ seat.old }
-        ensures bytes { room.new ≡ take (length room.old) (drop (8 * index + from) (bytes_of (front_of buffer seat.old.holds))) }
+        ensures bytes { room.new
+            ≡ take (length room.old) (drop (8 * index + from) (bytes_of (front_of buffer seat.old.holds))) }
     {
         let word = self.load_at(seat, buffer, index).to_le_bytes();
         room.copy_from_slice(&word[from..from + room.len()]);
@@ -101,7 +105,8 @@ impl<N: PoolName> Pool<N> {
         requires held { 0 < total (at buffer) seat.old.holds }
         requires inside { 8 * index + length room.old ≤ 8 * length (front_of buffer seat.old.holds) }
         ensures seat { seat.new ≡ seat.old }
-        ensures bytes { room.new ≡ take (length room.old) (drop (8 * index) (bytes_of (front_of buffer seat.old.holds))) }
+        ensures bytes { room.new
+            ≡ take (length room.old) (drop (8 * index) (bytes_of (front_of buffer seat.old.holds))) }
     {
         seat.is_seat();
         let whole = room.len() / 8;
@@ -117,8 +122,8 @@ impl<N: PoolName> Pool<N> {
         }
     }
 
-    /// Reads bytes of the front of a buffer that the seat holds, from an offset on, into the whole room. Each word is loaded in a
-    /// single step.
+    /// Reads bytes of the front of a buffer that the seat holds, from an offset on, into the whole room. Each word is
+    /// loaded in a single step.
     pub fn load_bytes(&self, seat: &mut PoolSeat<N>, buffer: u32, from: u32, room: &mut [u8])
         requires held { 0 < total (at buffer) seat.old.holds }
         requires inside { from + length room.old ≤ 8 * length (front_of buffer seat.old.holds) }

@@ -36,7 +36,8 @@ impl<N: PoolName> Pool<N> {
     // A buffer that a look finds held is a lost claim, and only one that seems free is stepped for.
     fn win(&self, seat: &mut PoolSeat<N>, buffer: u32) -> bool
         requires { buffer < buffers N.sizes }
-        ensures { MatchBool result ((seat.new ≡ won buffer seat.old) × (total (at buffer) seat.old.holds ≡ 0)) ((found : ℕ) × (0 < found) × (seat.new ≡ lost buffer found seat.old)) }
+        ensures { MatchBool result ((seat.new ≡ won buffer seat.old) × (total (at buffer) seat.old.holds ≡ 0))
+            ((found : ℕ) × (0 < found) × (seat.new ≡ lost buffer found seat.old)) }
     {
         if self.seems_free(seat, buffer) {
             self.try_claim(seat, buffer)
@@ -47,7 +48,8 @@ impl<N: PoolName> Pool<N> {
 
     // The first buffer of the class, and how many there are.
     fn range(&self, class: Class) -> (u32, u32)
-        ensures range { (result.0 ≡ first_of N.sizes class) × (result.1 ≡ count_of N.sizes class) × (result.0 + result.1 ≤ buffers N.sizes) }
+        ensures range { (result.0 ≡ first_of N.sizes class) × (result.1 ≡ count_of N.sizes class)
+            × (result.0 + result.1 ≤ buffers N.sizes) }
         ensures fits { buffers N.sizes < 2 ^ 32 }
     {
         match class {
@@ -59,7 +61,8 @@ impl<N: PoolName> Pool<N> {
     // Goes over the buffers of the class in ascending order.
     fn scan(&self, seat: &mut PoolSeat<N>, class: Class) -> Result<Hold<N>, NoBuffer>
         ensures won { IfOk result (λ h. Wins N.sizes class h seat.old seat.new) }
-        ensures none { IfErr result (λ e. (e.class ≡ class) × (e.looked ≡ count_of N.sizes class) × Passed (first_of N.sizes class) e.looked seat.old seat.new) }
+        ensures none { IfErr result (λ e. (e.class ≡ class) × (e.looked ≡ count_of N.sizes class)
+            × Passed (first_of N.sizes class) e.looked seat.old seat.new) }
     {
         let (first, count) = self.range(class);
         for k in 0..count {
@@ -78,11 +81,12 @@ impl<N: PoolName> Pool<N> {
         })
     }
 
-    /// Takes the first buffer of the class that it finds free, in ascending order. The hold is exclusive, and its front is
-    /// empty.
+    /// Takes the first buffer of the class that it finds free, in ascending order. The hold is exclusive, and its front
+    /// is empty.
     pub fn claim(&self, seat: &mut PoolSeat<N>, class: Class) -> Result<Hold<N>, NoBuffer>
         ensures won { IfOk result (λ h. Wins N.sizes class h seat.old seat.new) }
-        ensures none { IfErr result (λ e. (e.class ≡ class) × (e.looked ≡ count_of N.sizes class) × Passed (first_of N.sizes class) e.looked seat.old seat.new) }
+        ensures none { IfErr result (λ e. (e.class ≡ class) × (e.looked ≡ count_of N.sizes class)
+            × Passed (first_of N.sizes class) e.looked seat.old seat.new) }
         ensures sought { Sought N.sizes (just class 1) (missing result) seat.old seat.new }
     {
         self.scan(seat, class)
@@ -99,7 +103,8 @@ impl<N: PoolName> Pool<N> {
         requires room { vec_len holds.old + count ≤ vec_capacity holds.old }
         ensures claims { ClaimsMore N.sizes class count holds.old.items holds.new.items seat.old seat.new }
         ensures all { OnOk result (length holds.new.items ≡ length holds.old.items + count) }
-        ensures none { IfErr result (λ e. (e.class ≡ class) × (length holds.new.items < length holds.old.items + count) × NoneFree N.sizes e seat.old seat.new) }
+        ensures none { IfErr result (λ e. (e.class ≡ class) × (length holds.new.items < length holds.old.items + count)
+            × NoneFree N.sizes e seat.old seat.new) }
         ensures sought { Sought N.sizes (just class count) (missing result) seat.old seat.new }
         ensures capacity { vec_capacity holds.new ≡ vec_capacity holds.old }
     {

@@ -25,8 +25,8 @@ impl<N: PoolName> Pool<N> {
         self.join(into, moved);
     }
 
-    /// Hands holds over to another seat. The seat that has them pays: a split needs a credit on each side, which the other seat
-    /// gives back.
+    /// Hands holds over to another seat. The seat that has them pays: a split needs a credit on each side, which the
+    /// other seat gives back.
     pub fn lend<K: NamesHolds>(&self, from: &mut PoolSeat<N>, into: &mut PoolSeat<N>, holds: K)
         requires held { HasHolds (K.keys holds) from.old.holds }
         requires credits { 1 < from.old.credits }

@@ -28,11 +28,13 @@ impl<N: PoolName> Pool<N> {
 
     /// One more hold of the buffer, which is pinned and the taker's, for one of the taker's credits.
     ///
-    /// A step changes one seat only. So the owner takes the step, with credits that are lent to it, and hands the hold on.
+    /// A step changes one seat only. So the owner takes the step, with credits that are lent to it, and hands the hold
+    /// on.
     pub fn pin(&self, owner: &mut PoolSeat<N>, taker: &mut PoolSeat<N>, hold: &Hold<N>) -> Hold<N>
         requires { (0 < times hold.now owner.old.holds) × (2 < taker.old.credits) }
         ensures owner { owner.new ≡ sharing hold.now.buffer owner.old }
-        ensures taker { taker.new ≡ taking (pinned_hold hold.now.buffer (front_of hold.now.buffer owner.old.holds)) taker.old }
+        ensures taker { taker.new ≡ taking (pinned_hold hold.now.buffer (front_of hold.now.buffer owner.old.holds))
+            taker.old }
         ensures new { result ≡ record { buffer = hold.now.buffer; pinned = true } }
     {
         owner.is_seat();

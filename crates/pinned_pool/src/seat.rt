@@ -7,9 +7,9 @@ use std::marker::{Model, PhantomData};
 
 /// Holds and credits of one pool, with which a thread steps.
 ///
-/// Contracts see its holds and credits; its claims, the buffers that it ever won; its looks, the buffers that it found held, each
-/// with the number that was found; its returns, how many pinned holds it gave back; and its lasts, the buffers whose last hold it
-/// gave back.
+/// Contracts see its holds and credits; its claims, the buffers that it ever won; its looks, the buffers that it found
+/// held, each with the number that was found; its returns, how many pinned holds it gave back; and its lasts, the
+/// buffers whose last hold it gave back.
 #[derive(Drop)]
 pub struct PoolSeat<N: PoolName> {
     pub(crate) seat: Seat<(), View>,

@@ -1,4 +1,5 @@
-ghost use Rattle.std.specs.Prelude.{◌≡◌, ◌<◌, ◌≤◌, ◌+◌, ◌↔◌, ◌++◌, [], ◌∷◌, length, slice_get, slice_index_or, Some, IfOk, IsOk, IsNone, OnOk, OnErr, IfErr, IfSome, IfNone};
+ghost use Rattle.std.specs.Prelude.{◌≡◌, ◌<◌, ◌≤◌, ◌+◌, ◌↔◌, ◌++◌, [], ◌∷◌, length, slice_get, slice_index_or, Some};
+ghost use Rattle.std.specs.Prelude.{IfOk, IsOk, IsNone, OnOk, OnErr, IfErr, IfSome, IfNone};
 
 use crate::name::PoolName;
 use crate::seat::PoolSeat;

@@ -257,7 +257,8 @@ fn pin_often<N: PoolName>(
     count: u32,
 )
     requires { (0 < times hold.now owner.old.holds) × (taker.old.holds ≡ []) × (2 < taker.old.credits) }
-    ensures { (0 < times hold.now owner.new.holds) × (taker.new.holds ≡ []) × (taker.new.credits ≡ taker.old.credits) × (owner.new.credits ≡ owner.old.credits) }
+    ensures { (0 < times hold.now owner.new.holds) × (taker.new.holds ≡ []) × (taker.new.credits ≡ taker.old.credits)
+        × (owner.new.credits ≡ owner.old.credits) }
 {
     for _ in 0..count {
         let new = pool.pin(owner, taker, hold);
@@ -274,7 +275,8 @@ fn pin_own<N: PoolName>(
     count: u32,
 ) -> (PoolSeat<N>, PoolSeat<N>, Hold<N>)
     requires { (0 < times hold owner.holds) × (taker.holds ≡ []) × (2 < taker.credits) }
-    ensures { (0 < times hold result.0.holds) × (result.1.credits ≡ taker.credits) × (result.0.credits ≡ owner.credits) × (result.2 ≡ hold) }
+    ensures { (0 < times hold result.0.holds) × (result.1.credits ≡ taker.credits) × (result.0.credits ≡ owner.credits)
+        × (result.2 ≡ hold) }
 {
     pin_often(pool, &mut owner, &mut taker, &hold, count);
     (owner, taker, hold)
@@ -288,7 +290,8 @@ fn claim_and_pin<N: PoolName>(
 ) -> Option<(Hold<N>, Hold<N>)>
     requires { (first.old.holds ≡ []) × (second.old.holds ≡ []) × (2 < second.old.credits) }
     ensures credits { first.new.credits ≡ first.old.credits }
-    ensures holds { IfSome result (λ h. (0 < times h.0 first.new.holds) × (h.0.pinned ≡ false) × (0 < times h.1 second.new.holds) × (h.1.pinned ≡ true) × (second.new.credits + 1 ≡ second.old.credits)) }
+    ensures holds { IfSome result (λ h. (0 < times h.0 first.new.holds) × (h.0.pinned ≡ false)
+        × (0 < times h.1 second.new.holds) × (h.1.pinned ≡ true) × (second.new.credits + 1 ≡ second.old.credits)) }
 {
     let hold = pool.claim(first, Class::Small).ok()?;
     let pinned = pool.pin(first, second, &hold);
@@ -435,6 +438,8 @@ fn fill<N: PoolName>(pool: &Pool<N>, seat: &mut PoolSeat<N>, hold: &Hold<N>, cou
     requires count { count ≤ room N.sizes hold.now.buffer }
     ensures sole { 0 < total (sole_at hold.now.buffer) seat.new.holds }
     ensures front { count ≤ length (front_of hold.now.buffer seat.new.holds) }
+    ensures held { 0 < times hold.now seat.old.holds → 0 < times hold.now seat.new.holds }
+    ensures credits { seat.new.credits ≡ seat.old.credits }
 {
     for k in 0..count {
         pool.put_word(seat, hold, k, 2 * u64::from(k));
@@ -463,5 +468,197 @@ fn last_words(blank: PoolBlank) -> Option<[u64; 2]> {
 fn fills_whole_buffers(rt: HostRuntime) -> Result<(), Fail> {
     let words = last_words(PoolBlank::open(rt.alloc(), 3, 2, 1)?);
     assert!(rt; words == Some([126, 1022]));
+    Ok(())
+}
+
+// Pins a buffer that was filled for a seat that has nothing.
+#[tactic(auto, using(crate::proofs::Still::seat_steps))]
+fn pin_filled<N: PoolName>(
+    pool: &Pool<N>,
+    owner: &mut PoolSeat<N>,
+    taker: &mut PoolSeat<N>,
+    hold: &Hold<N>,
+) -> Hold<N>
+    requires hold { (0 < times hold.now owner.old.holds) × (64 ≤ length (front_of hold.now.buffer owner.old.holds)) }
+    requires taker { (taker.old.holds ≡ []) × (2 < taker.old.credits) }
+    ensures hold { (0 < times hold.now owner.new.holds) × (64 ≤ length (front_of hold.now.buffer owner.new.holds)) }
+    ensures new { (0 < times result taker.new.holds) × (64 ≤ length (front_of result.buffer taker.new.holds)) }
+    ensures pinned { result.pinned ≡ true }
+    ensures credits { (owner.new.credits ≡ owner.old.credits) × (taker.new.credits + 1 ≡ taker.old.credits) }
+{
+    pool.pin(owner, taker, hold)
+}
+
+// Loads all bytes of the buffer over and over. The answer is how often they were these.
+#[tactic(auto, using(crate::proofs::Still::seat_steps))]
+fn load_often<N: PoolName>(
+    pool: &Pool<N>,
+    mut seat: PoolSeat<N>,
+    hold: Hold<N>,
+    bytes: &[u8; 512],
+    count: u32,
+) -> (PoolSeat<N>, Hold<N>, u32)
+    requires { (0 < times hold seat.holds) × (64 ≤ length (front_of hold.buffer seat.holds)) }
+    ensures { (result.0 ≡ seat) × (result.1 ≡ hold) }
+{
+    let mut room = [0u8; 512];
+    let mut same: u32 = 0;
+    for _ in 0..count {
+        pool.load_bytes(&mut seat, hold.buffer(), 0, &mut room);
+        if room == *bytes {
+            same = same.saturating_add(1);
+        }
+    }
+    (seat, hold, same)
+}
+
+// A seat with a pinned hold of the filled buffer.
+#[derive(Drop)]
+struct Loader<N: PoolName> {
+    seat: PoolSeat<N>,
+    hold: Hold<N>,
+}
+
+// The same by two threads. The answer has both loaders again, and what each saw.
+fn load_by_two<N: PoolName + Send + Sync, R: Threads + Sync>(
+    rt: &R,
+    pool: &Pool<N>,
+    loaders: (Loader<N>, Loader<N>),
+    bytes: &[u8; 512],
+    count: u32,
+) -> (Loader<N>, Loader<N>, [u32; 2])
+    requires first { (0 < times loaders.0.hold loaders.0.seat.holds)
+        × (64 ≤ length (front_of loaders.0.hold.buffer loaders.0.seat.holds)) }
+    requires second { (0 < times loaders.1.hold loaders.1.seat.holds)
+        × (64 ≤ length (front_of loaders.1.hold.buffer loaders.1.seat.holds)) }
+    ensures { (result.0 ≡ loaders.0) × (result.1 ≡ loaders.1) }
+{
+    let Loader {
+        seat: first,
+        hold: one,
+    } = loaders.0;
+    let Loader {
+        seat: second,
+        hold: two,
+    } = loaders.1;
+    let ((first, one, seen), (second, two, seen_too)) = join(
+        rt,
+        move || load_often(pool, first, one, bytes, count),
+        move || load_often(pool, second, two, bytes, count),
+    );
+    (
+        Loader {
+            seat: first,
+            hold: one,
+        },
+        Loader {
+            seat: second,
+            hold: two,
+        },
+        [seen, seen_too],
+    )
+}
+
+// With all seats again the pinned holds are given back, and then the owner's, and the pool is closed.
+fn close_loaded<N: PoolName>(
+    pool: Pool<N>,
+    mut owner: PoolSeat<N>,
+    taker: PoolSeat<N>,
+    loaders: (Loader<N>, Loader<N>),
+    hold: Hold<N>,
+) -> ([Unpinned; 3], Held)
+    requires credits { owner.credits + taker.credits + (loaders.0.seat.credits + 1) + (loaders.1.seat.credits + 1)
+        ≡ N.sizes.credits }
+    requires hold { (0 < times hold owner.holds) × (hold.pinned ≡ false) }
+    requires first { (0 < times loaders.0.hold loaders.0.seat.holds) × (loaders.0.hold.pinned ≡ true) }
+    requires second { (0 < times loaders.1.hold loaders.1.seat.holds) × (loaders.1.hold.pinned ≡ true) }
+{
+    let Loader {
+        seat: mut first,
+        hold: one,
+    } = loaders.0;
+    let Loader {
+        seat: mut second,
+        hold: two,
+    } = loaders.1;
+    let unpinned = [
+        pool.unpin(&mut first, one),
+        pool.unpin(&mut second, two),
+        pool.unpin(&mut owner, hold),
+    ];
+    pool.join(&mut owner, taker);
+    pool.join(&mut owner, first);
+    pool.join(&mut owner, second);
+    (unpinned, pool.close(owner).held())
+}
+
+// What was seen, and how the holds were given back.
+type Loaded = ([u32; 2], [Unpinned; 3], Held);
+
+fn load_by_three<N: PoolName + Send + Sync, R: Threads + Sync>(
+    rt: &R,
+    blank: PoolBlank,
+    bytes: &[u8; 512],
+    count: u32,
+) -> Option<Loaded>
+    requires { (blank.table ≡ N.table) × (blank.sizes ≡ N.sizes) × (0 < N.sizes.small) × (9 < N.sizes.credits) }
+{
+    let (pool, mut owner) = blank.name::<N>();
+    let mut first = pool.split(&mut owner, (), 3);
+    let mut second = pool.split(&mut owner, (), 3);
+    let taker = pool.split(&mut owner, (), 3);
+    let hold = pool.claim(&mut owner, Class::Small).ok()?;
+    fill(&pool, &mut owner, &hold, 64);
+    let one = pin_filled(&pool, &mut owner, &mut first, &hold);
+    let two = pin_filled(&pool, &mut owner, &mut second, &hold);
+    let loaders = (
+        Loader {
+            seat: first,
+            hold: one,
+        },
+        Loader {
+            seat: second,
+            hold: two,
+        },
+    );
+    let shared = &pool;
+    let (loaded, pinned) = join(
+        rt,
+        move ||
+            requires { (0 < times loaders.0.hold loaders.0.seat.holds)
+                × (64 ≤ length (front_of loaders.0.hold.buffer loaders.0.seat.holds))
+                × (0 < times loaders.1.hold loaders.1.seat.holds)
+                × (64 ≤ length (front_of loaders.1.hold.buffer loaders.1.seat.holds)) }
+        { load_by_two(rt, shared, loaders, bytes, count) },
+        move || pin_own(shared, owner, taker, hold, count),
+    );
+    let (one, two, seen) = loaded;
+    let (owner, taker, hold) = pinned;
+    let (unpinned, held) = close_loaded(pool, owner, taker, (one, two), hold);
+    Some((seen, unpinned, held))
+}
+
+fn load_in_threads<R: Threads + Sync>(
+    rt: &R,
+    blank: PoolBlank,
+    bytes: &[u8; 512],
+    count: u32,
+) -> Option<Loaded>
+    requires { (0 < blank.sizes.small) × (9 < blank.sizes.credits) }
+{
+    load_by_three::<Brand, R>(rt, blank, bytes, count)
+}
+
+// Two threads load the whole buffer while a third one pins and unpins it.
+#[test]
+fn two_threads_load_what_a_third_pins(rt: HostRuntime) -> Result<(), Fail> {
+    let mut bytes = [0u8; 512];
+    for k in 0..64 {
+        bytes[8 * k] = 2 * k as u8;
+    }
+    let blank = PoolBlank::open(rt.alloc(), 1, 1, 16)?;
+    let loaded = load_in_threads(&rt, blank, &bytes, 10_000);
+    let unpinned = [Unpinned::NotLast, Unpinned::NotLast, Unpinned::Last];
+    assert!(rt; loaded == Some(([10_000, 10_000], unpinned, Held { small: 0, large: 0 })));
     Ok(())
 }

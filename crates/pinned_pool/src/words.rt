@@ -32,7 +32,8 @@ impl<N: PoolName> Pool<N> {
     /// Writes the front's next word, or an earlier one, after which the front ends.
     pub fn put_word(&self, seat: &mut PoolSeat<N>, hold: &Hold<N>, index: u32, word: u64)
         requires exclusive { 0 < total (sole_at hold.now.buffer) seat.old.holds }
-        requires index { (index ≤ length (front_of hold.now.buffer seat.old.holds)) × (index < room N.sizes hold.now.buffer) }
+        requires index { (index ≤ length (front_of hold.now.buffer seat.old.holds))
+            × (index < room N.sizes hold.now.buffer) }
         ensures { seat.new ≡ put hold.now.buffer index word seat.old }
     {
         let buffer = hold.buffer();
