@@ -24,3 +24,4 @@ pub mod Counting
 pub mod Staying
 pub mod Exact
 pub mod HeldCounts
+pub mod Carried

@@ -1,5 +1,6 @@
 -- What a taker was given.
-use Rattle.std.specs.Prelude.{◌≡◌, ℕ, ◌+◌, ◌*◌, ◌-◌, ◌<◌, ◌≤◌, min, zero, suc, List, [], ◌∷◌, ◌++◌, ◌⊎◌, Bool, true, false, length, map, take, drop}
+use Rattle.std.specs.Prelude.{◌≡◌, ℕ, ◌+◌, ◌*◌, ◌-◌, ◌<◌, ◌≤◌, min, zero, suc, List, [], ◌∷◌, ◌++◌, ◌⊎◌, Bool, true}
+use Rattle.std.specs.Prelude.{false, length, map, take, drop}
 use Rattle.view_sums.specs.Total.{total, Each}
 use Rattle.pin_core.specs.Holding.{Holding, Key}
 use Rattle.pin_core.specs.declared.sizes.Sizes.{Sizes}
@@ -41,7 +42,12 @@ pub data Piece : Type 0 where
 -- n bytes of the buffer b, from an offset on
 abbrev pub placed_part : Sizes → List Holding → ℕ → ℕ → ℕ → Placed
 placed_part z hs b from n =
-    record { address = address_of z b; offset = from; bytes = take n (drop from (bytes_of (front_of b hs))); over = false }
+    record {
+      address = address_of z b;
+      offset = from;
+      bytes = take n (drop from (bytes_of (front_of b hs)));
+      over = false;
+    }
 
 abbrev pub placed : Sizes → List Holding → ℕ × ℕ → Placed
 placed z hs p = placed_part z hs p.0 0 p.1
@@ -126,14 +132,16 @@ pub record HandsOver (v : List (ℕ × ℕ)) (old new : View) : Type 0 where
   pub lasts : (more : List ℕ) × (new.lasts ≡ old.lasts ++ more)
 
 -- so many of a value's fragments were handed over, and these are left
-pub record OverSoFar {B : Type 0} (z : Sizes) (v rest : List (ℕ × ℕ)) (old now : View) (begun : B) (some : Begun → B) : Type 0 where
+pub record OverSoFar {B : Type 0} (z : Sizes) (v rest : List (ℕ × ℕ)) (old now : View) (begun : B)
+    (some : Begun → B) : Type 0 where
   pub over : List (ℕ × ℕ)
   pub parts : v ≡ over ++ rest
   pub begun_is : begun ≡ some (record { extent = entire; size = size_of v; frags = over_all z old.holds over })
   pub owner : HandsOver over old now
 
 -- some runs of a range were handed, and so many bytes are left, from a place on in these fragments
-pub record RangeSoFar {B : Type 0} (z : Sizes) (hs : List Holding) (v rest : List (ℕ × ℕ)) (from n skip left : ℕ) (begun : B) (some : Begun → B) : Type 0 where
+pub record RangeSoFar {B : Type 0} (z : Sizes) (hs : List Holding) (v rest : List (ℕ × ℕ)) (from n skip left : ℕ)
+    (begun : B) (some : Begun → B) : Type 0 where
   pub runs : List Placed
   pub begun_is : begun ≡ some (record { extent = ranged; size = n; frags = runs })
   pub all : runs ++ placed_range z hs rest skip left ≡ placed_range z hs v from n

@@ -30,7 +30,8 @@ impl<N: PoolName> Model for Value<N> {
 
     ghost view = { λ v. map (λ f. (f.hold.buffer, f.len)) v.frags.items };
 
-    ghost invariant = { λ v. Each (λ f. f.hold ≡ loose_key f.hold.buffer) v.frags.items × IsValueOf N.sizes v.len (map (λ f. (f.hold.buffer, f.len)) v.frags.items) };
+    ghost invariant = { λ v. Each (λ f. f.hold ≡ loose_key f.hold.buffer) v.frags.items
+        × IsValueOf N.sizes v.len (map (λ f. (f.hold.buffer, f.len)) v.frags.items) };
 }
 
 impl<N: PoolName> Value<N> {
@@ -70,7 +71,8 @@ impl<N: PoolName> Value<N> {
 
     /// Takes the first fragment out, with its hold.
     pub fn next_frag(&mut self) -> Option<Frag<N>>
-        ensures some { IfSome result (λ f. (self.old ≡ (f.hold.buffer, f.len) ∷ self.new) × (f.hold ≡ loose_key f.hold.buffer)) }
+        ensures some { IfSome result (λ f. (self.old ≡ (f.hold.buffer, f.len) ∷ self.new)
+            × (f.hold ≡ loose_key f.hold.buffer)) }
         ensures none { IsNone result ↔ (self.old ≡ []) }
         ensures rest { IfNone result (self.new ≡ self.old) }
     {

@@ -1,4 +1,5 @@
 //! Laws over the definitions, each the contract of a call that does nothing.
+ghost use Rattle.frag_value.specs.Carried.{HoldsComeBack};
 ghost use Rattle.frag_value.specs.Counts.{FragmentsAreCounted};
 ghost use Rattle.frag_value.specs.Exactly.{ValuesAreCounted, ValuesComeAndGo};
 ghost use Rattle.frag_value.specs.Stays.{ValuesStay};
@@ -21,4 +22,9 @@ pub fn values_come_and_go()
 /// A seat that has some values exactly has a hold of each class for each of their fragments, and holds so many buffers.
 pub fn values_are_counted()
     ensures { ValuesAreCounted }
+{}
+
+/// A seat that gets a value's holds and gives them up has its other holds as before, in their order.
+pub fn holds_come_back()
+    ensures { HoldsComeBack }
 {}

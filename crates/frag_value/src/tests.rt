@@ -1,7 +1,9 @@
-ghost use Rattle.std.specs.Prelude.{◌≡◌, ℕ, false, true, ◌+◌, ◌*◌, ◌<◌, ◌≤◌, [], ◌∷◌, length, vec_len, vec_capacity, IfSome, IfOk, IfErr, OnOk};
+ghost use Rattle.std.specs.Prelude.{◌≡◌, ℕ, false, true, ◌+◌, ◌*◌, ◌<◌, ◌≤◌, [], ◌∷◌, length, vec_len, vec_capacity};
+ghost use Rattle.std.specs.Prelude.{IfSome, IfOk, IfErr, OnOk};
 ghost use Rattle.frag_value.specs.Fragments.{value_limit};
 
 mod copier;
+mod keeping;
 
 use crate::{
     AppendError, PlaceError, VALUE_LIMIT, Value, append, fill, hand, hand_over, hand_range,
@@ -9,6 +11,7 @@ use crate::{
 };
 use copier::Copier;
 use flake_base::Memory;
+use keeping::{keep_longer, keep_one, keep_other};
 use pinned_pool::{Class, Held, NoBuffer, Pool, PoolBlank, PoolName, PoolSeat, Unpinned};
 use std::alloc::Global;
 use std::marker::Brand;
@@ -31,7 +34,8 @@ fn sample(alloc: Global, len: usize, first: usize) -> Result<Vec<u8>, Memory>
     Ok(bytes)
 }
 
-// What came of an append: why it was refused, the value's bytes, how many buffers were given back, and what was held at the end.
+// What came of an append: why it was refused, the value's bytes, how many buffers were given back, and what was held at
+// the end.
 #[derive(Drop)]
 struct Kept {
     refused: Option<AppendError>,
@@ -200,7 +204,8 @@ struct Shared {
     again: Shape,
 }
 
-// Writes a value, which a second seat pins; appends to it, and writes once more before and after the second seat gives its hold back.
+// Writes a value, which a second seat pins; appends to it, and writes once more before and after the second seat gives
+// its hold back.
 fn share<N: PoolName>(
     alloc: Global,
     blank: PoolBlank,
@@ -326,13 +331,13 @@ fn check_handed(rt: &impl Abort, alloc: Global, over: bool, held: Held) -> Resul
     let blank = PoolBlank::open(alloc, 2, 4, 1)?;
     let (copier, left) = handed(alloc, blank, &bytes, over)?;
     assert!(rt; !copier.taking && copier.whole && copier.size == 16_385);
-    let mut all = Vec::new(alloc);
+    let mut taken_bytes = Vec::new(alloc);
     let mut places = Vec::new(alloc);
     for copy in &copier.copies {
-        all.extend_from_slice(&copy.bytes[..copy.len])?;
+        taken_bytes.extend_from_slice(&copy.bytes[..copy.len])?;
         places.push((copy.address, copy.offset, copy.len, copy.over))?;
     }
-    assert!(rt; all.as_slice() == bytes.as_slice());
+    assert!(rt; taken_bytes.as_slice() == bytes.as_slice());
     let want = [
         (1_049_600, 0, 4096, over),
         (1_053_696, 0, 4096, over),
@@ -428,16 +433,16 @@ fn check_range(rt: &impl Abort, alloc: Global, bytes: &[u8], row: Row) -> Result
     let blank = PoolBlank::open(alloc, 2, 4, 1)?;
     let copier = range_handed(alloc, blank, bytes, from, len)?;
     assert!(rt; !copier.taking && !copier.whole && copier.size == len);
-    let mut all = Vec::new(alloc);
+    let mut run_bytes = Vec::new(alloc);
     let mut places = Vec::new(alloc);
     for copy in &copier.copies {
-        all.extend_from_slice(&copy.bytes[..copy.len])?;
+        run_bytes.extend_from_slice(&copy.bytes[..copy.len])?;
         places.push((copy.address, copy.offset, copy.len))?;
         assert!(rt; !copy.over);
     }
     assert!(rt; places.as_slice() == want, "{from} and {len}");
     assert!(rt;
-        all.as_slice() == &bytes[from as usize..(from + len) as usize],
+        run_bytes.as_slice() == &bytes[from as usize..(from + len) as usize],
         "{from} and {len}"
     );
     Ok(())
@@ -449,12 +454,12 @@ fn check_longest(rt: &impl Abort, alloc: Global) -> Result<(), Fail> {
     let blank = PoolBlank::open(alloc, 2, 17, 1)?;
     let (copier, left) = handed(alloc, blank, &bytes, false)?;
     assert!(rt; copier.size == 65_536 && copier.copies.len() == 16);
-    let mut all = Vec::new(alloc);
+    let mut taken_bytes = Vec::new(alloc);
     for copy in &copier.copies {
         assert_eq!(rt; copy.len, 4096);
-        all.extend_from_slice(&copy.bytes[..copy.len])?;
+        taken_bytes.extend_from_slice(&copy.bytes[..copy.len])?;
     }
-    assert!(rt; all.as_slice() == bytes.as_slice());
+    assert!(rt; taken_bytes.as_slice() == bytes.as_slice());
     assert_eq!(rt;
         left,
         Held {
@@ -476,5 +481,50 @@ fn a_taker_is_handed_each_run_of_a_range(rt: HostRuntime) -> Result<(), Fail> {
     for row in &RANGES {
         check_range(&rt, rt.alloc(), &bytes, *row)?;
     }
+    Ok(())
+}
+
+// A value of one seat for which another one pays is replaced, appended to, and given back. The answer has both lengths,
+// and how many holds were the last of their buffers.
+fn keep_and_release<N: PoolName>(
+    alloc: Global,
+    blank: PoolBlank,
+    bytes: &[u8],
+) -> Result<(u64, u64, u64), Memory>
+    requires name { (blank.table ≡ N.table) × (blank.sizes ≡ N.sizes) × (2 < N.sizes.credits) }
+    requires few { (0 < length bytes.now) × (length bytes.now ≤ value_limit) }
+{
+    let (pool, mut payer) = blank.name::<N>();
+    let mut owner = pool.split(&mut payer, (), 1);
+    let Ok(first) = keep_one(alloc, &pool, &mut owner, &mut payer, bytes) else {
+        return Err(Memory);
+    };
+    let Ok(second) = keep_other(alloc, &pool, &mut owner, &mut payer, first, bytes) else {
+        return Err(Memory);
+    };
+    let len = second.len();
+    let Ok(third) = keep_longer(alloc, &pool, &mut owner, &mut payer, second, bytes) else {
+        return Err(Memory);
+    };
+    let longer = third.len();
+    Ok((len, longer, release(&pool, &mut owner, third)))
+}
+
+fn kept_and_released(
+    alloc: Global,
+    blank: PoolBlank,
+    bytes: &[u8],
+) -> Result<(u64, u64, u64), Memory>
+    requires { (2 < blank.sizes.credits) × (0 < length bytes.now) × (length bytes.now ≤ value_limit) }
+{
+    keep_and_release::<Brand>(alloc, blank, bytes)
+}
+
+#[test]
+fn values_go_to_the_seat_that_keeps_them(rt: HostRuntime) -> Result<(), Fail> {
+    let bytes = [b'k'; 5_000];
+    let blank = PoolBlank::open(rt.alloc(), 2, 5, 4)?;
+    let kept = kept_and_released(rt.alloc(), blank, &bytes)?;
+    assert!(rt; kept == (5_000, 10_000, 3));
     Ok(())
 }

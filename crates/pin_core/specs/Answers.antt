@@ -1,5 +1,6 @@
 -- What an event is answered: the first test that fails, or what the step did.
-use Rattle.std.specs.Prelude.{ℕ, List, Bool, false, not, ◌&&◌, ◌==◌, nat_lt, nat_le, if◌then◌else◌, length, find, slice_index, Option, None, Some}
+use Rattle.std.specs.Prelude.{ℕ, List, Bool, false, not, ◌&&◌, ◌==◌, nat_lt, nat_le, if◌then◌else◌, length, find}
+use Rattle.std.specs.Prelude.{slice_index, Option, None, Some}
 use Rattle.view_sums.specs.Total.{total}
 use Rattle.pin_core.specs.Buffers.{room}
 use Rattle.pin_core.specs.Holding.{Holding, Key}
@@ -56,11 +57,17 @@ held_first (Some o) tests = tests o.hold
 -- the first refusal of an event, if there is one, in the order of `Refused`
 abbrev pub refusal_of : Sizes → Pins Holder → PinEvent → Option Refused
 refusal_of z s (event.Claim b p) = unless (count_at b s.holds == 0) (NotFree (count_at b s.holds)) None
-refusal_of z s (event.Put b p i x) = held_first (find (is_at p b) s.holds) (λ h. unless h.exclusive NotOwned (unless (nat_le i (length h.front) && nat_lt i (room z b)) (OutOfFront (length h.front)) None))
-refusal_of z s (event.Load b p i) = held_first (find (is_at p b) s.holds) (λ h. unless (nat_lt i (length h.front)) (OutOfFront (length h.front)) None)
-refusal_of z s (event.Pin b p taker) = held_first (find (is_at p b) s.holds) (λ h. unless (nat_lt 0 (credits_of taker s.credits)) NoCredit None)
-refusal_of z s (event.Unpin b p pinned) = held_first (find (is_key p (record { buffer = b; pinned = pinned })) s.holds) (λ h. None)
-refusal_of z s (event.Move b pinned p taker) = held_first (find (is_key p (record { buffer = b; pinned = pinned })) s.holds) (λ h. None)
+refusal_of z s (event.Put b p i x) = held_first (find (is_at p b) s.holds)
+    (λ h. unless h.exclusive NotOwned (unless (nat_le i (length h.front) && nat_lt i (room z b))
+    (OutOfFront (length h.front)) None))
+refusal_of z s (event.Load b p i) = held_first (find (is_at p b) s.holds)
+    (λ h. unless (nat_lt i (length h.front)) (OutOfFront (length h.front)) None)
+refusal_of z s (event.Pin b p taker) = held_first (find (is_at p b) s.holds)
+    (λ h. unless (nat_lt 0 (credits_of taker s.credits)) NoCredit None)
+refusal_of z s (event.Unpin b p pinned) = held_first (find (is_key p (record { buffer = b; pinned = pinned })) s.holds)
+    (λ h. None)
+refusal_of z s (event.Move b pinned p taker) =
+    held_first (find (is_key p (record { buffer = b; pinned = pinned })) s.holds) (λ h. None)
 refusal_of z s (event.Give p taker n) = unless (nat_le n (credits_of p s.credits)) NoCredit None
 
 -- the word at the index in the front of the first hold

@@ -8,4 +8,5 @@ use Rattle.pin_core.specs.declared.sizes.Sizes.{Sizes}
 
 -- what any events make of a pool that was just opened is sound
 abbrev pub EventsKeepSound : Type 0 → Type 0
-EventsKeepSound H = (z : Sizes) (opener : H) (events : List (Event H)) (end : Pins H) → Each (IsNear z) events → PinSteps z (opened z opener) events end → IsSound z end
+EventsKeepSound H = (z : Sizes) (opener : H) (events : List (Event H)) (end : Pins H) → Each (IsNear z) events
+    → PinSteps z (opened z opener) events end → IsSound z end

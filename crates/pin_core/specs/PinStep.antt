@@ -1,5 +1,7 @@
--- The seven events, and what each makes of a plain list of holds. Lists of holds and of credits are compared by how often each item stands in them.
-use Rattle.std.specs.Prelude.{◌≡◌, ℕ, ◌+◌, ◌<◌, ◌≤◌, List, [], ◌∷◌, ◌++◌, true, if◌then◌else◌, length, replicate, slice_set}
+-- The seven events, and what each makes of a plain list of holds. Lists of holds and of credits are compared by how
+-- often each item stands in them.
+use Rattle.std.specs.Prelude.{◌≡◌, ℕ, ◌+◌, ◌<◌, ◌≤◌, List, [], ◌∷◌, ◌++◌, true, if◌then◌else◌, length, replicate}
+use Rattle.std.specs.Prelude.{slice_set}
 use Rattle.view_sums.specs.Total.{SameItems, Adds}
 use Rattle.pin_core.specs.Buffers.{buffers, room, start}
 use Rattle.pin_core.specs.Holding.{Holding, Key, IsMeant, fresh, shared, pinned_copy, written}

@@ -12,7 +12,8 @@ abbrev pub front_in : Sizes → List ℕ → ℕ → ℕ → List ℕ
 front_in z words b n = take n (drop (start z b) words)
 
 abbrev pub owned_in : Sizes → List ℕ → Hold → Owned Holder
-owned_in z words h = own h.holder (record { buffer = h.buffer; front = front_in z words h.buffer h.length; exclusive = h.exclusive; pinned = h.pinned })
+owned_in z words h = own h.holder (record
+    { buffer = h.buffer; front = front_in z words h.buffer h.length; exclusive = h.exclusive; pinned = h.pinned })
 
 abbrev pub is_raw_at : Holder → ℕ → Hold → Bool
 is_raw_at p b h = same_holder h.holder p && (h.buffer == b)

@@ -1,5 +1,6 @@
 -- What holds of all holds between any two events.
-use Rattle.std.specs.Prelude.{◌≡◌, ℕ, ◌+◌, ◌<◌, ◌≤◌, List, [], ◌∷◌, Bool, true, false, ◌&&◌, ◌==◌, nat_lt, if◌then◌else◌, length, slice_index, replicate}
+use Rattle.std.specs.Prelude.{◌≡◌, ℕ, ◌+◌, ◌<◌, ◌≤◌, List, [], ◌∷◌, Bool, true, false, ◌&&◌, ◌==◌, nat_lt}
+use Rattle.std.specs.Prelude.{if◌then◌else◌, length, slice_index, replicate}
 use Rattle.pin_core.specs.Buffers.{buffers, room, start, word_count}
 use Rattle.pin_core.specs.Holding.{Holding, at, sole_at, loose_at, pin_of}
 use Rattle.pin_core.specs.Pins.{Pins, weigh}
@@ -26,7 +27,8 @@ pub record AreSound (z : Sizes) (words : List ℕ) (weighs : (Holding → ℕ) �
   pub fitting : weighs (misfit z fronts) ≡ 0
   -- a front fits its buffer, and the buffer's data words begin with it
   pub short : (b : ℕ) → length (fronts b) ≤ room z b
-  pub begun : (b i : ℕ) → b < buffers z → i < length (fronts b) → slice_index words (start z b + i) ≡ slice_index (fronts b) i
+  pub begun : (b i : ℕ) → b < buffers z → i < length (fronts b)
+      → slice_index words (start z b + i) ≡ slice_index (fronts b) i
 
 pub record IsSound {H : Type 0} (z : Sizes) (s : Pins H) : Type 0 where
   pub sized : length s.words ≡ word_count z

@@ -34,11 +34,12 @@ pub record IsKept (z : Sizes) (holds : List Hold) (words : List ℕ) (credits : 
   pub short : Each (λ (h : Hold). h.length ≤ room z h.buffer) holds
 
 -- how an event is answered
-pub record IsAnswer (old : SizedPins) (event : PinEvent) (result : Result Change Refused) (new : SizedPins) : Type 0 where
-  pub refused : MatchOption (refusal_of old.sizes old.pins event) (IsOkUnless result Memory) (λ r. result ≡ Err r)
-  pub stepped : IfOk result (λ _. PinStep old.sizes old.pins (event_of event) new.pins)
-  pub tells : IfOk result (λ change. change ≡ change_of old.pins event)
-  pub unchanged : OnErr result (new ≡ old)
-  pub sizes : new.sizes ≡ old.sizes
-  pub was_sound : IsSound old.sizes old.pins
-  pub sound : IsSound new.sizes new.pins
+pub record IsAnswer (old : SizedPins) (event : PinEvent) (result : Result Change Refused) (new : SizedPins) : Type 0
+  where
+    pub refused : MatchOption (refusal_of old.sizes old.pins event) (IsOkUnless result Memory) (λ r. result ≡ Err r)
+    pub stepped : IfOk result (λ _. PinStep old.sizes old.pins (event_of event) new.pins)
+    pub tells : IfOk result (λ change. change ≡ change_of old.pins event)
+    pub unchanged : OnErr result (new ≡ old)
+    pub sizes : new.sizes ≡ old.sizes
+    pub was_sound : IsSound old.sizes old.pins
+    pub sound : IsSound new.sizes new.pins

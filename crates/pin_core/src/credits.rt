@@ -15,7 +15,8 @@ struct Account {
     credits: u64,
 }
 
-/// The credits of all holders, in one account for each. Contracts see a list in which a holder stands once for each of its credits.
+/// The credits of all holders, in one account for each. Contracts see a list in which a holder stands once for each of
+/// its credits.
 #[derive(Drop)]
 pub(crate) struct Credits {
     accounts: Vec<Account>,

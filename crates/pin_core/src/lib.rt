@@ -1,4 +1,5 @@
-//! The holds of a pool's buffers as a plain list: who holds which buffer, what it may do with it, and what each event makes of that.
+//! The holds of a pool's buffers as a plain list: who holds which buffer, what it may do with it, and what each event
+//! makes of that.
 #![tactic(auto)]
 
 mod class;

@@ -1,4 +1,5 @@
-ghost use Rattle.std.specs.Prelude.{◌≡◌, ◌≢◌, ◌+◌, ◌<◌, ◌≤◌, ◌^◌, ◌==◌, length, position, count_by, MatchOption, IfOk, IfErr, OnErr, IsOkUnless};
+ghost use Rattle.std.specs.Prelude.{◌≡◌, ◌≢◌, ◌+◌, ◌<◌, ◌≤◌, ◌^◌, ◌==◌, length, position, count_by, MatchOption, IfOk};
+ghost use Rattle.std.specs.Prelude.{IfErr, OnErr, IsOkUnless};
 ghost use Rattle.pin_core.specs.declared.holder.Holder.{Holder};
 ghost use Rattle.pin_core.specs.Buffers.{buffers, IsWithin};
 ghost use Rattle.pin_core.specs.Pins.{weigh, count_at};
@@ -73,7 +74,8 @@ impl PinState {
     /// A pool without holds, all of whose credits `Session(0)` has.
     pub fn open(alloc: Global, small: u32, large: u32, credits: u64) -> Result<PinState, Memory>
         requires { IsWithin (record { small = small; large = large; credits = credits }) }
-        ensures { IfOk result (λ s. s ≡ opened_by (record { small = small; large = large; credits = credits }) (Holder.Session 0)) }
+        ensures { IfOk result (λ s. s ≡ opened_by (record { small = small; large = large; credits = credits })
+            (Holder.Session 0)) }
     {
         let sizes = Sizes {
             small,
@@ -97,13 +99,15 @@ impl PinState {
         requires { IsNear self.old.sizes (event_of event) }
 
         // A refusal other than want of memory is that of the first test that fails, and comes exactly where one fails.
-        ensures refused { MatchOption (refusal_of self.old.sizes self.old.pins event) (IsOkUnless result Refused.Memory) (λ r. result ≡ Err r) }
+        ensures refused { MatchOption (refusal_of self.old.sizes self.old.pins event) (IsOkUnless result Refused.Memory)
+            (λ r. result ≡ Err r) }
         ensures stepped { IfOk result (λ _. PinStep self.old.sizes self.old.pins (event_of event) self.new.pins) }
         ensures tells { IfOk result (λ change. change ≡ change_of self.old.pins event) }
         ensures err { OnErr result (self.new ≡ self.old) }
 
         // Only want of memory keeps a step of the definition from being made.
-        ensures only { IfErr result (λ r. r ≢ Refused.Memory → ¬ (HasStep self.old.sizes self.old.pins (event_of event))) }
+        ensures only { IfErr result (λ r. r ≢ Refused.Memory
+            → ¬ (HasStep self.old.sizes self.old.pins (event_of event))) }
         ensures sizes { self.new.sizes ≡ self.old.sizes }
         ensures sound { IsSound self.new.sizes self.new.pins }
     {

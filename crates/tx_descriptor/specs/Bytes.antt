@@ -13,7 +13,8 @@ status_byte v = cond v.dd 1 0
 
 -- address and length, each with its low byte first, then CSO, CMD, STA, CSS and the special field
 abbrev pub descriptor_bytes : Legacy → List ℕ
-descriptor_bytes v = to_le_bytes w64 v.address ++ (to_le_bytes w16 v.len ++ (0 ∷ command_byte v ∷ status_byte v ∷ 0 ∷ 0 ∷ 0 ∷ []))
+descriptor_bytes v = to_le_bytes w64 v.address
+    ++ (to_le_bytes w16 v.len ++ (0 ∷ command_byte v ∷ status_byte v ∷ 0 ∷ 0 ∷ 0 ∷ []))
 
 -- the bits of each byte that the profile leaves 0
 abbrev pub reserved : List ℕ

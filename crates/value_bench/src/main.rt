@@ -1,5 +1,5 @@
-//! Writes values into a pool, appends to each, reads it back, and gives it back, so that instructions can be counted. Its words: how
-//! many values, how many bytes are written, how many are appended, and how often each value is read.
+//! Writes values into a pool, appends to each, reads it back, and gives it back, so that instructions can be counted.
+//! Its words: how many values, how many bytes are written, how many are appended, and how often each value is read.
 #![tactic(auto)]
 
 ghost use Rattle.std.specs.Prelude.{◌≡◌, ◌≤◌, length};

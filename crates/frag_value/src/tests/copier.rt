@@ -50,7 +50,8 @@ impl Copier {
 // A run's length, which no buffer is shorter than.
 fn len_of<N: PoolName>(owner: &PoolSeat<N>, frag: &Frag<N>, from: u32, len: u32) -> usize
     requires held { 0 < times frag.now.hold owner.now.holds }
-    requires filled { (from + len ≤ frag.now.len) × (frag.now.len ≤ 8 * length (front_of frag.now.hold.buffer owner.now.holds)) }
+    requires filled { (from + len ≤ frag.now.len)
+        × (frag.now.len ≤ 8 * length (front_of frag.now.hold.buffer owner.now.holds)) }
     ensures len { result ≡ len }
     ensures short { result ≤ 4096 }
 {
@@ -68,10 +69,13 @@ fn copy<N: PoolName>(
     len: u32,
 ) -> Copied
     requires held { 0 < times frag.now.hold owner.old.holds }
-    requires filled { (from + len ≤ frag.now.len) × (frag.now.len ≤ 8 * length (front_of frag.now.hold.buffer owner.old.holds)) }
+    requires filled { (from + len ≤ frag.now.len)
+        × (frag.now.len ≤ 8 * length (front_of frag.now.hold.buffer owner.old.holds)) }
     ensures owner { owner.new ≡ owner.old }
-    ensures place { (result.address ≡ address_of N.sizes frag.now.hold.buffer) × (result.offset ≡ from) × (result.over ≡ false) }
-    ensures bytes { take result.len result.bytes ≡ take len (drop from (bytes_of (front_of frag.now.hold.buffer owner.old.holds))) }
+    ensures place { (result.address ≡ address_of N.sizes frag.now.hold.buffer) × (result.offset ≡ from)
+        × (result.over ≡ false) }
+    ensures bytes { take result.len result.bytes
+        ≡ take len (drop from (bytes_of (front_of frag.now.hold.buffer owner.old.holds))) }
 {
     let len = len_of(owner, frag, from, len);
     let buffer = frag.hold.buffer();
@@ -92,9 +96,28 @@ impl<N: PoolName> Taker<N> for Copier {
 
     type Base = ();
 
-    ghost taken = { λ c. if c.fresh then [] else (if c.taking then [] else whole (record { extent = if c.whole then entire else ranged; size = c.size; frags = map (λ f. record { address = f.address; offset = f.offset; bytes = take f.len f.bytes; over = f.over }) c.copies.items }) ∷ []) };
+    ghost taken = { λ c. if c.fresh then [] else (if c.taking then [] else whole (record {
+      extent = if c.whole then entire else ranged;
+      size = c.size;
+      frags = map (λ f. record {
+        address = f.address;
+        offset = f.offset;
+        bytes = take f.len f.bytes;
+        over = f.over;
+      }) c.copies.items;
+    }) ∷ []) };
 
-    ghost begun = { λ c. if c.taking then Some (record { extent = if c.whole then entire else ranged; size = c.size; frags = map (λ f. record { address = f.address; offset = f.offset; bytes = take f.len f.bytes; over = f.over }) c.copies.items }) else None };
+    ghost begun = { λ c. if c.taking then Some (record {
+      extent = if c.whole then entire else ranged;
+      size = c.size;
+      frags = map (λ f. record {
+        address = f.address;
+        offset = f.offset;
+        bytes = take f.len f.bytes;
+        over = f.over;
+      }) c.copies.items;
+    })
+        else None };
 
     ghost base = { λ _. tt };
 
