@@ -1,0 +1,12 @@
+use Rattle.std.proofs.Common.{◌≡◌, take}
+use Rattle.reply_layout.specs.Gathered.{read_all}
+use Rattle.reply_planner.specs.Places.{reading}
+use Rattle.tx_ring.specs.Jobs.{frame_of}
+use Rattle.device_model.specs.Devices.{PutsText}
+use Rattle.device_model.proofs.sending.send_frame.Given as goal
+
+abbrev pub invariant-loop-i : goal.invariant-loop-i
+invariant-loop-i g l = record {
+  job : l.job ≡ l.fn.job;
+  sends : PutsText (λ w p r. goal.P-post g l.put w p r) l.failed l.has_failed (read_all (reading g.N.PoolName.sizes (frame_of l.fn.job).holds) (take l.i (frame_of l.fn.job).segments)) l.fn.wire l.wire;
+}

@@ -1,0 +1,26 @@
+use Rattle.std.proofs.Common.{rules, ◌≡◌, length, true, false, refl, sym, ap, subst, arith}
+use Rattle.any_wire.proofs.Sending.{sends-put, sends-same}
+use Rattle.reply_planner.specs.Places.{bytes_in}
+use Rattle.device_model.specs.Devices.{PutsText}
+use Rattle.device_model.proofs.Puts.{run-length}
+use Rattle.device_model.proofs.sending.send_piece.Goals as goal
+
+pub returns-then-failed-clause-sends : goal.returns-then-failed-clause-sends
+returns-then-failed-clause-sends g c =
+    let p = c.args.parcel.now in
+    let bytes = bytes_in p.holds c.args.buffer c.args.from c.args.count in
+    let n = run-length g.N.PoolName.sizes p c.args.buffer c.args.from c.args.count c.is_parcel.ensures c.requires.bytes in
+    subst (λ f. PutsText (λ w p r. goal.P-post g c.args.put.now w p r) f true bytes c.args.wire c.args.wire) (sym c.if-failed.true)
+    (sends-put (λ w p r. goal.P-post g c.args.put.now w p r) (λ w r. ⊥) true true bytes c.args.wire c.args.wire
+    (omega (arith, n, c.requires.count.0), omega (arith, n, c.requires.count.1)) (refl, refl))
+
+pub returns-clause-sends : goal.returns-clause-sends
+returns-clause-sends g c =
+    let p = c.args.parcel.now in
+    let bytes = bytes_in p.holds c.args.buffer c.args.from c.args.count in
+    let n = run-length g.N.PoolName.sizes p c.args.buffer c.args.from c.args.count c.is_parcel.ensures c.requires.bytes in
+    let read : c.load_bytes.new.room ≡ bytes = search rules in
+    subst (λ f. PutsText (λ w p r. goal.P-post g c.args.put.now w p r) f c.put_unless_failed.result.1 bytes c.args.wire c.put_unless_failed.result.0) (sym c.if-failed.false)
+    (sends-same (λ w p r. goal.P-post g c.args.put.now w p r) (λ w r. ⊥) false c.put_unless_failed.result.1 c.load_bytes.new.room bytes c.args.wire c.put_unless_failed.result.0 read
+    (sends-put (λ w p r. goal.P-post g c.args.put.now w p r) (λ w r. ⊥) false c.put_unless_failed.result.1 c.load_bytes.new.room c.args.wire c.put_unless_failed.result.0
+    (omega (arith, ap length read, n, c.requires.count.0), omega (arith, ap length read, n, c.requires.count.1)) c.put_unless_failed.ensures))

@@ -1,0 +1,43 @@
+use Rattle.std.proofs.Common.{◌+◌, sym, ap, ◌∙◌, subst, arith}
+use Rattle.any_wire.proofs.Sending.{sends-on, sends-same}
+use Rattle.flake_base.specs.declared.segment.Seg.{Seg}
+use Rattle.reply_planner.specs.Parcels.{Sent, HasBytes}
+use Rattle.reply_planner.specs.Places.{place_of, bytes_in}
+use Rattle.device_model.proofs.Puts.{bytes-more, segment-readable, segment-short, fits-in, run-there}
+use Rattle.device_model.proofs.sending.send_segment.Goals as goal
+
+pub unreachable-requires : goal.unreachable-requires
+unreachable-requires g c =
+    let z = g.N.PoolName.sizes in
+    let seg : Seg = c.args.segment in
+    let may = segment-readable z c.args.parcel.now c.requires.segment.0 seg c.is_parcel.ensures c.requires.segment.1 in
+    c.buffer_at.ensures.none c.in_default.is (place_of z seg.address).0 (place_of z seg.address).1 may.held.covered
+
+pub overflow_add-from : goal.overflow_add-from
+overflow_add-from g c =
+    let z = g.N.PoolName.sizes in
+    let short = segment-short z c.args.parcel.now c.requires.segment.0 c.args.segment c.is_parcel.ensures c.requires.segment.1 in
+    omega (arith, fits-in z c.in-Some.buffer c.in-Some.from c.args.segment.address c.in-Some.ensures.some, c.loop-done-test.true, short)
+
+pub send_piece-after-requires-clause-bytes : goal.send_piece-after-requires-clause-bytes
+send_piece-after-requires-clause-bytes g c =
+    let z = g.N.PoolName.sizes in
+    subst (λ (p : Sent). HasBytes z p.segments c.in-Some.buffer (c.in-Some.from + c.loop-done.done) c.min-count.result) (sym c.loop-done.invariant.parcel)
+    (run-there z c.args.parcel.now c.requires.segment.0 c.args.segment c.in-Some.buffer c.in-Some.from c.loop-done.done c.min-count.result
+    c.requires.segment.1 c.in-Some.ensures.some (omega (arith, c.min-count.ensures, c.loop-done-test.true)))
+
+pub loop-done-preserved : goal.loop-done-preserved
+loop-done-preserved g c =
+    let hs = c.args.parcel.now.holds in
+    let before = c.loop-done.invariant in
+    let b = c.in-Some.buffer in
+    let from = c.in-Some.from in
+    let done = c.loop-done.done in
+    let n = c.min-count.result in
+    record {
+      within = omega (arith, c.min-count.ensures, c.loop-done-test.true);
+      parcel = c.send_piece-after.ensures.parcel ∙ before.parcel;
+      sends = sends-same _ _ _ _ _ _ _ _ (bytes-more hs b from done n)
+          (sends-on _ _ _ _ _ _ _ _ _ _ before.sends
+          (sends-same _ _ _ _ _ _ _ _ (ap (λ (p : Sent). bytes_in p.holds b (from + done) n) before.parcel) c.send_piece-after.ensures.sends));
+    }

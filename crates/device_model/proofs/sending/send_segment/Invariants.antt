@@ -1,0 +1,14 @@
+use Rattle.std.proofs.Common.{◌-◌, ◌≡◌, ◌≤◌}
+use Rattle.reply_planner.specs.Places.{bytes_in}
+use Rattle.device_model.specs.Devices.{PutsText}
+use Rattle.device_model.proofs.sending.send_segment.Given as goal
+
+abbrev pub invariant-loop-done : goal.invariant-loop-done
+invariant-loop-done g l = record {
+  within : l.done ≤ l.segment.len;
+  parcel : l.parcel ≡ l.fn.parcel;
+  sends : PutsText (λ w p r. goal.P-post g l.put w p r) l.failed l.has_failed (bytes_in l.fn.parcel.holds l.buffer l.from l.done) l.fn.wire l.wire;
+}
+
+abbrev pub decreases-loop-done : goal.decreases-loop-done
+decreases-loop-done g l = l.segment.len - l.done

@@ -1,0 +1,50 @@
+-- What a device does to its ring and to a wire.
+use Rattle.std.specs.Prelude.{◌≡◌, ℕ, Bool, true, false, List, [], ◌∷◌, ◌++◌, Some, length}
+use Rattle.std.specs.List.{flat_map, slice_get}
+use Rattle.std.specs.Borrow.{Bor}
+use Rattle.flake_base.specs.declared.segment.Seg.{Seg}
+use Rattle.any_wire.specs.Sends as wire
+use Rattle.reply_planner.specs.Parcels.{Sent}
+use Rattle.tx_descriptor.specs.declared.framed.Framed.{Ghosts}
+use Rattle.tx_ring.specs.Shown.{completed, blanks, ended, device_told, FindsNone, FindsClosed}
+use Rattle.tx_ring.specs.declared.device.DeviceEnd.{DeviceEnd}
+use Rattle.device_model.specs.declared.gathered.Gathered.{Gathered}
+use Rattle.device_model.specs.declared.gathered.Gathered.TheVariants as found
+
+-- the segment is one of them
+abbrev pub HasSegment : List Seg → Seg → Type 0
+HasSegment segments segment = (i : ℕ) × (slice_get segments i ≡ Some segment)
+
+-- the texts of replies, joined
+abbrev pub texts_of : List Sent → List ℕ
+texts_of replies = flat_map (λ (reply : Sent). reply.text) replies
+
+module _ {W : Type 0} (put_may : W → Bor (List ℕ) → (W × Bool) → Type 0) where
+  -- the text is put, and nothing is flushed
+  abbrev pub PutsText : Bool → Bool → List ℕ → W → W → Type 0
+  PutsText = wire.Sends put_may (λ w r. ⊥)
+
+module _ {W : Type 0} (put_may : W → Bor (List ℕ) → (W × Bool) → Type 0) (flush_may : W → (W × Bool) → Type 0) where
+  -- some replies more were completed, and their texts alone were put, in order, until a put or a flush failed
+  pub record Forwards (failed now : Bool) (before after : List Sent) (old new : W) : Type 0 where
+    pub taken : List Sent
+    pub in_order : after ≡ before ++ taken
+    pub sends : wire.Sends put_may flush_may failed now (texts_of taken) old new
+
+module _ {g : Ghosts Sent} where
+  -- the next reply was completed, with this call's number and so many bytes
+  pub record IsNext (call bytes : ℕ) (old new : DeviceEnd Sent g) : Type 0 where
+    pub reply : Sent
+    pub completed_is : completed new ≡ completed old ++ reply ∷ []
+    pub call_is : call ≡ reply.call
+    pub bytes_is : bytes ≡ length reply.text
+    pub blanks_are : blanks new ≡ blanks old
+    pub ended_is : ended new ≡ ended old
+    pub told_is : device_told new ≡ device_told old
+
+  -- what a call that gives this did to the ring's end, where `failed` is the device's flag behind it
+  abbrev pub IsFound : Gathered → Bool → DeviceEnd Sent g → DeviceEnd Sent g → Type 0
+  IsFound (found.Sent call bytes) failed old new = (failed ≡ false) × IsNext call bytes old new
+  IsFound (found.Dropped call bytes) failed old new = (failed ≡ true) × IsNext call bytes old new
+  IsFound found.Empty failed old new = (tail : ℕ) × FindsNone old new tail
+  IsFound found.Closed failed old new = FindsClosed old new

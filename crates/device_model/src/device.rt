@@ -1,0 +1,97 @@
+// The device.
+ghost use Rattle.std.specs.Prelude.{◌≡◌, false, length};
+ghost use Rattle.tx_ring.specs.Shown.{closed_ring, closed_view, device_ring, device_view, completed, IsResting};
+ghost use Rattle.device_model.specs.Devices.{Forwards, IsFound};
+
+use crate::gathered::Gathered;
+use crate::sending::send_frame;
+use any_wire::flush_unless_failed;
+use pinned_pool::{Pool, PoolName};
+use reply_planner::Parcel;
+use tx_descriptor::Framed;
+use tx_ring::{ClosedDriver, DeviceEnd, Next};
+
+/// Takes replies out of a ring and puts their bytes on a wire, until a put or a flush fails.
+#[derive(Drop)]
+pub struct Device<N: PoolName + Send>
+where
+    Parcel<N>: Framed,
+{
+    pub(crate) end: DeviceEnd<Parcel<N>>,
+    pub(crate) failed: bool,
+    ghost rest: { IsResting end },
+}
+
+impl<N: PoolName + Send> Device<N> {
+    pub fn open(end: DeviceEnd<Parcel<N>>) -> Self
+        requires { IsResting end }
+        ensures { (result.end ≡ end) × (result.failed ≡ false) }
+    {
+        Device { end, failed: false }
+    }
+
+    /// Whether a put or a flush has failed.
+    pub fn failed(&self) -> bool
+        ensures { result ≡ self.now.failed }
+    {
+        self.failed
+    }
+
+    /// The device has completed what was posted before its driver closed the ring, and nothing else.
+    pub fn settle(&mut self, closed: &mut ClosedDriver<Parcel<N>>)
+        requires { device_ring self.old.end ≡ closed_ring closed.old }
+        ensures ring { (closed_ring closed.new ≡ closed_ring closed.old)
+            × (device_ring self.new.end ≡ device_ring self.old.end) }
+        ensures all { (completed self.old.end ≡ (closed_view closed.old).posted)
+            × ((closed_view closed.old).reaped ≡ (closed_view closed.old).posted) }
+        ensures driver { closed_view closed.new
+            ≡ record (closed_view closed.old) { told = length (completed self.old.end) } }
+        ensures device { device_view self.new.end
+            ≡ record (device_view self.old.end) { told = length (closed_view closed.old).posted } }
+        ensures failed { self.new.failed ≡ self.old.failed }
+    {
+        closed.settle(&mut self.end);
+    }
+
+    /// Gathers the next reply and puts it, in pieces of at most 512 bytes. `put` and `flush` answer whether they failed;
+    /// after one that did nothing more is put, and replies are completed still. Where no reply is posted the wire is
+    /// flushed.
+    pub fn gather<W: Drop, P: Fn(W, &[u8]) -> (W, bool), F: Fn(W) -> (W, bool)>(
+        &mut self,
+        pool: &Pool<N>,
+        wire: W,
+        put: &P,
+        flush: &F,
+    ) -> (W, Gathered)
+        requires calls { P.IsAlwaysCallable put.now × F.IsAlwaysCallable flush.now }
+        ensures ring { device_ring self.new.end ≡ device_ring self.old.end }
+        ensures found { IsFound result.1 self.new.failed self.old.end self.new.end }
+        ensures forwards { Forwards (λ w p r. P.post put.now w p r) (λ w r. F.post flush.now w r) self.old.failed
+            self.new.failed (completed self.old.end) (completed self.new.end) wire result.0 }
+    {
+        match self.end.next() {
+            Next::Frame(job) => {
+                let mut job = job;
+                let (call, bytes) = (job.frame().call(), job.frame().len());
+                let (wire, failed) = send_frame(pool, &mut job, wire, self.failed, put);
+                self.failed = failed;
+                self.end.complete(job);
+                if failed {
+                    (wire, Gathered::Dropped { call, bytes })
+                } else {
+                    (wire, Gathered::Sent { call, bytes })
+                }
+            }
+            Next::Empty { .. } => {
+                let (wire, failed) = flush_unless_failed(wire, self.failed, flush);
+                self.failed = failed;
+                (wire, Gathered::Empty)
+            }
+            Next::Closed => {
+                let (wire, failed) = flush_unless_failed(wire, self.failed, flush);
+                self.failed = failed;
+                (wire, Gathered::Closed)
+            }
+        }
+    }
+}

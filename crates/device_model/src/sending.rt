@@ -1,0 +1,107 @@
+// A reply's bytes, from the buffers to the wire.
+ghost use Rattle.std.specs.Prelude.{◌≡◌, ◌+◌, ◌<◌, ◌≤◌};
+ghost use Rattle.tx_ring.specs.Jobs.{frame_of, segments};
+ghost use Rattle.reply_planner.specs.Parcels.{HasBytes};
+ghost use Rattle.reply_planner.specs.Places.{bytes_in, reading};
+ghost use Rattle.device_model.specs.Devices.{HasSegment, PutsText};
+
+use any_wire::{MOST_PUT, put_unless_failed};
+use flake_base::Seg;
+use pinned_pool::{Pool, PoolName};
+use reply_planner::Parcel;
+use tx_ring::Job;
+
+/// Puts the bytes of all descriptors, one after another.
+pub(crate) fn send_frame<N: PoolName + Send, W: Drop, P: Fn(W, &[u8]) -> (W, bool)>(
+    pool: &Pool<N>,
+    job: &mut Job<Parcel<N>>,
+    wire: W,
+    failed: bool,
+    put: &P,
+) -> (W, bool)
+    requires calls { P.IsAlwaysCallable put.now }
+    requires job { segments job.old ≡ (frame_of job.old).segments }
+    ensures job { job.new ≡ job.old }
+    ensures sends { PutsText (λ w p r. P.post put.now w p r) failed result.1 (frame_of job.old).text wire result.0 }
+{
+    let whole = job.frame();
+    whole.is_parcel();
+    let mut wire = wire;
+    let mut has_failed = failed;
+    for i in 0..job.count() {
+        let segment = job.segment(i);
+        let (after, now) = send_segment(pool, job.frame(), segment, wire, has_failed, put);
+        wire = after;
+        has_failed = now;
+    }
+    (wire, has_failed)
+}
+
+// Puts the bytes of one segment.
+fn send_segment<N: PoolName, W: Drop, P: Fn(W, &[u8]) -> (W, bool)>(
+    pool: &Pool<N>,
+    parcel: &mut Parcel<N>,
+    segment: Seg,
+    wire: W,
+    failed: bool,
+    put: &P,
+) -> (W, bool)
+    requires calls { P.IsAlwaysCallable put.now }
+    requires segment { HasSegment parcel.old.segments segment }
+    ensures parcel { parcel.new ≡ parcel.old }
+    ensures sends { PutsText (λ w p r. P.post put.now w p r) failed result.1
+        (reading N.sizes parcel.old.holds segment.address segment.len) wire result.0 }
+{
+    parcel.is_parcel();
+    let Some((buffer, from)) = pool.buffer_at(segment.address) else {
+        unreachable!()
+    };
+    let mut wire = wire;
+    let mut has_failed = failed;
+    let mut done = 0;
+    while done < segment.len {
+        let count = (segment.len - done).min(MOST_PUT as u32);
+        let (after, now) = send_piece(
+            pool,
+            parcel,
+            buffer,
+            from + done,
+            count,
+            wire,
+            has_failed,
+            put,
+        );
+        wire = after;
+        has_failed = now;
+        done += count;
+    }
+    (wire, has_failed)
+}
+
+// Reads a piece under the reply's own holds, and puts it.
+fn send_piece<N: PoolName, W: Drop, P: Fn(W, &[u8]) -> (W, bool)>(
+    pool: &Pool<N>,
+    parcel: &mut Parcel<N>,
+    buffer: u32,
+    from: u32,
+    count: u32,
+    wire: W,
+    failed: bool,
+    put: &P,
+) -> (W, bool)
+    requires calls { P.IsAlwaysCallable put.now }
+    requires count { (0 < count) × (count ≤ 512) }
+    requires bytes { HasBytes N.sizes parcel.old.segments buffer from count }
+    ensures parcel { parcel.new ≡ parcel.old }
+    ensures sends { PutsText (λ w p r. P.post put.now w p r) failed result.1 (bytes_in parcel.old.holds buffer from count)
+        wire result.0 }
+{
+    parcel.is_parcel();
+    if failed {
+        return (wire, true);
+    }
+    let mut room = [0; MOST_PUT];
+    let piece = &mut room[..count as usize];
+    parcel.load_bytes(pool, buffer, from, piece);
+    put_unless_failed(wire, false, put, piece)
+}
