@@ -34,7 +34,10 @@ module _ {W : Type 0} (flush_may : W → (W × Bool) → Type 0) where
   Flushes true now w end = (end ≡ w) × (now ≡ true)
   Flushes false now w end = flush_may w (end, now)
 
-module _ {W : Type 0} (put_may : W → Bor (List ℕ) → (W × Bool) → Type 0) (flush_may : W → (W × Bool) → Type 0) where
+module _
+    {W : Type 0}
+    (put_may : W → Bor (List ℕ) → (W × Bool) → Type 0)
+    (flush_may : W → (W × Bool) → Type 0) where
   -- one is done after another, and none after one that failed
   abbrev pub Chain : List Step → Bool → Bool → W → W → Type 0
   Chain [] failed now w end = (end ≡ w) × (now ≡ failed)

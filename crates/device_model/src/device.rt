@@ -53,9 +53,9 @@ impl<N: PoolName + Send> Device<N> {
         closed.settle(&mut self.end);
     }
 
-    /// Gathers the next reply and puts it, in pieces of at most 512 bytes. `put` and `flush` answer whether they failed;
-    /// after one that did nothing more is put, and replies are completed still. Where no reply is posted the wire is
-    /// flushed.
+    /// Gathers the next reply and puts it, in pieces of at most 512 bytes. `put` and `flush` answer whether they
+    /// failed; after one that did nothing more is put, and replies are completed still. Where no reply is posted the
+    /// wire is flushed.
     pub fn gather<W: Drop, P: Fn(W, &[u8]) -> (W, bool), F: Fn(W) -> (W, bool)>(
         &mut self,
         pool: &Pool<N>,

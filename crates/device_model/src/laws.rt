@@ -16,8 +16,10 @@ pub fn both_ends<N: PoolName + Send>(driver: &mut Driver<Parcel<N>>, device: &mu
     ensures ring { (driver_ring driver.new ≡ driver_ring driver.old)
         × (device_ring device.new.end ≡ device_ring device.old.end) }
     ensures order { InOrder (driver_view driver.old) (device_view device.old.end) × (ended device.old.end ≡ false) }
-    ensures driver { driver_view driver.new ≡ record (driver_view driver.old) { told = length (completed device.old.end) } }
-    ensures device { device_view device.new.end ≡ record (device_view device.old.end) { told = length (posted driver.old) } }
+    ensures driver { driver_view driver.new
+        ≡ record (driver_view driver.old) { told = length (completed device.old.end) } }
+    ensures device { device_view device.new.end
+        ≡ record (device_view device.old.end) { told = length (posted driver.old) } }
     ensures failed { device.new.failed ≡ device.old.failed }
 {
     tx_ring::laws::both_ends(driver, &mut device.end);

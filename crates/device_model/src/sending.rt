@@ -93,8 +93,8 @@ fn send_piece<N: PoolName, W: Drop, P: Fn(W, &[u8]) -> (W, bool)>(
     requires count { (0 < count) × (count ≤ 512) }
     requires bytes { HasBytes N.sizes parcel.old.segments buffer from count }
     ensures parcel { parcel.new ≡ parcel.old }
-    ensures sends { PutsText (λ w p r. P.post put.now w p r) failed result.1 (bytes_in parcel.old.holds buffer from count)
-        wire result.0 }
+    ensures sends { PutsText (λ w p r. P.post put.now w p r) failed result.1
+        (bytes_in parcel.old.holds buffer from count) wire result.0 }
 {
     parcel.is_parcel();
     if failed {
