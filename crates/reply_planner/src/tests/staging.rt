@@ -88,7 +88,8 @@ fn the_least_buffers_are_lent(rt: HostRuntime) -> Result<(), Fail> {
     Ok(())
 }
 
-// Claims a small buffer, opens a stage, which is refused, and gives the buffer back. The answer is also how many are held then.
+// Claims a small buffer, opens a stage, which is refused, and gives the buffer back. The answer is also how many are
+// held then.
 fn open_beside<N: PoolName>(alloc: Global, blank: PoolBlank) -> Result<(NoBuffer, Held), Memory>
     requires name { (blank.table ≡ N.table) × (blank.sizes ≡ N.sizes) }
 {
