@@ -30,7 +30,8 @@ module _ {P : Type 0} where
 
   -- nothing is posted that was not reaped; or the oldest frame's status was found without DD, which is a miss
   abbrev pub Misses : DriverView P → DriverView P → Type 0
-  Misses old new = ((old.posted ≡ old.reaped) × (new.misses ≡ old.misses)) ⊎ ((new.misses ≡ old.misses ++ length old.reaped ∷ []) × (length old.reaped < length old.posted))
+  Misses old new = ((old.posted ≡ old.reaped) × (new.misses ≡ old.misses))
+      ⊎ ((new.misses ≡ old.misses ++ length old.reaped ∷ []) × (length old.reaped < length old.posted))
 
   -- no frame was reaped, and all that is known to be completed was reaped before
   pub record HasMissed (old new : DriverView P) : Type 0 where

@@ -1,5 +1,6 @@
 -- What a clause says of a ring's table and of its two ends.
-use Rattle.std.specs.Prelude.{◌≡◌, ℕ, ◌+◌, ◌*◌, ◌%◌, ◌<◌, ◌≤◌, List, [], ◌∷◌, true, false, length, slice_index, Option, Some}
+use Rattle.std.specs.Prelude.{◌≡◌, ℕ, ◌+◌, ◌*◌, ◌%◌, ◌<◌, ◌≤◌, List, [], ◌∷◌, true, false, length, slice_index, Option}
+use Rattle.std.specs.Prelude.{Some}
 use Rattle.atomic_table.specs.Seated.{TableId}
 use Rattle.flake_base.specs.declared.segment.Seg.{Seg}
 use Rattle.tx_ring.specs.Words.{frame_words, IsFrame, size, extent}
@@ -17,7 +18,12 @@ IsSized n z = (z.slots ≡ n) × (z.words ≡ 3 + 2 * n) × (0 < n) × (n ≤ 40
 
 -- the driver's seat between two calls
 abbrev pub driving : {P : Type 0} → DriverView P → View P
-driving d = record { drives = true; gathers = false; driver = record d { draft = []; stage = Idle }; device = blank_device }
+driving d = record {
+  drives = true;
+  gathers = false;
+  driver = record d { draft = []; stage = Idle };
+  device = blank_device;
+}
 
 -- the driver's seat, whatever the driver has begun
 abbrev pub steering : {P : Type 0} → DriverView P → View P
@@ -33,11 +39,14 @@ IsAtRest m = (m ≡ (gathering m.0.device, [])) × (m.0.device.stage ≡ Resting
 
 -- the descriptor `at` of the next frame is fetched next
 abbrev pub IsFetching : {P : Type 0} → (P → List Seg) → ℕ → Me (Option P) (View P) → ℕ → ℕ → P → Type 0
-IsFetching segs n m place at f = (m ≡ (gathering m.0.device, [])) × (m.0.device.stage ≡ Fetching f (2 * at)) × (at < size segs f) × IsFrame (segs f) × (place ≡ (extent segs m.0.device.completed + at) % n)
+IsFetching segs n m place at f = (m ≡ (gathering m.0.device, [])) × (m.0.device.stage ≡ Fetching f (2 * at))
+    × (at < size segs f) × IsFrame (segs f) × (place ≡ (extent segs m.0.device.completed + at) % n)
 
 -- what was fetched: its two words, and after the last one the frame's slot is out
-abbrev pub Fetched : {P : Type 0} → (P → List Seg) → Me (Option P) (View P) → Me (Option P) (View P) → ℕ → ℕ → ℕ → ℕ → P → Type 0
-Fetched segs m m' place at low high f = (low ≡ slice_index (frame_words false (segs f)) (2 * at)) × (high ≡ slice_index (frame_words false (segs f)) (2 * at + 1))
+abbrev pub Fetched : {P : Type 0} → (P → List Seg) → Me (Option P) (View P) → Me (Option P) (View P) → ℕ → ℕ → ℕ → ℕ → P
+    → Type 0
+Fetched segs m m' place at low high f = (low ≡ slice_index (frame_words false (segs f)) (2 * at))
+    × (high ≡ slice_index (frame_words false (segs f)) (2 * at + 1))
     × (at + 1 < size segs f → m' ≡ (gathering (fetching f (2 * (at + 1)) m.0.device), []))
     × (at + 1 ≡ size segs f → m' ≡ (gathering (holding f m.0.device), (place, Some f) ∷ []))
 

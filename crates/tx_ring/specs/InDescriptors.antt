@@ -1,5 +1,6 @@
 -- A ring's words as the descriptors that stand in it.
-use Rattle.std.specs.Prelude.{◌≡◌, ℕ, ◌+◌, ◌*◌, ◌%◌, ◌<◌, List, [], ◌∷◌, ◌++◌, Bool, true, false, slice_index, slice_get, Option, Some}
+use Rattle.std.specs.Prelude.{◌≡◌, ℕ, ◌+◌, ◌*◌, ◌%◌, ◌<◌, List, [], ◌∷◌, ◌++◌, Bool, true, false, slice_index}
+use Rattle.std.specs.Prelude.{slice_get, Option, Some}
 use Rattle.std.specs.Int.{w64, to_le_bytes}
 use mathlib.Core.Option as maybe
 use Rattle.flake_base.specs.declared.segment.Seg.{Seg}

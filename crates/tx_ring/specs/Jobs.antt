@@ -1,5 +1,6 @@
 -- What the device's calls give.
-use Rattle.std.specs.Prelude.{◌≡◌, ℕ, ◌+◌, ◌-◌, ◌%◌, ◌≤◌, List, [], ◌∷◌, true, false, length, map, vec_capacity, Option, None}
+use Rattle.std.specs.Prelude.{◌≡◌, ℕ, ◌+◌, ◌-◌, ◌%◌, ◌≤◌, List, [], ◌∷◌, true, false, length, map, vec_capacity, Option}
+use Rattle.std.specs.Prelude.{None}
 use Rattle.atomic_table.specs.Table.{Me}
 use Rattle.flake_base.specs.declared.segment.Seg.{Seg}
 use Rattle.tx_ring.specs.Words.{second, last_len, IsFrame, size, extent}

@@ -1,6 +1,7 @@
 -- The rule of a ring's table: what holds of its words, of the slots at home and of the views between any two steps.
 -- Word 0 is the tail, word 1 the head and word 2 tells whether the driver closed. Two words for each place follow.
-use Rattle.std.specs.Prelude.{◌≡◌, ◌≢◌, ℕ, suc, ◌+◌, ◌-◌, ◌*◌, ◌%◌, ◌<◌, ◌≤◌, List, [], ◌∷◌, ◌++◌, true, false, length, slice_index, slice_index_or, Option, None}
+use Rattle.std.specs.Prelude.{◌≡◌, ◌≢◌, ℕ, suc, ◌+◌, ◌-◌, ◌*◌, ◌%◌, ◌<◌, ◌≤◌, List, [], ◌∷◌, ◌++◌, true, false, length}
+use Rattle.std.specs.Prelude.{slice_index, slice_index_or, Option, None}
 use mathlib.Core.Option.{some}
 use mathlib.Core.Option as maybe
 use lib.ListN.{get_elem?}
@@ -60,7 +61,8 @@ module _ {P : Type 0} (segs : P → List Seg) where
   DeviceAt waiting completed (Holding f) = (rest : List P) × (waiting ≡ f ∷ rest)
   DeviceAt waiting completed (Behind f) = (before : List P) × (completed ≡ before ++ f ∷ [])
 
-  pub record Stands (n : ℕ) (words : List ℕ) (homes : List (maybe.Option (Option P))) (d : DriverView P) (e : DeviceView P) : Type 0 where
+  pub record Stands (n : ℕ) (words : List ℕ) (homes : List (maybe.Option (Option P))) (d : DriverView P)
+      (e : DeviceView P) : Type 0 where
     pub word_count : length words ≡ 3 + 2 * n
     pub slot_count : length homes ≡ n
     -- reaped is a prefix of completed, and completed of posted
@@ -72,12 +74,15 @@ module _ {P : Type 0} (segs : P → List Seg) where
     -- at most n - 1 descriptors stand
     pub fits : 2 * extent segs (finished ++ waiting) + length d.draft + 2 ≤ 2 * n
     -- each stands in its place, with DD in the last one of a completed frame, and a post under way stands past the tail
-    pub written : Round words 3 (2 * n) (2 * extent segs d.reaped) (lay segs true finished ++ (lay segs false waiting ++ d.draft))
+    pub written : Round words 3 (2 * n) (2 * extent segs d.reaped)
+        (lay segs true finished ++ (lay segs false waiting ++ d.draft))
     pub tail : slice_index words 0 ≡ extent segs d.posted % n
     pub head : slice_index words 1 ≡ (extent segs e.completed - lag e.stage) % n
     -- each frame lies in the slot of its last descriptor, and no other slot at home has one
-    pub slots : (j : ℕ) → j < n → ¬ (DriverHas n (extent segs d.reaped) (extent segs d.posted) d.draft d.stage (extent segs d.reaped + j)) → ¬ (DeviceHas (extent segs e.completed) e.stage (extent segs d.reaped + j))
-        → get_elem? homes ((extent segs d.reaped + j) % n) ≡ some (some (slice_index_or (stops segs (finished ++ waiting)) j None))
+    pub slots : (j : ℕ) → j < n → ¬ (DriverHas n (extent segs d.reaped) (extent segs d.posted) d.draft d.stage
+        (extent segs d.reaped + j)) → ¬ (DeviceHas (extent segs e.completed) e.stage (extent segs d.reaped + j))
+        → get_elem? homes ((extent segs d.reaped + j) % n)
+        ≡ some (some (slice_index_or (stops segs (finished ++ waiting)) j None))
     pub fetches : DeviceAt waiting e.completed e.stage
     -- the closed word is set only where the driver was closed, and then all was reaped
     pub closed : slice_index words 2 ≢ 0 → (d.stage ≡ Closed) × (d.posted ≡ d.reaped)
@@ -85,12 +90,15 @@ module _ {P : Type 0} (segs : P → List Seg) where
     pub driver_told : d.told ≤ length e.completed
     pub device_told : e.told ≤ length d.posted
 
-  pub record IsRing (n : ℕ) (words : List ℕ) (homes : List (maybe.Option (Option P))) (views : List (View P)) : Type 0 where
-    pub driver : DriverView P
-    pub device : DeviceView P
-    pub driver_seat : ℕ
-    pub device_seat : ℕ
-    -- one seat is the driver's and one the device's
-    pub drives : (seat : ℕ) (v : View P) → get_elem? views seat ≡ some v → v.drives ≡ true → (seat ≡ driver_seat) × (v.driver ≡ driver)
-    pub gathers : (seat : ℕ) (v : View P) → get_elem? views seat ≡ some v → v.gathers ≡ true → (seat ≡ device_seat) × (v.device ≡ device)
-    pub stands : Stands n words homes driver device
+  pub record IsRing (n : ℕ) (words : List ℕ) (homes : List (maybe.Option (Option P))) (views : List (View P)) : Type 0
+    where
+      pub driver : DriverView P
+      pub device : DeviceView P
+      pub driver_seat : ℕ
+      pub device_seat : ℕ
+      -- one seat is the driver's and one the device's
+      pub drives : (seat : ℕ) (v : View P) → get_elem? views seat ≡ some v → v.drives ≡ true → (seat ≡ driver_seat)
+          × (v.driver ≡ driver)
+      pub gathers : (seat : ℕ) (v : View P) → get_elem? views seat ≡ some v → v.gathers ≡ true → (seat ≡ device_seat)
+          × (v.device ≡ device)
+      pub stands : Stands n words homes driver device

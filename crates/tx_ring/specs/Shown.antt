@@ -52,7 +52,8 @@ module _ {P : Type 0} {g : Ghosts P} where
 
   -- the frame comes back with both numbers, and nothing changed
   abbrev pub IsRefused : P → Driver P g → Driver P g → Busy P → Type 0
-  IsRefused f old new busy = (busy.frame ≡ f) × (busy.need ≡ size g.segs f) × (busy.room ≡ room_of old) × (driver_view new ≡ driver_view old)
+  IsRefused f old new busy = (busy.frame ≡ f) × (busy.need ≡ size g.segs f) × (busy.room ≡ room_of old)
+      × (driver_view new ≡ driver_view old)
 
   abbrev pub device_ring : DeviceEnd P g → TableId
   device_ring e = e.cursor.seat.table_id

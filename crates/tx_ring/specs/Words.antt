@@ -1,5 +1,6 @@
 -- A frame as descriptor words, two for each segment, and as the slots of its descriptors.
-use Rattle.std.specs.Prelude.{ℕ, ◌+◌, ◌-◌, ◌*◌, ◌^◌, ◌<◌, ◌≤◌, List, [], ◌∷◌, ◌++◌, Bool, true, false, cond, length, replicate, Option, Some, None}
+use Rattle.std.specs.Prelude.{ℕ, ◌+◌, ◌-◌, ◌*◌, ◌^◌, ◌<◌, ◌≤◌, List, [], ◌∷◌, ◌++◌, Bool, true, false, cond, length}
+use Rattle.std.specs.Prelude.{replicate, Option, Some, None}
 use Rattle.flake_base.specs.declared.segment.Seg.{Seg}
 
 -- the length, EOP and RS in byte 11, DD in byte 12

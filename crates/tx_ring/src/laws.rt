@@ -2,7 +2,8 @@
 ghost use Rattle.std.specs.Prelude.{◌≡◌, length, false};
 ghost use Rattle.tx_ring.specs.InDescriptors.{WordsAreDescriptors};
 ghost use Rattle.tx_ring.specs.Plays.{InOrder};
-ghost use Rattle.tx_ring.specs.Shown.{driver_ring, driver_view, posted, device_ring, device_view, completed, ended, IsResting};
+ghost use Rattle.tx_ring.specs.Shown.{driver_ring, driver_view, posted, device_ring, device_view, completed, ended};
+ghost use Rattle.tx_ring.specs.Shown.{IsResting};
 
 use crate::compare::compare;
 use crate::device::DeviceEnd;

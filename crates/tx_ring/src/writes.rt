@@ -22,7 +22,11 @@ pub(crate) fn write_segment<P: Framed>(
     requires ready { IsDrafting P.segs ring.now.key seat.old.me.0 place }
     requires seg { seg.len ≤ 4096 }
     ensures seat { (seat.new.table_id ≡ seat.old.table_id) × (seat.new.id ≡ seat.old.id) }
-    ensures view { seat.new.me ≡ (with_driver (drafting (second seg.len false false) (drafting seg.address seat.old.me.0.driver)) seat.old.me.0, seat.old.me.1) }
+    ensures view { seat.new.me ≡ (
+      with_driver
+          (drafting (second seg.len false false) (drafting seg.address seat.old.me.0.driver)) seat.old.me.0,
+      seat.old.me.1,
+    ) }
 {
     ring.store::<Write>(seat, FIRST_ROW + 2 * place, seg.address);
     let word = status_word(seg.len, false, false);
@@ -50,7 +54,8 @@ pub(crate) fn write_front<P: Framed>(
         × (count ≡ ring.now.key)
         × IsSized ring.now.key ring.now.table_id }
     requires ready { IsDrafting P.segs ring.now.key seat.old.me.0 start × (seat.old.me.0.driver.draft ≡ []) }
-    requires room { extent P.segs seat.old.me.0.driver.posted + size P.segs frame.now + 1 ≤ extent P.segs seat.old.me.0.driver.reaped + ring.now.key }
+    requires room { extent P.segs seat.old.me.0.driver.posted + size P.segs frame.now + 1
+        ≤ extent P.segs seat.old.me.0.driver.reaped + ring.now.key }
     requires frame { IsFrame (P.segs frame.now) × (last + 1 ≡ size P.segs frame.now) }
     ensures seat { (seat.new.table_id ≡ seat.old.table_id) × (seat.new.id ≡ seat.old.id) }
     ensures view { seat.new.me ≡ (with_draft (pairs (take last (P.segs frame.now))) seat.old.me.0, seat.old.me.1) }
