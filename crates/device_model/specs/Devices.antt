@@ -31,6 +31,25 @@ module _ {W : Type 0} (put_may : W → Bor (List ℕ) → (W × Bool) → Type 0
     pub in_order : after ≡ before ++ taken
     pub sends : wire.Sends put_may flush_may failed now (texts_of taken) old new
 
+-- a reply was taken, and this is so
+abbrev pub IfTaken : Gathered → Type 0 → Type 0
+IfTaken (found.Sent call bytes) F = F
+IfTaken (found.Dropped call bytes) F = F
+IfTaken found.Empty F = Unit {0}
+IfTaken found.Closed F = Unit {0}
+
+-- no reply was there, and this is so
+abbrev pub IfIdle : Gathered → Type 0 → Type 0
+IfIdle (found.Sent call bytes) F = Unit {0}
+IfIdle (found.Dropped call bytes) F = Unit {0}
+IfIdle found.Empty F = F
+IfIdle found.Closed F = F
+
+module _ {W : Type 0} (put_may : W → Bor (List ℕ) → (W × Bool) → Type 0) where
+  -- the same, and nothing is flushed
+  abbrev pub PutsTexts : Bool → Bool → List Sent → List Sent → W → W → Type 0
+  PutsTexts = Forwards put_may (λ w r. ⊥)
+
 module _ {g : Ghosts Sent} where
   -- the next reply was completed, with this call's number and so many bytes
   pub record IsNext (call bytes : ℕ) (old new : DeviceEnd Sent g) : Type 0 where

@@ -11,6 +11,14 @@ pub returns-else-failed-clause-forwards : goal.returns-else-failed-clause-forwar
 returns-else-failed-clause-forwards g c =
     forwards-one _ _ _ _ _ _ _ (frame_of c.in-Frame.job) _ _ (search rules) (search rules) c.send_frame-wire.ensures.sends
 
+pub returns-then-failed-clause-put : goal.returns-then-failed-clause-put
+returns-then-failed-clause-put g c =
+    forwards-one _ _ _ _ _ _ _ (frame_of c.in-Frame.job) _ _ (search rules) (search rules) c.send_frame-wire.ensures.sends
+
+pub returns-else-failed-clause-put : goal.returns-else-failed-clause-put
+returns-else-failed-clause-put g c =
+    forwards-one _ _ _ _ _ _ _ (frame_of c.in-Frame.job) _ _ (search rules) (search rules) c.send_frame-wire.ensures.sends
+
 pub returns-in-Empty-clause-forwards : goal.returns-in-Empty-clause-forwards
 returns-in-Empty-clause-forwards g c =
     forwards-none _ _ _ _ _ _ _ _ (ap (λ m. m.completed) c.in-Empty.ensures.empty.view) c.flush_unless_failed-wire.ensures
