@@ -2,5 +2,7 @@
 #![tactic(auto)]
 
 mod steps;
+#[cfg(test)]
+mod tests;
 
 pub use steps::{MOST_PUT, flush_unless_failed, put_unless_failed};
