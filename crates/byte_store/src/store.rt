@@ -4,8 +4,8 @@ ghost use Rattle.std.specs.FinMap as finite;
 ghost use Rattle.flake_model.specs.Store as model;
 ghost use Rattle.flake_model.specs.Store.{Store as Meaning, Operation, value, found, answer, answer_on, after};
 ghost use Rattle.flake_model.specs.Range.{range_of};
-ghost use Rattle.shard_store.specs.Parts.{operation_of};
-ghost use Rattle.shard_store.specs.Settings.{set_by};
+ghost use Rattle.shard_part.specs.Parts.{operation_of};
+ghost use Rattle.shard_part.specs.Settings.{set_by};
 ghost use Rattle.byte_store.specs.Table.{bytes_at, HasDone, HasKept};
 ghost use Rattle.byte_store.specs.Store.{Holds, answer_meant};
 
@@ -13,7 +13,7 @@ use crate::table::{Table, append, contains, get, put, remove};
 use flake_base::{Bytes, Memory};
 use indexmap::IndexMap;
 use range_pick::{Span, span};
-use shard_store::{Part, PartOp, Setting, shard_of};
+use shard_part::{Part, PartOp, Setting, shard_of};
 use std::alloc::Global;
 use std::marker::Model;
 

@@ -5,7 +5,7 @@ ghost use Rattle.byte_store.specs.Table.{bytes_at, appended_length, after_append
 
 use flake_base::Memory;
 use indexmap::IndexMap;
-use shard_store::VALUE_LIMIT;
+use shard_part::VALUE_LIMIT;
 use std::alloc::Global;
 
 /// Values by key.

@@ -1,6 +1,6 @@
 use crate::{PartAnswer, Store};
 use flake_base::Memory;
-use shard_store::{Part, PartOp, VALUE_LIMIT};
+use shard_part::{Part, PartOp, VALUE_LIMIT};
 use std::alloc::Global;
 use std::process::Abort;
 use std::test::Fail;

@@ -6,7 +6,7 @@ ghost use Rattle.flake_model.specs.Input.{protocol_error};
 ghost use Rattle.resp_reader.specs.Reader.{Reads};
 ghost use Rattle.command_pump.specs.Pump.{IsPump, HasEnded, IsOver, taken_by, stage_after};
 
-use command_exec::Command;
+use command_parts::Command;
 use flake_base::{End, ErrorKind, Failed, Source};
 use resp_reader::{Ended, JUDGED, ReadError, Reader};
 use std::alloc::Global;

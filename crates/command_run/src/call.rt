@@ -8,7 +8,7 @@ ghost use Rattle.resp_text.specs.Meaning.{meaning, item_meaning};
 ghost use Rattle.byte_store.specs.Store.{Holds, answer_meant};
 
 use byte_store::{PartAnswer, Store};
-use command_exec::{Command, Op};
+use command_parts::{Command, Op};
 use flake_base::{Bytes, ErrorKind, Memory};
 use resp_text::{Items, Reply, put_text};
 use std::alloc::Global;

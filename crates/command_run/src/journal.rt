@@ -6,9 +6,9 @@ ghost use Rattle.flake_model.specs.OneThread.{IsSharded};
 ghost use Rattle.command_run.specs.Histories.{histories};
 
 use byte_store::SHARDS;
-use command_exec::Command;
+use command_parts::Command;
 use flake_base::{Entry, Journal, Memory, Sequence};
-use shard_store::shard_of;
+use shard_part::shard_of;
 use std::alloc::Global;
 use std::marker::Model;
 

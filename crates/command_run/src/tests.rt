@@ -1,6 +1,6 @@
 use crate::{Histories, execute};
 use byte_store::Store;
-use command_exec::Command;
+use command_parts::Command;
 use flake_base::{Bytes, Journal, Memory};
 use resp_reader::{Reader, Request};
 use std::alloc::Global;

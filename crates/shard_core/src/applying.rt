@@ -7,8 +7,8 @@ ghost use Rattle.shard_core.specs.Demand.{part_row};
 ghost use Rattle.shard_core.specs.Done.{Does, StandsAsBefore, is_taking, is_ranged};
 ghost use Rattle.shard_core.specs.Kept.{IsKept};
 ghost use Rattle.shard_core.specs.Paid.{IsPaid, WhyRefused};
-ghost use Rattle.shard_store.specs.Parts.{operation_of};
-ghost use Rattle.shard_store.specs.Settings.{setting_of};
+ghost use Rattle.shard_part.specs.Parts.{operation_of};
+ghost use Rattle.shard_part.specs.Settings.{setting_of};
 
 use crate::adding::add;
 use crate::answer::PartAnswer;
@@ -18,7 +18,7 @@ use crate::setting::{del, set};
 use flake_base::Segs;
 use frag_value::{PlaceError, Taker};
 use pinned_pool::{Pool, PoolName, PoolSeat};
-use shard_store::{Part, PartOp};
+use shard_part::{Part, PartOp};
 use std::alloc::Global;
 
 // A part that is no set.

@@ -11,7 +11,7 @@ ghost use Rattle.shard_core.specs.Done.{Does};
 ghost use Rattle.shard_core.specs.Keys.{is_key};
 ghost use Rattle.shard_core.specs.Kept.{IsKept, Agrees, IsAsBefore, bytes_kept};
 ghost use Rattle.shard_core.specs.Paid.{IsPaid};
-ghost use Rattle.shard_store.specs.Settings.{when_of, set_by};
+ghost use Rattle.shard_part.specs.Settings.{when_of, set_by};
 
 use crate::answer::PartAnswer;
 use crate::giving::give_up;
@@ -21,7 +21,7 @@ use crate::reading::get;
 use flake_base::Segs;
 use frag_value::{PlaceError, Taker, release};
 use pinned_pool::{Pool, PoolName, PoolSeat};
-use shard_store::Setting;
+use shard_part::Setting;
 use std::alloc::Global;
 
 /// A set that stores. The new value stands before the old one goes.

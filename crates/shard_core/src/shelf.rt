@@ -11,7 +11,7 @@ ghost use Rattle.shard_core.specs.Keys.{key_eq};
 ghost use Rattle.shard_core.specs.Kept.{IsKept};
 ghost use Rattle.shard_core.specs.Paid.{IsPaid, WhyRefused};
 ghost use Rattle.shard_core.specs.Shelves.{IsBare, keys_on};
-ghost use Rattle.shard_store.specs.Parts.{operation_of};
+ghost use Rattle.shard_part.specs.Parts.{operation_of};
 
 use crate::answer::PartAnswer;
 use crate::applying::apply;
@@ -20,7 +20,7 @@ use flake_base::Segs;
 use frag_value::{PlaceError, Taker};
 use indexmap::IndexMap;
 use pinned_pool::{Pool, PoolName, PoolSeat};
-use shard_store::Part;
+use shard_part::Part;
 use std::alloc::Global;
 use std::marker::Model;
 

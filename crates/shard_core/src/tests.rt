@@ -7,7 +7,7 @@ use crate::PartAnswer;
 use flake_base::{Memory, Seg};
 use frag_value::{PlaceError, VALUE_LIMIT};
 use pinned_pool::{Class, Held, NoBuffer, PoolBlank, PoolName};
-use shard_store::PartOp;
+use shard_part::PartOp;
 use std::alloc::Global;
 use std::marker::Brand;
 use std::process::Abort;

@@ -7,7 +7,7 @@ use crate::{PartAnswer, Shelf};
 use flake_base::{Memory, Seg, Segs, Sequence};
 use frag_value::PlaceError;
 use pinned_pool::{Held, Pool, PoolBlank, PoolName, PoolSeat};
-use shard_store::{Part, PartOp};
+use shard_part::{Part, PartOp};
 use std::alloc::Global;
 
 /// A run of bytes that the taker got: where it lies, how long it is, and whether a hold came with it.

@@ -2,7 +2,7 @@ use Rattle.std.proofs.Common.{Some, map, ap, sym, subst, ◌∙◌}
 use Rattle.flake_model.specs.Command.{parts}
 use Rattle.flake_model.specs.Reply.{reply_to, only}
 use Rattle.flake_model.specs.OneThread.{answers_to, after_all}
-use Rattle.shard_store.specs.Parts.{operation_of}
+use Rattle.shard_part.specs.Parts.{operation_of}
 use Rattle.byte_store.specs.Store.{Holds}
 use Rattle.command_run.proofs.Replies.{only_part}
 use Rattle.command_run.proofs.call.only_reply.Goals as goal

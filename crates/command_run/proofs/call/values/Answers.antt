@@ -2,7 +2,7 @@ use Rattle.std.proofs.Common.{arith, subst}
 use Rattle.std.proofs.lemmas.List.{take_all}
 use Rattle.flake_model.specs.Command.{parts}
 use Rattle.flake_model.specs.OneThread.{after_all}
-use Rattle.shard_store.specs.Parts.{operation_of}
+use Rattle.shard_part.specs.Parts.{operation_of}
 use Rattle.byte_store.specs.Store.{Holds}
 use Rattle.command_run.proofs.Replies.{after_next, items_next}
 use Rattle.command_run.proofs.call.values.Goals as goal

@@ -3,7 +3,7 @@ use Rattle.std.proofs.lemmas.List.{take_all}
 use Rattle.flake_model.specs.Command.{parts}
 use Rattle.flake_model.specs.Reply.{is_yes}
 use Rattle.flake_model.specs.OneThread.{after_all}
-use Rattle.shard_store.specs.Parts.{operation_of}
+use Rattle.shard_part.specs.Parts.{operation_of}
 use Rattle.byte_store.specs.Store.{Holds, answer_meant}
 use Rattle.command_run.proofs.Replies.{after_next, yes_next, few_next}
 use Rattle.command_run.proofs.call.yes_count.Goals as goal

@@ -1,7 +1,7 @@
 use Rattle.std.proofs.Common.{◌∙◌}
 use Rattle.std.specs.FinMap as finite
 use Rattle.shard_core.specs.Kept.{frags_of, addresses_of}
-use Rattle.shard_store.specs.Settings.{when_of}
+use Rattle.shard_part.specs.Settings.{when_of}
 use Rattle.shard_core.proofs.Holds.{has_hand, gone_held, gone_agrees}
 use Rattle.shard_core.proofs.Deeds.{set_done}
 use Rattle.shard_core.proofs.setting.store.Goals as goal

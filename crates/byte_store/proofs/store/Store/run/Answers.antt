@@ -1,7 +1,7 @@
 use Rattle.std.proofs.Common.{sym, subst, ◌∙◌}
 use Rattle.std.proofs.lemmas.Option.{slice_get_read}
 use Rattle.byte_store.specs.Store.{Holds}
-use Rattle.shard_store.specs.Parts.{operation_of}
+use Rattle.shard_part.specs.Parts.{operation_of}
 use Rattle.byte_store.proofs.Held.{run_answers, run_holds, run_keeps}
 use Rattle.byte_store.proofs.Parts.{key_is}
 use Rattle.byte_store.proofs.Results.{on_err}

@@ -3,7 +3,7 @@ use Rattle.std.proofs.lemmas.List.{take_all}
 use Rattle.flake_model.specs.Command.{parts}
 use Rattle.flake_model.specs.Journal.{call_steps}
 use Rattle.flake_model.specs.OneThread.{IsSharded}
-use Rattle.shard_store.specs.Parts.{operation_of}
+use Rattle.shard_part.specs.Parts.{operation_of}
 use Rattle.command_run.proofs.Entered.{one_part_more}
 use Rattle.byte_store.proofs.Parts.{key_is}
 use Rattle.command_run.proofs.journal.Histories.enter.Goals as goal

@@ -1,5 +1,0 @@
-use Rattle.std.proofs.Common.{sym}
-use Rattle.command_exec.proofs.command.Command.into_request.Goals as goal
-
-pub returns : goal.returns
-returns c = (c.self.inside.asked, sym c.self.view_is)

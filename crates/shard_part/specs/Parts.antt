@@ -1,0 +1,41 @@
+-- What a part of the code stands for.
+use Rattle.std.specs.Prelude.{◌≡◌, List, [], ℕ, true, false}
+use Rattle.flake_model.specs.Store as store
+use Rattle.flake_model.specs.Store.{Operation}
+use Rattle.shard_part.specs.declared.part.Part.{Part}
+use Rattle.shard_part.specs.declared.part.PartOp.{PartOp}
+use Rattle.shard_part.specs.declared.part.PartOp.TheVariants.{Set, SetNx, SetXx, SetGet, SetNxGet, SetXxGet}
+use Rattle.shard_part.specs.declared.part.PartOp.TheVariants.{Get, Append, Del, Exists, StrLen, GetRange}
+
+-- the operation on a key, with a value where it takes one
+abbrev pub operation_by : PartOp → List ℕ → List ℕ → Operation
+operation_by Get key value = store.get key
+operation_by Set key value = store.set store.always false key value
+operation_by SetNx key value = store.set store.if_missing false key value
+operation_by SetXx key value = store.set store.if_present false key value
+operation_by SetGet key value = store.set store.always true key value
+operation_by SetNxGet key value = store.set store.if_missing true key value
+operation_by SetXxGet key value = store.set store.if_present true key value
+operation_by Append key value = store.append key value
+operation_by Del key value = store.del key
+operation_by Exists key value = store.exists key
+operation_by StrLen key value = store.str_len key
+operation_by (GetRange start end) key value = store.get_range key start end
+
+abbrev pub operation_of : Part → Operation
+operation_of part = operation_by part.op part.key.now part.value.now
+
+-- a part that takes no value has none
+abbrev pub HasOwnValue : PartOp → List ℕ → Type 0
+HasOwnValue Get value = value ≡ []
+HasOwnValue Set value = Unit {0}
+HasOwnValue SetNx value = Unit {0}
+HasOwnValue SetXx value = Unit {0}
+HasOwnValue SetGet value = Unit {0}
+HasOwnValue SetNxGet value = Unit {0}
+HasOwnValue SetXxGet value = Unit {0}
+HasOwnValue Append value = Unit {0}
+HasOwnValue Del value = value ≡ []
+HasOwnValue Exists value = value ≡ []
+HasOwnValue StrLen value = value ≡ []
+HasOwnValue (GetRange start end) value = value ≡ []
