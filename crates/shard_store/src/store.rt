@@ -39,7 +39,6 @@ impl<N: BookName, P: PoolName> Store<N, P> {
         requires seats { (length seats.items ≡ N.sizes.shards) × Each IsBare seats.items }
         ensures { IfErr result (λ e. (e.1 ≡ seats) × (e.2 ≡ books)) }
     {
-        let _ = alloc;
         Err((Memory, seats, books))
     }
 
@@ -80,7 +79,6 @@ impl<N: BookName, P: PoolName> Store<N, P> {
             → T.range_room taker.old + length (T.taken taker.old)
             ≤ T.range_room taker.new + length (T.taken taker.new) }
     {
-        let _ = (rt, pool, book, seat, mine, at, part, taker, stored);
         Err(Memory)
     }
 }
