@@ -1,0 +1,3 @@
+pub mod Steps
+pub mod Seats
+pub mod Going
