@@ -7,7 +7,7 @@ use Rattle.pin_core.specs.declared.sizes.Sizes.{Sizes}
 use Rattle.pinned_pool.specs.Ends.{LooksClaimed}
 use Rattle.pinned_pool.specs.Views.{IsLoose}
 use Rattle.pinned_pool.specs.declared.view.View.{View}
-use Rattle.flake_model.specs.Session.{IsSession}
+use Rattle.flake_model.specs.Session.{Session, IsSession}
 use Rattle.flake_model.specs.Wire.{WiresGrew}
 use Rattle.order_book.specs.Pages.{SessionList}
 use Rattle.serve_model.specs.Runs.{Run, IsRun, run_text, texts_told, session_of, list_of, lists_told}
@@ -40,26 +40,30 @@ AllRun z shards session [] = Unit {0}
 AllRun z shards session (o ∷ others) =
     HasRun z shards session o.input o.left o.end o.list o.seat o.old o.new × AllRun z shards (session + 1) others
 
--- each run is that of an input, with what it has left
-abbrev pub AreSessions : List (Option (List ℕ)) → List (Option (List ℕ)) → List Run → Type 0
-AreSessions [] [] [] = Unit {0}
-AreSessions [] [] (run ∷ runs) = ⊥
-AreSessions [] (left ∷ lefts) runs = ⊥
-AreSessions (input ∷ inputs) [] runs = ⊥
-AreSessions (input ∷ inputs) (left ∷ lefts) [] = ⊥
-AreSessions (input ∷ inputs) (left ∷ lefts) (run ∷ runs) =
-    IsSession (session_of input left run) × AreSessions inputs lefts runs
+-- the run of one session, with its input and what it has left
+pub record SessionRun : Type 0 where
+  pub input : Option (List ℕ)
+  pub left : Option (List ℕ)
+  pub run : Run
+
+abbrev pub session_in : SessionRun → Session
+session_in ran = session_of ran.input ran.left ran.run
+
+abbrev pub runs_in : List SessionRun → List Run
+runs_in all = map (λ (ran : SessionRun). ran.run) all
 
 -- All sessions were served, by what each of them did.
 pub record AreServed (z : Sizes) (shards : ℕ) (inputs lefts : List (Option (List ℕ))) (ends : List SessionEnd)
     (sessions : List SessionList) (seats : List View) (olds news : List (Option (List ℕ))) : Type 0 where
-  pub runs : List Run
-  pub runs_are : Each IsRun runs
-  pub sessions_are : AreSessions inputs lefts runs
-  pub ends_are : ends ≡ map (λ (run : Run). run.end) runs
-  pub told : sessions ≡ lists_told shards 0 runs
-  pub seats_are : AreSpentSeats z runs seats
-  pub wires : WiresGrew (texts_told runs) olds news
+  pub all : List SessionRun
+  pub inputs_are : inputs ≡ map (λ (ran : SessionRun). ran.input) all
+  pub lefts_are : lefts ≡ map (λ (ran : SessionRun). ran.left) all
+  pub ends_are : ends ≡ map (λ (ran : SessionRun). ran.run.end) all
+  pub sessions_are : Each (λ (ran : SessionRun). IsSession (session_in ran)) all
+  pub runs_are : Each IsRun (runs_in all)
+  pub told : sessions ≡ lists_told shards 0 (runs_in all)
+  pub seats_are : AreSpentSeats z (runs_in all) seats
+  pub wires : WiresGrew (texts_told (runs_in all)) olds news
 
 -- The last seat of a pool: that of the store, those of the sessions, and others that never claimed and hold nothing.
 pub record IsLastSeat (store : View) (spare seats : List View) (last : View) : Type 0 where
