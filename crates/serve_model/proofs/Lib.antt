@@ -8,3 +8,6 @@ pub mod InOrder
 pub mod Served
 pub mod Merged
 pub mod OneHistory
+pub mod Ranges
+pub mod Finals
+pub mod Held
