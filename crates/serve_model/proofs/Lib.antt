@@ -11,3 +11,7 @@ pub mod OneHistory
 pub mod Ranges
 pub mod Finals
 pub mod Held
+pub mod Counts
+pub mod Counted
+pub mod Complete
+pub mod Ran
