@@ -1,5 +1,5 @@
 -- What the seats of all sessions claimed, looked at and gave back, together.
-use Rattle.std.proofs.Common.{◌≡◌, ℕ, suc, ◌+◌, ◌-◌, ◌<◌, ◌≤◌, min, Bool, true, false, cond, List, [], ◌∷◌, Option}
+use Rattle.std.proofs.Common.{◌≡◌, ℕ, suc, ◌+◌, ◌-◌, ◌<◌, ◌≤◌, min, Bool, cond, List, [], ◌∷◌, Option}
 use Rattle.std.proofs.Common.{Some, None, is_none, fold, if◌then◌else◌, length, map, take, slice_get, refl, ap, sym, ◌∙◌}
 use Rattle.std.proofs.Common.{zip, arith}
 use Rattle.std.specs.List.{count_by}
@@ -134,8 +134,8 @@ counted_by test xs = omega (arith, folded (λ x. cond (test x) 1 0) 0 xs)
 pub served_weight : (weight : Operation → Option Answer → ℕ) (answers : List (Entry × Answer)) (n : ℕ)
     (all : List SessionRun)
     → ((k : ℕ) (run : Run) → slice_get (runs_in all) k ≡ Some run
-        → map (λ (step : Step). (step.1, answer_at step.0 answers))
-        (session_steps (n + k) 0 (take run.end.replies run.commands)) ≡ parts_told run.commands run.calls)
+    → map (λ (step : Step). (step.1, answer_at step.0 answers))
+    (session_steps (n + k) 0 (take run.end.replies run.commands)) ≡ parts_told run.commands run.calls)
     → total (λ (step : Step). weight step.1 (answer_at step.0 answers)) (served_steps n (map session_in all))
     ≡ total (λ (run : Run). total (weigh weight) (parts_told run.commands run.calls)) (runs_in all)
 served_weight weight answers n [] each = refl

@@ -1,6 +1,6 @@
 -- The fragments of what deeds leave: each final value has an address for each of its fragments.
-use Rattle.std.proofs.Common.{◌≡◌, ℕ, suc, ◌+◌, ◌&&◌, Bool, true, false, cond, T, List, [], ◌∷◌, Option, None, Some}
-use Rattle.std.proofs.Common.{length, map, unwrap_or, zip, refl, ap, sym, ◌∙◌, subst, arith}
+use Rattle.std.proofs.Common.{◌≡◌, ℕ, suc, ◌&&◌, Bool, true, false, cond, T, List, [], ◌∷◌, Option, None, Some}
+use Rattle.std.proofs.Common.{length, map, unwrap_or, zip, refl, ap, sym, ◌∙◌, arith}
 use Rattle.std.specs.List.{flat_map}
 use Rattle.std.specs.Ordering.{nat_cmp, eq_by_cmp, is_eq, is_lt, ordering_reverse}
 use Rattle.std.specs.Cmp.{IsTotalOrder, tied_itself}
@@ -104,7 +104,7 @@ all_placed store places (deed ∷ deeds) are legal =
     let kept = kept_fragments (bytes_at store key) deed.operation in
     all_placed (after store deed.operation) (places_after store places deed.operation deed.stored) deeds
     (stay_placed store places key are (change_by store deed.operation) kept (places_at places key) deed.stored
-        legal.0.stored_is)
+    legal.0.stored_is)
     legal.1
 
 none_placed : ArePlaced finite.empty finite.empty

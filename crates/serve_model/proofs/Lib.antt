@@ -15,3 +15,6 @@ pub mod Counts
 pub mod Counted
 pub mod Complete
 pub mod Ran
+pub mod Cuts
+pub mod Rows
+pub mod Worked

@@ -16,7 +16,7 @@ use Rattle.order_book.proofs.Ordered.{has_ranks}
 use Rattle.call_model.specs.Stock.{AreParts}
 use Rattle.serve_model.specs.Handed.{SessionRun, session_in, runs_in, OneRun, AllRun, AreServed, IsLastSeat}
 use Rattle.serve_model.specs.Lists.{AreLists}
-use Rattle.serve_model.specs.Runs.{Run, IsRun, lists_told, texts_told}
+use Rattle.serve_model.specs.Runs.{IsRun, lists_told, texts_told}
 use Rattle.serve_model.specs.Seats.{AreSpentSeats}
 use Rattle.serve_model.specs.Shown.{IsCounted, WasRun}
 use Rattle.serve_model.proofs.Counted.{counted}
@@ -81,7 +81,7 @@ module _ (books : book_sizes.Sizes) (z : pool_sizes.Sizes) (shards : List ShardL
         served = own.0;
         counted = subst (λ (ran : List Session). IsCounted z ran (journal_of shards) (end_of z last)) (sym own.1)
             (counted books all shards sessions lists z store last spare seats parts.stock parts.idle served.seats_are
-                is);
+            is);
       } in
       subst (λ j. WasRun z inputs lefts ends j olds news (end_of z last)) (sym parts.journal_is) run
 

@@ -1,5 +1,5 @@
 -- Sums over the numbers of a range, and over the buffers of a class.
-use Rattle.std.proofs.Common.{◌≡◌, ℕ, zero, suc, ◌+◌, ◌<◌, ◌≤◌, true, false, cond, nat_lt, List, [], ◌∷◌, if◌then◌else◌}
+use Rattle.std.proofs.Common.{◌≡◌, ℕ, zero, suc, ◌+◌, ◌<◌, ◌≤◌, true, false, cond, nat_lt, List, [], ◌∷◌}
 use Rattle.std.proofs.Common.{refl, ap, sym, ◌∙◌, ⊎_elim, eq-eqb, ne_eqb, arith}
 use Rattle.std.proofs.lemmas.Bool.{lt-ltb, ltb-true, false_from_ne_true, cases_lt}
 use mathlib.Core.Logic.{dite}

@@ -24,7 +24,7 @@ use Rattle.order_book.proofs.Replayed.{replays}
 use Rattle.call_model.specs.Outcomes.{call_told}
 use Rattle.serve_model.specs.Handed.{SessionRun, session_in, runs_in}
 use Rattle.serve_model.specs.Lists.{AreLists}
-use Rattle.serve_model.specs.Runs.{Run, IsRun, run_told, run_text, list_of, lists_told, texts_told}
+use Rattle.serve_model.specs.Runs.{Run, IsRun, run_text, list_of, lists_told, texts_told}
 use Rattle.serve_model.proofs.Answers.{AreTold, calls_are}
 use Rattle.serve_model.proofs.Calls.{run_rising, run_meant, at_call}
 use Rattle.serve_model.proofs.InOrder.{run_served}

@@ -6,5 +6,8 @@ pub mod Steps
 pub mod Handed
 pub mod Lists
 pub mod Shown
+pub mod Whole
 pub mod Stages
 pub mod Cuts
+pub mod Rows
+pub mod Worked

@@ -21,3 +21,7 @@ pub record IsStageRefused (z : Sizes) (stages : ℕ) (opened idle : List View) (
   pub all : HasAll (refused ∷ idle ++ opened) last
   -- what closing the pool says
   pub looked : LooksClaimed last
+
+abbrev pub NoStageRefused : Type 0
+NoStageRefused = (z : Sizes) (stages : ℕ) (opened idle : List View) (refused last : View)
+    → IsStageRefused z stages opened idle refused last → ⊥

@@ -1,7 +1,39 @@
 //! What the clauses of parts, calls and sessions imply together, as contracts of calls that do nothing.
+ghost use Rattle.serve_model.specs.Cuts.{CutsAgree};
+ghost use Rattle.serve_model.specs.Rows.{AreRows};
 ghost use Rattle.serve_model.specs.Seats.{JoinsAdd, OneSeat, AnyOrder, IdleStarts};
+ghost use Rattle.serve_model.specs.Stages.{NoStageRefused};
 ghost use Rattle.serve_model.specs.Steps.{CallsAdd, FirstCalls, GoingStarts, GoingRests, GoingOn, GoingEnds};
 ghost use Rattle.serve_model.specs.Steps.{GoingBreaks, WithStage, SessionRan};
+ghost use Rattle.serve_model.specs.Whole.{ServedTogether, InputsServed, WholeRun, NoneMissing};
+ghost use Rattle.serve_model.specs.Worked.{WorkedRun};
+
+/// The inputs of any number of sessions were served: the journal has one order and one history, and its histories give
+/// the wires' bytes.
+pub fn served()
+    ensures { InputsServed }
+{}
+
+/// And the end of the pool shows by the journal what is held, what was claimed, why parts have no entry, and that
+/// values were pinned.
+pub fn ran()
+    ensures { WholeRun }
+{}
+
+/// Sessions that ran each for itself were served together.
+pub fn all_served()
+    ensures { ServedTogether }
+{}
+
+/// Where the pool has the demand in both classes no write is missing.
+pub fn complete()
+    ensures { NoneMissing }
+{}
+
+/// With 128 small buffers for each stage none is refused.
+pub fn no_stage_refused()
+    ensures { NoStageRefused }
+{}
 
 /// The calls of a session, one more.
 pub fn calls_add()
@@ -66,4 +98,19 @@ pub fn any_order()
 /// A seat that never claimed is as none.
 pub fn idle_starts()
     ensures { IdleStarts }
+{}
+
+/// The fragments of the model are those of the values in buffers.
+pub fn cuts_agree()
+    ensures { CutsAgree }
+{}
+
+/// The demand of some commands, as worked by hand.
+pub fn worked_rows()
+    ensures { AreRows }
+{}
+
+/// A worked run meets all that the layers hand up, so the laws are about something.
+pub fn worked()
+    ensures { WorkedRun }
 {}
