@@ -8,7 +8,6 @@ use Rattle.std.proofs.lemmas.Grind.{flat_map-append}
 use Rattle.std.proofs.Math.Seq.{take-length}
 use Rattle.view_sums.specs.Total.{total}
 use Rattle.view_sums.proofs.Sums.{total-append}
-use Rattle.flake_base.specs.Growth.{Grew}
 use Rattle.flake_base.specs.declared.session.End.{End}
 use Rattle.flake_base.specs.declared.session.End.TheVariants.{Clean, Protocol, Truncated, TooLong, ReadFault, Memory}
 use Rattle.flake_base.specs.declared.session.End.TheVariants.{Left}
@@ -185,8 +184,7 @@ with_stage z run opened seat stage calls =
     sought_as z _ _ _ _ nobody seat whole (λ class. omega arith) (omega arith)
 
 pub session_ran : SessionRan
-session_ran z shards session input left run texts pins told opened seat last old new stage is finished is_session
-    grew =
+session_ran z shards session input left run texts pins told opened seat last stage is finished is_session =
     let missed = missed_by run.calls + missed_in run.behind in
     let sought = with_stage z run opened last stage
     (sought_still z (λ (class : Class). commands_row class run.commands) missed opened seat last is.sought
@@ -202,5 +200,5 @@ session_ran z shards session input left run texts pins told opened seat last old
         sought = sought;
         returned = omega (arith, is.pinned, finished.returns);
       };
-      sent = subst (λ t. Grew run.end.failed t old new) is.texts_are grew;
+      text_is = is.texts_are;
     }

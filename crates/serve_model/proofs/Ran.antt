@@ -1,5 +1,5 @@
 -- A served run, with the end of its pool, from what the layers hand up.
-use Rattle.std.proofs.Common.{◌≡◌, ℕ, ◌+◌, List, [], ◌∷◌, ◌++◌, Option, length, map, refl, ap, sym, ◌∙◌, subst}
+use Rattle.std.proofs.Common.{◌≡◌, Bool, ℕ, ◌+◌, List, [], ◌∷◌, ◌++◌, Option, length, map, refl, ap, sym, ◌∙◌, subst}
 use Rattle.view_sums.specs.Total.{Each}
 use Rattle.flake_base.specs.declared.journal.Entry.{Entry}
 use Rattle.flake_base.specs.declared.session.SessionEnd.{SessionEnd}
@@ -16,9 +16,11 @@ use Rattle.order_book.proofs.Ordered.{has_ranks}
 use Rattle.call_model.specs.Stock.{AreParts}
 use Rattle.serve_model.specs.Handed.{SessionRun, session_in, runs_in, OneRun, AllRun, AreServed, IsLastSeat}
 use Rattle.serve_model.specs.Lists.{AreLists}
-use Rattle.serve_model.specs.Runs.{IsRun, lists_told, texts_told}
+use Rattle.serve_model.specs.Runs.{run_text, IsRun, lists_told, texts_told}
 use Rattle.serve_model.specs.Seats.{AreSpentSeats}
-use Rattle.serve_model.specs.Shown.{IsCounted, WasRun}
+use Rattle.serve_model.specs.Shown.{WasRun}
+use Rattle.serve_model.specs.Whole.{AreThose, ServedTogether}
+use Rattle.flake_base.specs.Growth.{Grew}
 use Rattle.serve_model.proofs.Counted.{counted}
 use Rattle.serve_model.proofs.OneHistory.{one_history}
 use Rattle.serve_model.proofs.Served.{lists_long, sessions_long, rising, all_sessions, texts, in_order}
@@ -55,52 +57,64 @@ module _ (books : book_sizes.Sizes) (z : pool_sizes.Sizes) (shards : List ShardL
   }
 
   -- the run, by the journal that the shards' lists make
-  own : (w : WasServed inputs lefts ends (journal_of shards) olds news) × (w.sessions ≡ map session_in all)
-  own =
-      let w : WasServed inputs lefts ends (journal_of shards) olds news = record {
-        sessions = map session_in all;
-        inputs_are = mapped (λ ran. ran.input) (λ session. session.input) (λ ran. refl) all ∙ sym served.inputs_are;
-        lefts_are = mapped (λ ran. ran.left) (λ session. session.left) (λ ran. refl) all ∙ sym served.lefts_are;
-        ends_are = ends_mapped all ∙ sym served.ends_are;
-        each_is = all_sessions all served.sessions_are;
-        orderly = in_order books all shards sessions lists;
-        one_order = (has_ranks books shards sessions closed (sessions_long books all shards sessions lists)
-            (rising books all shards sessions lists)).0;
-        one_history = one_history books all shards sessions lists;
-        wires = subst (λ t. WiresGrew t olds news) (sym (texts books all shards sessions lists)) served.wires;
-      } in
-      (w, refl)
+  own : WasServed inputs lefts ends (journal_of shards) olds news
+  own = record {
+    sessions = map session_in all;
+    inputs_are = mapped (λ ran. ran.input) (λ session. session.input) (λ ran. refl) all ∙ sym served.inputs_are;
+    lefts_are = mapped (λ ran. ran.left) (λ session. session.left) (λ ran. refl) all ∙ sym served.lefts_are;
+    ends_are = ends_mapped all ∙ sym served.ends_are;
+    each_is = all_sessions all served.sessions_are;
+    orderly = in_order books all shards sessions lists;
+    one_order = (has_ranks books shards sessions closed (sessions_long books all shards sessions lists)
+        (rising books all shards sessions lists)).0;
+    one_history = one_history books all shards sessions lists;
+    wires = subst (λ t. WiresGrew t olds news) (sym (texts books all shards sessions lists)) served.wires;
+  }
 
-  pub was_served : WasServed inputs lefts ends journal olds news
-  was_served = subst (λ j. WasServed inputs lefts ends j olds news) (sym parts.journal_is) own.0
+  -- it is of those sessions
+  abbrev Served : List (List Entry) → Type 0
+  Served j = (run : WasServed inputs lefts ends j olds news) × AreThose all run.sessions j
 
-  pub was_run : (last : View) (spare : List View) → IsLastSeat store spare seats last
-      → WasRun z inputs lefts ends journal olds news (end_of z last)
+  pub was_served : Served journal
+  unfolding own
+  was_served =
+      let run : Served (journal_of shards) =
+      (own, record { sessions_are = refl; texts_are = texts books all shards sessions lists }) in
+      subst Served (sym parts.journal_is) run
+
+  abbrev Ran : View → List (List Entry) → Type 0
+  Ran last j = (run : WasRun z inputs lefts ends j olds news (end_of z last)) × AreThose all run.served.sessions j
+
+  pub was_run : (last : View) (spare : List View) → IsLastSeat store spare seats last → Ran last journal
+  unfolding own
   was_run last spare is =
-      let run : WasRun z inputs lefts ends (journal_of shards) olds news (end_of z last) = record {
-        served = own.0;
-        counted = subst (λ (ran : List Session). IsCounted z ran (journal_of shards) (end_of z last)) (sym own.1)
-            (counted books all shards sessions lists z store last spare seats parts.stock parts.idle served.seats_are
-            is);
-      } in
-      subst (λ j. WasRun z inputs lefts ends j olds news (end_of z last)) (sym parts.journal_is) run
+      let run : Ran last (journal_of shards) = (
+        record {
+          served = own;
+          counted = counted books all shards sessions lists z store last spare seats parts.stock parts.idle
+              served.seats_are is;
+        },
+        record { sessions_are = refl; texts_are = texts books all shards sessions lists },
+      ) in
+      subst (Ran last) (sym parts.journal_is) run
 
 -- the sessions' runs, one behind the other
-record HasRuns (z : pool_sizes.Sizes) (shards session : ℕ) (outcomes : List OneRun) : Type 0 where
+record HasRuns (z : pool_sizes.Sizes) (shards session : ℕ) (each : List OneRun) : Type 0 where
   all : List SessionRun
-  inputs_are : map (λ (o : OneRun). o.input) outcomes ≡ map (λ (ran : SessionRun). ran.input) all
-  lefts_are : map (λ (o : OneRun). o.left) outcomes ≡ map (λ (ran : SessionRun). ran.left) all
-  ends_are : map (λ (o : OneRun). o.end) outcomes ≡ map (λ (ran : SessionRun). ran.run.end) all
+  inputs_are : map (λ (one : OneRun). one.input) each ≡ map (λ (ran : SessionRun). ran.input) all
+  lefts_are : map (λ (one : OneRun). one.left) each ≡ map (λ (ran : SessionRun). ran.left) all
+  ends_are : map (λ (one : OneRun). one.end) each ≡ map (λ (ran : SessionRun). ran.run.end) all
   sessions_are : Each (λ (ran : SessionRun). IsSession (session_in ran)) all
   runs_are : Each IsRun (runs_in all)
-  told : map (λ (o : OneRun). o.list) outcomes ≡ lists_told shards session (runs_in all)
-  seats_are : AreSpentSeats z (runs_in all) (map (λ (o : OneRun). o.seat) outcomes)
-  wires : (past : List Told) → WiresGrew (texts_told (runs_in all)) (map (λ (o : OneRun). o.old) outcomes ++ past)
-      (map (λ (o : OneRun). o.new) outcomes ++ past)
+  told : map (λ (one : OneRun). one.list) each ≡ lists_told shards session (runs_in all)
+  seats_are : AreSpentSeats z (runs_in all) (map (λ (one : OneRun). one.seat) each)
+  texts_are : texts_told (runs_in all) ≡ map (λ (one : OneRun). (one.end.failed, one.text)) each
+  wires : (past : List Told) → WiresGrew (texts_told (runs_in all)) (map (λ (one : OneRun). one.old) each ++ past)
+      (map (λ (one : OneRun). one.new) each ++ past)
 
-runs_of : (z : pool_sizes.Sizes) (shards session : ℕ) (outcomes : List OneRun) → AllRun z shards session outcomes
-    → HasRuns z shards session outcomes
-runs_of z shards session [] each = record {
+runs_of : (z : pool_sizes.Sizes) (shards session : ℕ) (each : List OneRun) → AllRun z shards session each
+    → HasRuns z shards session each
+runs_of z shards session [] have = record {
   all = [];
   inputs_are = refl;
   lefts_are = refl;
@@ -109,40 +123,44 @@ runs_of z shards session [] each = record {
   runs_are = tt;
   told = refl;
   seats_are = tt;
+  texts_are = refl;
   wires = λ past. refl;
 }
-runs_of z shards session (o ∷ outcomes) each =
-    let rest = runs_of z shards (session + 1) outcomes each.1 in
-    let one = each.0 in
+runs_of z shards session (one ∷ each) have =
+    let rest = runs_of z shards (session + 1) each have.2 in
+    let has = have.0 in
+    let text : (has.run.end.failed, run_text has.run) ≡ (one.end.failed, one.text) =
+    λ i. ((sym has.end_is i).failed, sym has.text_is i) in
     record {
-      all = record { input = o.input; left = o.left; run = one.run } ∷ rest.all;
-      inputs_are = ap (λ (l : List Told). o.input ∷ l) rest.inputs_are;
-      lefts_are = ap (λ (l : List Told). o.left ∷ l) rest.lefts_are;
-      ends_are = λ i. one.end_is i ∷ rest.ends_are i;
-      sessions_are = (one.is_session, rest.sessions_are);
-      runs_are = (one.is_run, rest.runs_are);
-      told = λ i. one.list_is i ∷ rest.told i;
-      seats_are = (one.seat_is, rest.seats_are);
-      wires = λ past. (one.sent, rest.wires past);
+      all = record { input = one.input; left = one.left; run = has.run } ∷ rest.all;
+      inputs_are = ap (λ (l : List Told). one.input ∷ l) rest.inputs_are;
+      lefts_are = ap (λ (l : List Told). one.left ∷ l) rest.lefts_are;
+      ends_are = λ i. has.end_is i ∷ rest.ends_are i;
+      sessions_are = (has.is_session, rest.sessions_are);
+      runs_are = (has.is_run, rest.runs_are);
+      told = λ i. has.list_is i ∷ rest.told i;
+      seats_are = (has.seat_is, rest.seats_are);
+      texts_are = λ i. text i ∷ rest.texts_are i;
+      wires = λ past. (
+        subst (λ (t : Bool × List ℕ). Grew t.0 t.1 one.old one.new) (sym text) have.1,
+        rest.wires past,
+      );
     }
 
--- sessions that were run one by one, or beside each other, were served; the wires past theirs stay
-pub all_served : (z : pool_sizes.Sizes) (shards : ℕ) (outcomes : List OneRun) (past : List Told)
-    → AllRun z shards 0 outcomes
-    → AreServed z shards (map (λ (o : OneRun). o.input) outcomes) (map (λ (o : OneRun). o.left) outcomes)
-    (map (λ (o : OneRun). o.end) outcomes) (map (λ (o : OneRun). o.list) outcomes)
-    (map (λ (o : OneRun). o.seat) outcomes) (map (λ (o : OneRun). o.old) outcomes ++ past)
-    (map (λ (o : OneRun). o.new) outcomes ++ past)
-all_served z shards outcomes past each =
-    let found = runs_of z shards 0 outcomes each in
-    record {
-      all = found.all;
-      inputs_are = found.inputs_are;
-      lefts_are = found.lefts_are;
-      ends_are = found.ends_are;
-      sessions_are = found.sessions_are;
-      runs_are = found.runs_are;
-      told = found.told;
-      seats_are = found.seats_are;
-      wires = found.wires past;
-    }
+-- sessions that were run one by one, or beside each other, were served
+pub all_served : ServedTogether
+all_served z shards each past have =
+    let found = runs_of z shards 0 each have in (
+      record {
+        all = found.all;
+        inputs_are = found.inputs_are;
+        lefts_are = found.lefts_are;
+        ends_are = found.ends_are;
+        sessions_are = found.sessions_are;
+        runs_are = found.runs_are;
+        told = found.told;
+        seats_are = found.seats_are;
+        wires = found.wires past;
+      },
+      found.texts_are,
+    )

@@ -348,5 +348,5 @@ is_last = record {
 
 pub worked : WorkedRun
 worked =
-    was_run books pool shards (map shown_session session_pages) (journal_of shards) store _ _ _ seats olds news closed
-    refl parts served last [] is_last
+    (was_run books pool shards (map shown_session session_pages) (journal_of shards) store _ _ _ seats olds news closed
+    refl parts served last [] is_last).0

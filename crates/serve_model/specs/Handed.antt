@@ -13,32 +13,34 @@ use Rattle.order_book.specs.Pages.{SessionList}
 use Rattle.serve_model.specs.Runs.{Run, IsRun, run_text, texts_told, session_of, list_of, lists_told}
 use Rattle.serve_model.specs.Seats.{HasAll, IsSpare, IsSpentSeat, AreSpentSeats}
 
--- One session ran: its end, its list, its seat and its wire.
+-- One session ran: its end, its list, its seat, and the text that it sends.
 pub record HasRun (z : Sizes) (shards session : ℕ) (input left : Option (List ℕ)) (end : SessionEnd)
-    (list : SessionList) (seat : View) (old new : Option (List ℕ)) : Type 0 where
+    (list : SessionList) (seat : View) (text : List ℕ) : Type 0 where
   pub run : Run
   pub is_run : IsRun run
   pub is_session : IsSession (session_of input left run)
   pub end_is : end ≡ run.end
   pub list_is : list ≡ list_of shards session run
   pub seat_is : IsSpentSeat z run seat
-  pub sent : Grew run.end.failed (run_text run) old new
+  pub text_is : text ≡ run_text run
 
--- what comes of one session: its end, its list, its seat, and its wire before and behind it
+-- what comes of one session: its end, its list, its seat, its text, and its wire before and behind it
 pub record OneRun : Type 0 where
   pub input : Option (List ℕ)
   pub left : Option (List ℕ)
   pub end : SessionEnd
   pub list : SessionList
   pub seat : View
+  pub text : List ℕ
   pub old : Option (List ℕ)
   pub new : Option (List ℕ)
 
--- each session ran, from a number on
+-- each session ran, from a number on, and its wire grew by its text
 abbrev pub AllRun : Sizes → ℕ → ℕ → List OneRun → Type 0
 AllRun z shards session [] = Unit {0}
-AllRun z shards session (o ∷ others) =
-    HasRun z shards session o.input o.left o.end o.list o.seat o.old o.new × AllRun z shards (session + 1) others
+AllRun z shards session (one ∷ others) =
+    HasRun z shards session one.input one.left one.end one.list one.seat one.text
+    × Grew one.end.failed one.text one.old one.new × AllRun z shards (session + 1) others
 
 -- the run of one session, with its input and what it has left
 pub record SessionRun : Type 0 where
