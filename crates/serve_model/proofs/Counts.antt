@@ -1,7 +1,7 @@
 -- What the seats of all sessions claimed, looked at and gave back, together.
 use Rattle.std.proofs.Common.{◌≡◌, ℕ, suc, ◌+◌, ◌-◌, ◌<◌, ◌≤◌, min, Bool, cond, List, [], ◌∷◌, Option}
-use Rattle.std.proofs.Common.{Some, None, is_none, fold, if◌then◌else◌, length, map, take, slice_get, refl, ap, sym, ◌∙◌}
-use Rattle.std.proofs.Common.{zip, arith}
+use Rattle.std.proofs.Common.{Some, None, is_none, fold, if◌then◌else◌, length, map, take, slice_get, zip}
+use Rattle.std.proofs.Common.{refl, ap, sym, ◌∙◌, arith}
 use Rattle.std.specs.List.{count_by}
 use Rattle.view_sums.specs.Total.{total, same, Each}
 use Rattle.view_sums.proofs.Sums.{total-append, total-map}

@@ -16,8 +16,8 @@ use Rattle.view_sums.proofs.Sums.{total-append, total-map}
 use Rattle.pin_core.specs.declared.class.Class.{Class}
 use Rattle.pinned_pool.specs.Classes.{just}
 use Rattle.frag_value.specs.Fragments.{class_for, fragments_in}
-use Rattle.flake_model.specs.Deed.{Deed, Places, places_at, AreStored, placed, places_after, kept_fragments, IsLegalFrom}
-use Rattle.flake_model.specs.Deed.{store_left, places_left, final_store, final_places, IsLegal}
+use Rattle.flake_model.specs.Deed.{Deed, Places, places_at, AreStored, placed, places_after, kept_fragments}
+use Rattle.flake_model.specs.Deed.{IsLegalFrom, store_left, places_left, final_store, final_places, IsLegal}
 use Rattle.flake_model.specs.Fragments.{fragments_of}
 use Rattle.flake_model.specs.Store.{Store, Change, keeps, puts, removes, changed, change_by, bytes_at, key_of, after}
 use Rattle.call_model.specs.Stock.{fragments_by}

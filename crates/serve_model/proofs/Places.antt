@@ -29,17 +29,20 @@ module _ {A : Type 0} where
   index_at f (y ∷ ys) zero x is = let same : y ≡ x = cc in ap f same
   index_at f (y ∷ ys) (suc k) x is = index_at f ys k x is
 
-  pub get_map : {B : Type 0} (f : A → B) (xs : List A) (k : ℕ) (x : A) → slice_get xs k ≡ Some x → slice_get (map f xs) k ≡ Some (f x)
+  pub get_map : {B : Type 0} (f : A → B) (xs : List A) (k : ℕ) (x : A) → slice_get xs k ≡ Some x
+      → slice_get (map f xs) k ≡ Some (f x)
   get_map f [] k x is = absurd (let no : ⊥ = cc in no)
   get_map f (y ∷ ys) zero x is = let same : y ≡ x = cc in ap (λ z. Some (f z)) same
   get_map f (y ∷ ys) (suc k) x is = get_map f ys k x is
 
-  pub get_map_none : {B : Type 0} (f : A → B) (xs : List A) (k : ℕ) → slice_get xs k ≡ None → slice_get (map f xs) k ≡ None
+  pub get_map_none : {B : Type 0} (f : A → B) (xs : List A) (k : ℕ) → slice_get xs k ≡ None
+      → slice_get (map f xs) k ≡ None
   get_map_none f [] k is = refl
   get_map_none f (y ∷ ys) zero is = absurd (let no : ⊥ = cc in no)
   get_map_none f (y ∷ ys) (suc k) is = get_map_none f ys k is
 
-pub index_in : {A B : Type 0} (g : B → ℕ) (f : A → B) (xs : List A) (k : ℕ) (x : A) → slice_get xs k ≡ Some x → slice_index (map g (map f xs)) k ≡ g (f x)
+pub index_in : {A B : Type 0} (g : B → ℕ) (f : A → B) (xs : List A) (k : ℕ) (x : A) → slice_get xs k ≡ Some x
+    → slice_index (map g (map f xs)) k ≡ g (f x)
 index_in g f xs k x is = index_at g (map f xs) k (f x) (get_map f xs k x is)
 
 pub in_range : (n len k m : ℕ) → slice_get (range_with_len n len) k ≡ Some m → m ≡ n + k

@@ -223,7 +223,8 @@ module _ (books : Sizes) (all : List SessionRun) (shards : List ShardList) (sess
   part_of session shard list is None past =
       let none_run = get_map_none (λ (r : SessionRun). r.run) all session past in
       let none_here : of_session session (entries_of list.told) ≡ [] =
-      none_of session books.sessions (entries_of list.told) (omega (arith, lists.as_many, past_end runs session none_run))
+      none_of session books.sessions (entries_of list.told)
+      (omega (arith, lists.as_many, past_end runs session none_run))
       (each_at (AreNamed books.sessions) shards shard list (all_named books shards sessions lists.closed) is) in
       let nothing : ran_by ran session ≡ [] = ran_past ran session (get_map_none session_in all session past) in
       subst (λ (y : List Step × List Entry). IsServed (in_shard books.shards shard y.0) y.1)
