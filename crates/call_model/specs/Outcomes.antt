@@ -1,0 +1,78 @@
+-- What became of a call's parts: their answers, the deeds that a session is told, and the reply.
+use Rattle.std.specs.Prelude.{ℕ, ◌+◌, List, [], ◌∷◌, Option, Some, None, is_none, if◌then◌else◌, map}
+use Rattle.std.specs.Option.{option_map}
+use Rattle.view_sums.specs.Total.{total}
+use Rattle.flake_base.specs.declared.journal.Entry.{Entry}
+use Rattle.flake_model.specs.Store.{Operation, Answer, key_of, IsWrite}
+use Rattle.flake_model.specs.Deed.{Deed, deed_at}
+use Rattle.flake_model.specs.Journal.{shard_of}
+
+-- What became of one part that was entered: its answer, where the value lies that it answered from, the place in it of
+-- the first byte that was answered, and where the value lies that it stored.
+pub record Done : Type 0 where
+  pub answer : Answer
+  pub found : List ℕ
+  pub first : ℕ
+  pub stored : List ℕ
+
+-- one outcome for each of a call's first parts; a part that found no buffer has none
+abbrev pub Outcomes : Type 0
+Outcomes = List (Option Done)
+
+-- what a session is told: deeds, each with the shard in which it stands
+abbrev pub Told : Type 0
+Told = List (ℕ × Deed)
+
+abbrev pub entry_at : ℕ → ℕ → ℕ → Entry
+entry_at session call part = record { session = session; call = call; part = part }
+
+abbrev pub deed_of : Entry → Operation → Done → Deed
+deed_of entry operation done = deed_at entry operation done.answer done.found done.first done.stored
+
+-- what a part adds to the session's list
+abbrev pub part_told : ℕ → Entry → Operation → Option Done → Told
+part_told shards entry operation None = []
+part_told shards entry operation (Some done) =
+    (shard_of shards (key_of operation), deed_of entry operation done) ∷ []
+
+-- only a write may find no buffer
+abbrev pub IsOutcome : Operation → Option Done → Type 0
+IsOutcome operation None = IsWrite operation
+IsOutcome operation (Some done) = Unit {0}
+
+-- there are no more outcomes than parts
+abbrev pub AreOutcomes : List Operation → Outcomes → Type 0
+AreOutcomes operations [] = Unit {0}
+AreOutcomes [] (outcome ∷ outcomes) = ⊥
+AreOutcomes (operation ∷ operations) (None ∷ outcomes) = IsWrite operation × AreOutcomes operations outcomes
+AreOutcomes (operation ∷ operations) (Some done ∷ outcomes) = AreOutcomes operations outcomes
+
+-- what a call's parts add, from a number on
+abbrev pub call_told : ℕ → ℕ → ℕ → ℕ → List Operation → Outcomes → Told
+call_told shards session call part operations [] = []
+call_told shards session call part [] (outcome ∷ outcomes) = []
+call_told shards session call part (operation ∷ operations) (None ∷ outcomes) =
+    call_told shards session call (part + 1) operations outcomes
+call_told shards session call part (operation ∷ operations) (Some done ∷ outcomes) =
+    (shard_of shards (key_of operation), deed_of (entry_at session call part) operation done)
+    ∷ call_told shards session call (part + 1) operations outcomes
+
+-- the deed of each part, from a number on; a part that found no buffer did none
+abbrev pub call_deeds : ℕ → ℕ → ℕ → List Operation → Outcomes → List (Option Deed)
+call_deeds session call part operations [] = []
+call_deeds session call part [] (outcome ∷ outcomes) = []
+call_deeds session call part (operation ∷ operations) (None ∷ outcomes) =
+    None ∷ call_deeds session call (part + 1) operations outcomes
+call_deeds session call part (operation ∷ operations) (Some done ∷ outcomes) =
+    Some (deed_of (entry_at session call part) operation done)
+    ∷ call_deeds session call (part + 1) operations outcomes
+
+abbrev pub answer_told : Option Done → Option Answer
+answer_told outcome = option_map (λ (done : Done). done.answer) outcome
+
+abbrev pub answers_told : Outcomes → List (Option Answer)
+answers_told outcomes = map answer_told outcomes
+
+-- how many parts found no buffer
+abbrev pub missed_in : Outcomes → ℕ
+missed_in outcomes = total (λ (outcome : Option Done). if is_none outcome then 1 else 0) outcomes

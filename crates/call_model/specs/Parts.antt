@@ -1,0 +1,94 @@
+-- What a part hands up: its answer, the pieces of the value that it answered, and the segments that it stored.
+use Rattle.std.specs.Prelude.{◌≡◌, ℕ, ◌+◌, ◌*◌, ◌<◌, ◌≤◌, List, [], ◌∷◌, ◌++◌, Option, Some, None, length}
+use Rattle.view_sums.specs.Total.{Each}
+use Rattle.flake_base.specs.declared.journal.Entry.{Entry}
+use Rattle.flake_base.specs.declared.segment.Seg.{Seg}
+use Rattle.flake_model.specs.Store.{Operation, Answer, value}
+use Rattle.flake_model.specs.Fragments.{fragment_limit}
+use Rattle.pin_core.specs.Buffers.{buffers}
+use Rattle.pin_core.specs.declared.class.Class.{Class}
+use Rattle.pin_core.specs.declared.sizes.Sizes.{Sizes}
+use Rattle.pinned_pool.specs.Addresses.{address_of}
+use Rattle.pinned_pool.specs.Classes.{class_at}
+use Rattle.pinned_pool.specs.Sought.{Sought}
+use Rattle.pinned_pool.specs.declared.pool.NoBuffer.{NoBuffer}
+use Rattle.pinned_pool.specs.declared.view.View.{View}
+use Rattle.frag_value.specs.Fragments.{class_for}
+use Rattle.frag_value.specs.Taken.{Piece}
+use Rattle.order_book.specs.Pages.{SessionList}
+use Rattle.shard_core.specs.Answers.{shown}
+use Rattle.shard_core.specs.Demand.{part_row}
+use Rattle.shard_core.specs.Paid.{HasNone}
+use Rattle.shard_core.specs.Pieces.{pieces_of, segs_at, size_stored}
+use Rattle.shard_core.specs.declared.answer.PartAnswer.{PartAnswer}
+use Rattle.shard_core.specs.declared.answer.PartAnswer.TheVariants as say
+use Rattle.call_model.specs.Calls.{IsPartRun}
+use Rattle.call_model.specs.Outcomes.{Done, Outcomes}
+
+-- what the taker has more: the bytes that were answered, at the addresses where they were found
+abbrev pub pieces_told : Operation → Option Done → List Piece
+pieces_told operation None = []
+pieces_told operation (Some done) = pieces_of operation done.answer done.found done.first
+
+-- the fragments of the value that was stored
+abbrev pub segs_told : Operation → Option Done → List Seg
+segs_told operation None = []
+segs_told operation (Some done) = segs_at done.stored (size_stored operation done.answer)
+
+-- the stored fragments of a call's parts, in order
+abbrev pub call_segs : List Operation → Outcomes → List Seg
+call_segs operations [] = []
+call_segs [] (outcome ∷ outcomes) = []
+call_segs (operation ∷ operations) (outcome ∷ outcomes) =
+    segs_told operation outcome ++ call_segs operations outcomes
+
+-- The answer that the caller gets: where no buffer was found, each of the class was found held.
+abbrev pub Says : Sizes → Operation → Option Done → PartAnswer → View → View → Type 0
+Says z operation None said seat after =
+    (none : NoBuffer) × (said ≡ say.NoBuffer none) × HasNone z operation none seat after
+Says z operation (Some done) said seat after = said ≡ shown done.answer
+
+-- all bytes that were answered lie in the fragments that were found
+abbrev pub Reach : Answer → ℕ → List ℕ → Type 0
+Reach (value bytes) first found = first + length bytes ≤ fragment_limit * length found
+Reach answer first found = Unit {0}
+
+abbrev pub Reaches : Option Done → Type 0
+Reaches None = Unit {0}
+Reaches (Some done) = Reach done.answer done.first done.found
+
+-- the segment is a whole fragment in a buffer of its class
+pub record IsInBuffer (z : Sizes) (seg : Seg) : Type 0 where
+  pub buffer : ℕ
+  pub near : buffer < buffers z
+  pub address_is : seg.address ≡ address_of z buffer
+  pub class_is : class_at z buffer ≡ class_for seg.len
+
+-- A part was run at an entry: its outcome is what the session's list, the answer, the taker and the stored segments
+-- show.
+pub record IsTold (z : Sizes) (shards : ℕ) (entry : Entry) (operation : Operation) (said : PartAnswer)
+    (old new : SessionList) (seat after : View) (segs_before segs : List Seg) (taken_before taken : List Piece)
+    : Type 0 where
+  pub outcome : Option Done
+  pub run : IsPartRun z shards entry operation outcome old.told new.told seat after
+  pub number : new.number ≡ old.number
+  pub looks : new.looks ≡ old.looks
+  pub says : Says z operation outcome said seat after
+  pub pieces : taken ≡ taken_before ++ pieces_told operation outcome
+  pub reaches : Reaches outcome
+  pub segs_are : segs ≡ segs_before ++ segs_told operation outcome
+  pub in_buffers : Each (IsInBuffer z) (segs_told operation outcome)
+
+-- Memory was wanting: nothing was entered, taken or stored. Buffers may have been claimed, and were given back.
+pub record IsUntold (z : Sizes) (operation : Operation) (old new : SessionList) (seat after : View)
+    (segs_before segs : List Seg) (taken_before taken : List Piece) : Type 0 where
+  pub list : new ≡ old
+  pub taken_is : taken ≡ taken_before
+  pub segs_are : segs ≡ segs_before
+  pub sought : Sought z (λ (class : Class). part_row class operation) 0 seat after
+
+-- what no part changes of the seat that pays for it
+pub record KeepsSeat (old new : View) : Type 0 where
+  pub holds : new.holds ≡ old.holds
+  pub credits : new.credits ≡ old.credits
+  pub returns : new.returns ≡ old.returns

@@ -1,0 +1,8 @@
+//! The store: shards of values, each behind a lock of its own, whose histories say what was answered.
+#![tactic(auto)]
+
+mod store;
+
+pub use shard_core::PartAnswer;
+pub use shard_part::{Part, PartOp, shard_of};
+pub use store::Store;
