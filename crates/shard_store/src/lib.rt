@@ -6,6 +6,8 @@ mod locks;
 mod parts;
 mod shard;
 mod store;
+#[cfg(test)]
+mod tests;
 
 pub use parts::Parts;
 pub use shard_core::PartAnswer;

@@ -19,8 +19,8 @@ pub(crate) struct Room<N: BookName> {
     ghost enough: { (N.sizes.shards ≤ journal.spare) × (N.sizes.shards ≤ books.spare) },
 }
 
-/// The histories of all shards in the order of their numbers, the seat that has all their holds, and the seats that know
-/// their deeds.
+/// The histories of all shards in the order of their numbers, the seat that has all their holds, and the seats that
+/// know their deeds.
 #[derive(Drop)]
 pub struct Parts<N: BookName, P: PoolName> {
     pub journal: Journal,
