@@ -2,10 +2,10 @@
 use Rattle.std.proofs.Common.{◌≡◌, ℕ, ◌+◌, ◌≤◌, List, sym, ap, ◌∙◌, arith}
 use Rattle.view_sums.specs.Total.{total}
 use Rattle.pin_core.specs.Holding.{Holding, loose_at}
-use Rattle.pinned_pool.specs.Moves.{taken_by, left_by}
+use Rattle.pinned_pool.specs.Moves.{left_by}
 use Rattle.pinned_pool.proofs.Keys.{total-left_by}
 use Rattle.reply_planner.specs.Owned.{AreOwn, bare_all, keys_for, fresh_all}
-use Rattle.reply_planner.proofs.Owned.{taken_own, bare-taken_by, bare-left_by}
+use Rattle.reply_planner.proofs.Owned.{taken_own, bare-taken_by}
 
 -- staging buffers' holds that go are as fresh, but for fronts
 pub own_gone : (weight : Holding → ℕ) (bs : List ℕ) (hs : List Holding)

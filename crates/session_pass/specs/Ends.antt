@@ -1,5 +1,4 @@
 -- What the end of a session gives.
-use Rattle.std.specs.Prelude.{ℕ}
 use Rattle.session_pass.specs.Views.{SessionView}
 use Rattle.session_pass.specs.Calls.{CallReaps}
 use Rattle.session_pass.specs.Finished.{IsDone}

@@ -1,5 +1,5 @@
 -- How a session ends.
-use Rattle.std.specs.Prelude.{◌≡◌, ℕ, ◌+◌, ◌<◌, ◌≤◌, List, [], ◌∷◌, ◌++◌, length}
+use Rattle.std.specs.Prelude.{◌≡◌, ℕ, ◌+◌, ◌≤◌}
 use Rattle.view_sums.specs.Total.{total}
 use Rattle.pin_core.specs.Holding.{Holding}
 use Rattle.pinned_pool.specs.declared.view.View.{View}
@@ -9,7 +9,6 @@ use Rattle.reply_planner.specs.Parcels.{Sent}
 use Rattle.tx_ring.specs.Shown.{closed_ring, closed_view}
 use Rattle.tx_ring.specs.declared.closed.ClosedDriver.{ClosedDriver}
 use Rattle.session_pass.specs.Views.{SessionView}
-use Rattle.session_pass.specs.Calls.{CallReaps}
 use Rattle.session_pass.specs.Kept.{paid_in}
 
 -- All replies were reaped, and the ring and the pass were closed.

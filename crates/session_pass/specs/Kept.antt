@@ -1,5 +1,5 @@
 -- What is true of every session.
-use Rattle.std.specs.Prelude.{◌≡◌, ℕ, ◌+◌, ◌<◌, ◌≤◌, ◌++◌, List, length, filter, if◌then◌else◌}
+use Rattle.std.specs.Prelude.{◌≡◌, ℕ, ◌+◌, ◌^◌, ◌<◌, ◌≤◌, ◌++◌, List, length, filter, if◌then◌else◌}
 use Rattle.view_sums.specs.Total.{total, Each}
 use Rattle.pin_core.specs.Holding.{Holding}
 use Rattle.reply_planner.specs.Owned.{bare_all, fresh_all}
@@ -53,6 +53,7 @@ pub record IsSession (s : SessionView) : Type 0 where
   pub once : (buffer : ℕ) → users buffer (waiting s 0) ≤ 1
   pub fits : descriptors_of (waiting s 0) < ring_size s.ring
   pub rich : least_credits ≤ s.opened.credits
+  pub count : length s.posted < 2 ^ 32
   pub credits : s.pass.seat.credits + credits_in (waiting s 0) ≡ s.opened.credits
   pub returns : s.opened.returns + paid_in s.reaped ≤ s.pass.seat.returns
   pub holds : (weight : Holding → ℕ) → total weight (bare_all s.pass.seat.holds) + staged_weight weight (waiting s 0)

@@ -5,3 +5,4 @@ pub mod Calls
 pub mod Refused
 pub mod Finished
 pub mod Ends
+pub mod Running

@@ -1,8 +1,9 @@
 -- Why a call posts nothing, and what making room for it does.
-use Rattle.std.specs.Prelude.{◌≡◌, ℕ, ◌<◌, List, ◌++◌, length}
+use Rattle.std.specs.Prelude.{◌≡◌, ℕ, ◌<◌, nat_lt, if◌then◌else◌, List, ◌++◌, length}
 use Rattle.pin_core.specs.declared.sizes.Sizes.{Sizes}
 use Rattle.flake_model.specs.Command.{Command}
 use Rattle.reply_layout.specs.Need.{need_of}
+use Rattle.reply_layout.specs.declared.need.Need.{Need}
 use Rattle.reply_planner.specs.Parcels.{Sent}
 use Rattle.session_pass.specs.Views.{SessionView}
 use Rattle.session_pass.specs.Waiting.{waiting, Fits}
@@ -13,6 +14,12 @@ abbrev pub WhyRefused : Sizes → ℕ → Command → SessionView → SessionVie
 WhyRefused z shards command old new (CallError.RingFull need room) = FindsRingFull command old new need room
 WhyRefused z shards command old new (CallError.StageFull need free) = FindsStageFull command old new need free
 WhyRefused z shards command old new CallError.Memory = CallRefused z shards command old new
+
+-- which of ring and stage has less than is needed
+abbrev pub full_of : Need → Need → CallError
+full_of need left =
+    if nat_lt left.descriptors need.descriptors then CallError.RingFull need.descriptors left.descriptors
+    else CallError.StageFull need.stage left.stage
 
 -- so many of the oldest replies were reaped
 pub record HasReaped (freed : ℕ) (old new : SessionView) : Type 0 where

@@ -1,4 +1,5 @@
 // The end of a session.
+ghost use Rattle.std.specs.Prelude.{◌≡◌, ◌+◌, length};
 ghost use Rattle.session_pass.specs.Ends.{Finishes};
 
 use crate::session::Session;
@@ -28,6 +29,43 @@ impl<N: BookName, P: PoolName + Send> Session<N, P> {
     pub fn finish(self, shop: &Shop<'_, N, P>) -> Finish<N, P>
         ensures { Finishes self result }
     {
-        Finish::NotYet(self)
+        let mut session = self;
+        'reaps: while session.pending() > 0 {
+            let Some(_) = session.reap_one(shop) else {
+                return Finish::NotYet(session);
+            };
+        }
+        session.close(shop)
+    }
+
+    // How many replies wait.
+    fn pending(&self) -> usize
+        ensures { length self.now.posted ≡ length self.now.reaped + result }
+    {
+        self.driver.pending()
+    }
+
+    // Closes ring and pass, where none waits.
+    fn close(self, shop: &Shop<'_, N, P>) -> Finish<N, P>
+        requires { length self.posted ≡ length self.reaped }
+        ensures { Finishes self result }
+    {
+        let Session {
+            alloc: _,
+            number: _,
+            pass,
+            opened: _,
+            driver,
+            calls: _,
+            stopped: _,
+        } = self;
+        pass.is_pass();
+        match driver.close() {
+            Ok(closed) => {
+                let (seat, mine) = pass.close(shop.pool);
+                Finish::Done { seat, mine, closed }
+            }
+            Err(_) => unreachable!(),
+        }
     }
 }

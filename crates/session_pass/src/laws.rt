@@ -9,7 +9,10 @@ use order_book::BookName;
 use pinned_pool::PoolName;
 
 /// The session reaped a prefix of what the device completed, and that is a prefix of what the session posted.
-pub fn both_ends<N: BookName, P: PoolName + Send>(session: &mut Session<N, P>, device: &mut Device<P>)
+pub fn both_ends<N: BookName, P: PoolName + Send>(
+    session: &mut Session<N, P>,
+    device: &mut Device<P>,
+)
     requires { device_ring device.old.end ≡ session.old.ring }
     ensures ring { device_ring device.new.end ≡ device_ring device.old.end }
     ensures order { IsPrefix session.old.reaped (completed device.old.end)

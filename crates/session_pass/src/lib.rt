@@ -8,6 +8,7 @@ mod gate;
 pub mod laws;
 mod reap;
 mod room;
+mod run;
 mod session;
 
 pub use call::Posted;

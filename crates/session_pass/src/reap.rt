@@ -22,6 +22,7 @@ impl<N: BookName, P: PoolName + Send> Session<N, P> {
         ensures one { IfSome result (λ reaped. ReapsOne self.old self.new reaped.call reaped.recycled) }
         ensures none { IfNone result (ReapsNone self.old self.new) }
     {
+        self.pass.is_pass();
         let Some(parcel) = self.driver.reap() else {
             return None;
         };

@@ -2,7 +2,7 @@
 ghost use Rattle.std.specs.Prelude.{◌≡◌, length, IfOk, IfErr};
 ghost use Rattle.reply_layout.specs.Need.{need};
 ghost use Rattle.session_pass.specs.Waiting.{waiting, room_left, free_of};
-ghost use Rattle.session_pass.specs.Refused.{MakesRoom, WhyRefused};
+ghost use Rattle.session_pass.specs.Refused.{MakesRoom, WhyRefused, full_of};
 
 use crate::error::CallError;
 use crate::session::Session;
@@ -37,20 +37,23 @@ impl<N: BookName, P: PoolName + Send> Session<N, P> {
         let need = command.need();
         let mut freed = 0;
         'reaps: loop {
+            self.is_session();
             let left = self.left();
             if need.descriptors <= left.descriptors && need.stage <= left.stage {
                 return Ok(freed);
             }
-            if self.reap_one(shop).is_none() {
+            let Some(_) = self.reap_one(shop) else {
                 return Err(full(need, left));
-            }
+            };
             freed += 1;
         }
     }
 }
 
 // Which of ring and stage has less than is needed.
-fn full(need: Need, left: Need) -> CallError {
+fn full(need: Need, left: Need) -> CallError
+    ensures { result ≡ full_of need left }
+{
     if left.descriptors < need.descriptors {
         CallError::RingFull {
             need: need.descriptors,
