@@ -10,3 +10,4 @@ pub mod Posting
 pub mod Ending
 pub mod Telling
 pub mod Calling
+pub mod GivenUp

@@ -6,3 +6,4 @@ pub mod Refused
 pub mod Finished
 pub mod Ends
 pub mod Running
+pub mod Ended

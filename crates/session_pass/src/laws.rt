@@ -1,6 +1,7 @@
 //! What is known of a session when its device is at hand too.
 ghost use Rattle.std.specs.Prelude.{◌≡◌, false, length};
 ghost use Rattle.tx_ring.specs.Changes.{IsPrefix};
+ghost use Rattle.session_pass.specs.Ended.{EndsAsItBegan, EndsWithNone};
 ghost use Rattle.tx_ring.specs.Shown.{device_ring, device_view, completed, ended};
 
 use crate::session::Session;
@@ -24,3 +25,13 @@ pub fn both_ends<N: BookName, P: PoolName + Send>(
 {
     device_model::laws::both_ends(&mut session.driver, device);
 }
+
+/// A seat whose stage was opened for a session, and which the session gave back, has the holds that it had before.
+pub fn holds_end_as_they_began()
+    ensures { EndsAsItBegan }
+{}
+
+/// It has none, where it had none.
+pub fn no_hold_is_left()
+    ensures { EndsWithNone }
+{}
