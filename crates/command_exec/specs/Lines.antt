@@ -26,6 +26,11 @@ line_for (say.Did happened) = copied (reply_text (int (if happened then 1 else 0
 line_for say.TooLong = error_line ValueTooLong
 line_for (say.NoBuffer none) = error_line NoBuffer
 
+-- an answer that makes a line
+abbrev pub HasLine : PartAnswer → Type 0
+HasLine say.Bulk = ⊥
+HasLine answer = Unit {0}
+
 -- an item of an array: any answer but bytes is null
 abbrev pub item_for : PartAnswer → List Piece
 item_for say.Bulk = []

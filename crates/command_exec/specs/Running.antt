@@ -1,10 +1,8 @@
 -- A call, part by part: what its first parts did, and how the plan has its reply in the end.
-use Rattle.std.specs.Prelude.{◌≡◌, ℕ, ◌<◌, ◌≤◌, List, [], ◌++◌, None, length}
+use Rattle.std.specs.Prelude.{◌≡◌, ℕ, ◌≤◌, List, [], ◌++◌, None, length}
 use Rattle.std.specs.List.{zip}
 use Rattle.view_sums.specs.Total.{total, Each}
-use Rattle.pin_core.specs.declared.class.Class.{Class}
 use Rattle.pin_core.specs.declared.sizes.Sizes.{Sizes}
-use Rattle.pinned_pool.specs.Sought.{Sought}
 use Rattle.flake_base.specs.declared.segment.Seg.{Seg}
 use Rattle.flake_model.specs.Store.{Operation}
 use Rattle.flake_model.specs.Command.{Command, parts}
@@ -12,9 +10,9 @@ use Rattle.reply_layout.specs.declared.need.Need.{Need}
 use Rattle.reply_layout.specs.Pieces.{pieces_of}
 use Rattle.reply_planner.specs.Laid.{pieces_in}
 use Rattle.reply_planner.specs.Planned.{Planned, paid_in}
-use Rattle.call_model.specs.Outcomes.{Outcomes, AreOutcomes, call_told, call_deeds, answers_told, missed_in}
-use Rattle.call_model.specs.Demand.{parts_row, long_in}
-use Rattle.call_model.specs.Calls.{AreRunning}
+use Rattle.call_model.specs.Outcomes.{Outcomes, call_deeds, answers_told}
+use Rattle.call_model.specs.Demand.{long_in}
+use Rattle.call_model.specs.Calls.{AreRunning, IsCutShort}
 use Rattle.call_model.specs.Parts.{call_segs, IsInBuffer, KeepsSeat}
 use Rattle.command_exec.specs.Alike.{Alike}
 use Rattle.command_exec.specs.Passes.{PassView}
@@ -38,12 +36,9 @@ pub record HasRun (z : Sizes) (shards call : ℕ) (operations : List Operation) 
   pub in_buffers : Each (IsInBuffer z) (call_segs operations outcomes)
 
 -- in one of its parts memory was wanting
-pub record HasStopped (z : Sizes) (shards call : ℕ) (operations : List Operation) (old new : PassView) : Type 0 where
+pub record HasStopped (z : Sizes) (shards call : ℕ) (command : Command) (old new : PassView) : Type 0 where
   pub outcomes : Outcomes
-  pub are : AreOutcomes operations outcomes
-  pub short : length outcomes < length operations
-  pub told : new.list.told ≡ old.list.told ++ call_told shards old.list.number call 0 operations outcomes
-  pub sought : Sought z (λ (class : Class). parts_row class operations) (missed_in outcomes) old.seat new.seat
+  pub cut : IsCutShort z shards old.list.number call command outcomes old.list.told new.list.told old.seat new.seat
   pub keeps : KeepsPass old new
 
 -- a plan for so much, to which nothing was given

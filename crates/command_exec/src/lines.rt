@@ -4,7 +4,7 @@ ghost use Rattle.flake_model.specs.Resp.{crlf};
 ghost use Rattle.frag_value.specs.Taken.{copied};
 ghost use Rattle.reply_planner.specs.Laid.{head_text};
 ghost use Rattle.reply_planner.specs.Planned.{planned, left_of, slots_of};
-ghost use Rattle.command_exec.specs.Lines.{number_line, error_line, line_for};
+ghost use Rattle.command_exec.specs.Lines.{number_line, error_line, line_for, HasLine};
 
 use flake_base::ErrorKind;
 use pinned_pool::PoolName;
@@ -42,7 +42,8 @@ pub(crate) fn copy_error<P: PoolName>(plan: &mut Plan<'_, P>, kind: ErrorKind)
 /// Copies a bulk string.
 pub(crate) fn copy_bulk<P: PoolName>(plan: &mut Plan<'_, P>, bytes: &[u8])
     requires none { plan.old.begun ≡ None }
-    requires fits { 24 + length (head_text (length bytes.now)) + length bytes.now + 2 ≤ left_of plan.old + 24 }
+    requires line { 24 ≤ left_of plan.old }
+    requires fits { length (head_text (length bytes.now)) + length bytes.now + 2 ≤ left_of plan.old }
     ensures plan { plan.new ≡ planned plan.old.base (plan.old.taken
         ++ copied (head_text (length bytes.now)) ∷ copied bytes.now ∷ copied crlf ∷ []) None }
 {
@@ -54,7 +55,7 @@ pub(crate) fn copy_bulk<P: PoolName>(plan: &mut Plan<'_, P>, bytes: &[u8])
 /// Copies the line that an answer makes. Bytes that were answered are in the plan already.
 pub(crate) fn copy_answer<P: PoolName>(plan: &mut Plan<'_, P>, answer: PartAnswer)
     requires none { plan.old.begun ≡ None }
-    requires fits { 64 ≤ left_of plan.old }
+    requires fits { HasLine answer → 64 ≤ left_of plan.old }
     ensures plan { plan.new ≡ planned plan.old.base (plan.old.taken ++ line_for answer) None }
 {
     match answer {

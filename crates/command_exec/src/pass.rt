@@ -1,6 +1,7 @@
 ghost use Rattle.std.specs.Prelude.{◌≡◌, ◌+◌, ◌<◌, ◌≤◌, length, IfOk, IfErr};
 ghost use Rattle.pin_core.specs.declared.class.Class.TheVariants.{Small};
 ghost use Rattle.pinned_pool.specs.Classes.{just};
+ghost use Rattle.pinned_pool.specs.Named.{IsSeat};
 ghost use Rattle.pinned_pool.specs.Sought.{Sought};
 ghost use Rattle.reply_planner.specs.Parcels.{TakesBack};
 ghost use Rattle.reply_planner.specs.Stages.{stage_size, merged, IsOpened, WhyUnopened, IsClosed};
@@ -77,9 +78,10 @@ impl<N: BookName, P: PoolName> Pass<N, P> {
 
     /// Does nothing, and tells a proof what is true of every pass.
     pub fn is_pass(&self)
-        ensures { IsPass P.sizes self.now }
+        ensures pass { IsPass P.sizes self.now }
+        ensures seat { IsSeat P.sizes self.now.seat }
     {
-        let _ = &self.seat;
+        self.seat.is_seat();
     }
 
     /// Takes a reply back, when it was sent. The answer is how many of its holds were the last of their buffers.
