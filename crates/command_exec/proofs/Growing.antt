@@ -14,9 +14,11 @@ use Rattle.call_model.specs.Calls.{IsPartRun}
 use Rattle.call_model.specs.Parts.{IsInBuffer, KeepsSeat, segs_told, call_segs}
 use Rattle.call_model.proofs.Growing.{more_segs}
 use Rattle.call_model.proofs.Running.{running_starts, part_step, cuts_behind}
+use Rattle.command_exec.specs.Kinds.{part_at}
 use Rattle.command_exec.specs.Passes.{PassView}
 use Rattle.command_exec.specs.Running.{KeepsPass, HasRun, HasStopped}
 use Rattle.command_exec.specs.Parted.{RunsPart, MissesPart, HasOutcome}
+use Rattle.command_exec.proofs.Asked.{part_there}
 
 pub keeps_same : (p : PassView) → KeepsPass p p
 keeps_same p = record {
@@ -89,3 +91,11 @@ run_missed z shards call command outcomes operation old mid new first second is 
       cut = record { are = cut.are; short = cut.short; told = missed.told ∙ cut.told; sought = cut.sought };
       keeps = keeps_then old mid new ran.keeps missed.keeps;
     }
+
+-- memory was wanting in the part of a number
+pub next_missed : (z : Sizes) (shards : ℕ) (command : Command) (j : ℕ) (outcomes : Outcomes) (at next : Entry) (old mid new : PassView) (first second : List Seg) → length outcomes ≡ j → j < length (parts command) → next ≡ entry_at at.session at.call j
+    → HasRun z shards at.call (parts command) outcomes old mid first second → MissesPart z (part_at command next.part) mid new → HasStopped z shards at.call command old new
+next_missed z shards command j outcomes at next old mid new first second count near is ran missed =
+    run_missed z shards at.call command outcomes (part_at command j) old mid new first second
+    (subst (λ k. slice_get (parts command) k ≡ Some (part_at command j)) (sym count) (part_there command j near)) ran
+    (subst (λ (e : Entry). MissesPart z (part_at command e.part) mid new) is missed)

@@ -37,12 +37,12 @@ use Rattle.command_exec.proofs.Growing.{run_none, run_more}
 use Rattle.command_exec.proofs.Started.{values_room}
 
 -- what an array has of its first outcomes
-abbrev values_pieces : ℕ → ℕ → Command → Outcomes → List Piece
+abbrev pub values_pieces : ℕ → ℕ → Command → Outcomes → List Piece
 values_pieces session call command outcomes =
     plain (array_head (length (parts command)))
     ∷ item_pieces (map item_of (answers_told outcomes)) (call_deeds session call 0 (parts command) outcomes)
 
-abbrev long_told : List Operation → Outcomes → ℕ
+abbrev pub long_told : List Operation → Outcomes → ℕ
 long_told operations outcomes = total (λ (x : Operation × Option Answer). long_in x.0 x.1) (zip operations (answers_told outcomes))
 
 -- so many values are in the plan
@@ -78,7 +78,7 @@ items-more (Some bytes ∷ items) (d ∷ deeds) item deed long =
     ap (λ (l : List Piece). bulk_pieces d bytes ++ l) (items-more items deeds item deed (omega (arith, long)))
     ∙ sym (append_assoc (bulk_pieces d bytes) (item_pieces items deeds) (item_pieces (item ∷ []) (deed ∷ [])))
 
-answers-more : (outcomes : Outcomes) (outcome : Option Done) → answers_told (outcomes ++ outcome ∷ []) ≡ answers_told outcomes ++ answer_told outcome ∷ []
+pub answers-more : (outcomes : Outcomes) (outcome : Option Done) → answers_told (outcomes ++ outcome ∷ []) ≡ answers_told outcomes ++ answer_told outcome ∷ []
 answers-more outcomes outcome = map-append answer_told outcomes (outcome ∷ [])
 
 -- an array with its head alone
@@ -147,7 +147,7 @@ same_answers : (deeds : List (Option Deed)) → map (λ found. option_map_or (λ
 same_answers [] = refl
 same_answers (deed ∷ deeds) = λ i. one_answer deed i ∷ same_answers deeds i
 
-answers_from : (session call : ℕ) (operations : List Operation) (outcomes : Outcomes) → AreOutcomes operations outcomes
+pub answers_from : (session call : ℕ) (operations : List Operation) (outcomes : Outcomes) → AreOutcomes operations outcomes
     → map (λ found. option_map_or (λ (d : Deed). Some d.answer) found None) (call_deeds session call 0 operations outcomes) ≡ answers_told outcomes
 answers_from session call operations outcomes are = same_answers (call_deeds session call 0 operations outcomes) ∙ deed_answers session call 0 operations outcomes are
 
