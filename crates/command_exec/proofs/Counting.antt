@@ -164,12 +164,12 @@ key_more z shards command j there n at old mid new first second third p q r near
 long_dels : (keys : List (List ℕ)) (outcomes : Outcomes) → long_told (map part.del keys) outcomes ≡ 0
 long_dels [] outcomes = refl
 long_dels (key ∷ keys) [] = refl
-long_dels (key ∷ keys) (outcome ∷ outcomes) = long_dels keys outcomes
+long_dels (key ∷ keys) (outcome ∷ outcomes) = omega (arith, long_dels keys outcomes)
 
 long_exists : (keys : List (List ℕ)) (outcomes : Outcomes) → long_told (map part.exists keys) outcomes ≡ 0
 long_exists [] outcomes = refl
 long_exists (key ∷ keys) [] = refl
-long_exists (key ∷ keys) (outcome ∷ outcomes) = long_exists keys outcomes
+long_exists (key ∷ keys) (outcome ∷ outcomes) = omega (arith, long_exists keys outcomes)
 
 record IsCount (command : Command) (deeds : List (Option Deed)) (outcomes : Outcomes) : Type 0 where
   pieces : pieces_of command deeds ≡ plain (number_line 58 (count_by is_yes (answers_told outcomes))) ∷ []

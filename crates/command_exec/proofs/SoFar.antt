@@ -56,7 +56,7 @@ pub record ValuesSoFar (z : Sizes) (shards call : ℕ) (command : Command) (j : 
   pub base : q.base ≡ p.base
   pub room : length (parts command) ≤ j + room_of q
 
-zip_none : (operations : List Operation) → long_told operations [] ≡ 0
+pub zip_none : (operations : List Operation) → long_told operations [] ≡ 0
 zip_none [] = refl
 zip_none (operation ∷ operations) = refl
 

@@ -60,6 +60,7 @@ pub(crate) fn answer<R: Wait, N: BookName, P: PoolName>(
 fn answer_at_once<P: PoolName>(plan: &mut Plan<'_, P>, command: &Command)
     requires kind { HasNoParts command.now }
     requires started { IsStarted (need_of command.now) plan.old }
+    ensures kind { HasNoParts command.now }
     ensures pieces { Alike plan.old.base.threshold (pieces_in plan.new.taken) (pieces_of command.now []) }
     ensures begun { plan.new.begun ≡ None }
     ensures base { plan.new.base ≡ plan.old.base }
