@@ -2,7 +2,7 @@
 use Rattle.std.proofs.Common.{◌≡◌, ℕ, suc, ◌+◌, ◌≤◌, List, [], ◌∷◌, ◌++◌, length, refl, ap, sym, ◌∙◌, arith, append_assoc, append-nil, length-append}
 use Rattle.std.proofs.lemmas.List.{map-append}
 use Rattle.std.proofs.lemmas.Grind.{flat_map-append}
-use Rattle.reply_layout.specs.Pieces.{Piece, plain, stored, piece_bytes}
+use Rattle.reply_layout.specs.Pieces.{Piece, plain, piece_bytes}
 use Rattle.reply_layout.specs.Layout.{Placing, copied, pinned, placing_of, placings_of, copied_of, pinned_of, runs, cut, segments_from, layout_of}
 use Rattle.reply_layout.specs.Gathered.{text_of}
 use Rattle.command_exec.specs.Alike.{Alike}

@@ -1,11 +1,8 @@
 -- Keys that are counted.
-use Rattle.std.proofs.Common.{◌≡◌, ℕ, suc, ◌+◌, ◌<◌, ◌≤◌, Bool, true, false, cond, List, [], ◌∷◌, ◌++◌, Option, None, Some, length, map, slice_get, count_by, refl, ap, sym, ◌∙◌, subst, arith, append-nil, length-append}
+use Rattle.std.proofs.Common.{◌≡◌, ℕ, ◌+◌, ◌<◌, ◌≤◌, Bool, true, false, cond, List, [], ◌∷◌, ◌++◌, Option, None, Some, length, map, slice_get, count_by, refl, ap, sym, ◌∙◌, subst, arith, append-nil, length-append}
 use Rattle.std.specs.Prelude.{is_some}
-use Rattle.std.specs.List.{zip}
 use Rattle.std.specs.Option.{option_map_or}
-use Rattle.std.proofs.lemmas.List.{length-map}
 use Rattle.std.proofs.lemmas.List.Sums.{sum_by_push}
-use Rattle.view_sums.specs.Total.{total}
 use Rattle.pin_core.specs.declared.sizes.Sizes.{Sizes}
 use Rattle.pinned_pool.specs.declared.view.View.{View}
 use Rattle.flake_base.specs.declared.journal.Entry.{Entry}
@@ -14,20 +11,18 @@ use Rattle.flake_model.specs.Store as part
 use Rattle.flake_model.specs.Store.{Operation, Answer, did, IsWrite}
 use Rattle.flake_model.specs.Deed.{Deed}
 use Rattle.flake_model.specs.Command.{Command, ping, ping_with, get, set, mget, del, exists, append, str_len, get_range, fault, parts}
-use Rattle.flake_model.specs.Reply.{is_yes, int, reply_text}
+use Rattle.flake_model.specs.Reply.{is_yes}
 use Rattle.frag_value.specs.Taken as taken
 use Rattle.shard_core.specs.Answers.{shown}
 use Rattle.shard_core.specs.Done.{is_taking, is_ranged}
 use Rattle.shard_core.specs.Pieces as answered
 use Rattle.shard_core.specs.declared.answer.PartAnswer.{PartAnswer}
 use Rattle.shard_core.specs.declared.answer.PartAnswer.TheVariants as say
-use Rattle.reply_layout.specs.Pieces.{Piece, plain, pieces_of}
+use Rattle.reply_layout.specs.Pieces.{plain, pieces_of}
 use Rattle.reply_planner.specs.Laid.{pieces_in}
-use Rattle.reply_planner.specs.Planned.{Planned, planned, paid_in}
+use Rattle.reply_planner.specs.Planned.{Planned, planned}
 use Rattle.call_model.specs.Outcomes.{Done, Outcomes, entry_at, IsOutcome, call_deeds, answer_told, answers_told}
-use Rattle.call_model.specs.Demand.{long_in}
 use Rattle.call_model.specs.Parts.{Says, Answered, pieces_told, segs_told}
-use Rattle.command_exec.specs.Alike.{Alike}
 use Rattle.command_exec.specs.Kinds.{Counts, part_at}
 use Rattle.command_exec.specs.Lines.{number_line}
 use Rattle.command_exec.specs.Passes.{PassView}
@@ -197,10 +192,10 @@ all_counted z shards call command j there old new first second p q r counts end 
     let is = count_is command counts deeds outcomes (answers_from old.list.number call operations outcomes so.ran.running.are) in
     let q_none : q.taken ≡ [] = ap (λ (s : Planned). s.taken) so.plan ∙ none in
     let line : pieces_in r.taken ≡ pieces_of command deeds =
-        ap (λ (s : Planned). pieces_in s.taken) now
-        ∙ ap (λ (l : List taken.Piece). pieces_in (l ++ taken.copied (number_line 58 there) ∷ [])) q_none
-        ∙ ap (λ n. plain (number_line 58 n) ∷ []) so.there_is
-        ∙ sym is.pieces in
+    ap (λ (s : Planned). pieces_in s.taken) now
+    ∙ ap (λ (l : List taken.Piece). pieces_in (l ++ taken.copied (number_line 58 there) ∷ [])) q_none
+    ∙ ap (λ n. plain (number_line 58 n) ∷ []) so.there_is
+    ∙ sym is.pieces in
     record {
       outcomes = outcomes;
       ran = so.ran;

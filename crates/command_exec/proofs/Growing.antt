@@ -9,9 +9,9 @@ use Rattle.flake_model.specs.Store.{Operation}
 use Rattle.flake_model.specs.Command.{Command, parts}
 use Rattle.shard_core.specs.declared.answer.PartAnswer.{PartAnswer}
 use Rattle.reply_planner.specs.Planned.{Planned}
-use Rattle.call_model.specs.Outcomes.{Done, Outcomes, Told, entry_at}
+use Rattle.call_model.specs.Outcomes.{Done, Outcomes, entry_at}
 use Rattle.call_model.specs.Calls.{IsPartRun}
-use Rattle.call_model.specs.Parts.{IsInBuffer, KeepsSeat, segs_told, call_segs}
+use Rattle.call_model.specs.Parts.{IsInBuffer, segs_told, call_segs}
 use Rattle.call_model.proofs.Growing.{more_segs}
 use Rattle.call_model.proofs.Running.{running_starts, part_step, cuts_behind}
 use Rattle.command_exec.specs.Kinds.{part_at}

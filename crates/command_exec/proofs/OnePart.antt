@@ -1,5 +1,5 @@
 -- A command with one part, whose answer is the reply.
-use Rattle.std.proofs.Common.{◌≡◌, ℕ, ◌+◌, ◌<◌, ◌≤◌, List, [], ◌∷◌, ◌++◌, Option, None, Some, length, slice_get, refl, ap, sym, ◌∙◌, subst, arith, append-nil}
+use Rattle.std.proofs.Common.{◌≡◌, ℕ, ◌≤◌, List, [], ◌∷◌, ◌++◌, Option, None, Some, length, slice_get, refl, ap, sym, ◌∙◌, subst, arith}
 use Rattle.std.specs.List.{zip}
 use Rattle.view_sums.specs.Total.{total}
 use Rattle.view_sums.proofs.Sums.{total-append}
@@ -12,12 +12,11 @@ use Rattle.flake_model.specs.Command.{Command, parts}
 use Rattle.flake_model.specs.Deed.{Deed}
 use Rattle.frag_value.specs.Taken as taken
 use Rattle.shard_core.specs.declared.answer.PartAnswer.{PartAnswer}
-use Rattle.shard_core.specs.declared.answer.PartAnswer.TheVariants as say
 use Rattle.reply_layout.specs.Need.{need_of}
 use Rattle.reply_layout.specs.Pieces.{pieces_of}
 use Rattle.reply_planner.specs.Laid.{pieces_in}
-use Rattle.reply_planner.specs.Planned.{Planned, planned, paid_by, paid_in, left_of}
-use Rattle.call_model.specs.Outcomes.{Done, Outcomes, entry_at, call_deeds, answer_told, answers_told}
+use Rattle.reply_planner.specs.Planned.{Planned, planned, paid_by, left_of}
+use Rattle.call_model.specs.Outcomes.{Done, entry_at, call_deeds, answer_told, answers_told}
 use Rattle.call_model.specs.Demand.{long_in}
 use Rattle.call_model.specs.Parts.{Says, pieces_told}
 use Rattle.call_model.specs.Steps.{deed_told}
@@ -26,7 +25,7 @@ use Rattle.command_exec.specs.Alike.{Alike}
 use Rattle.command_exec.specs.Kinds.{HasOnePart, part_at}
 use Rattle.command_exec.specs.Lines.{line_for, HasLine}
 use Rattle.command_exec.specs.Passes.{PassView}
-use Rattle.command_exec.specs.Running.{IsStarted, HasRun, HasReply, HasStopped}
+use Rattle.command_exec.specs.Running.{IsStarted, HasReply, HasStopped}
 use Rattle.command_exec.specs.Parted.{RunsPart, MissesPart}
 use Rattle.command_exec.proofs.Asked.{part_there, one_part}
 use Rattle.command_exec.proofs.Growing.{run_none, run_more, run_missed, outcome_of}
@@ -86,12 +85,14 @@ module _ (z : Sizes) (shards : ℕ) (command : Command) (at : Entry) (said : Par
         pieces = subst (λ n. Alike n (pieces_in q.taken) (pieces_of command (call_deeds old.list.number at.call 0 operations (outcome ∷ [])))) (sym base)
             (subst (λ (l : List taken.Piece). Alike t (pieces_in l) (pieces_of command (call_deeds old.list.number at.call 0 operations (outcome ∷ [])))) (sym taken_is)
             (subst (λ (l : List (Option Deed)). Alike t (pieces_in (pieces_told operation outcome ++ line_for said)) (pieces_of command l)) (sym deeds_are) alike));
-        paid = omega (arith,
-            one_paid operations there outcome,
-            part_paid t started.threshold operation outcome ran.told.reaches ran.told.answered,
-            ap (λ (l : List taken.Piece). total (paid_by t) l) taken_is,
-            total-append (paid_by t) (pieces_told operation outcome) (line_for said),
-            ap (λ n. total (paid_by n) q.taken) base);
+        paid = omega (
+          arith,
+          one_paid operations there outcome,
+          part_paid t started.threshold operation outcome ran.told.reaches ran.told.answered,
+          ap (λ (l : List taken.Piece). total (paid_by t) l) taken_is,
+          total-append (paid_by t) (pieces_told operation outcome) (line_for said),
+          ap (λ n. total (paid_by n) q.taken) base,
+        );
         begun = ap (λ (r : Planned). r.begun) now;
       } where
         one_paid : (operations : List Operation) → slice_get operations 0 ≡ Some (part_at command at.part) → (outcome : Option Done)

@@ -1,5 +1,5 @@
 -- One value of an array: a part that answered it, or null.
-use Rattle.std.proofs.Common.{◌≡◌, ℕ, ◌+◌, ◌<◌, ◌≤◌, List, [], ◌∷◌, ◌++◌, Option, None, Some, true, false, length, refl, ap, sym, ◌∙◌, subst, arith, append_assoc, append-nil, length-append}
+use Rattle.std.proofs.Common.{◌≡◌, ℕ, ◌+◌, ◌≤◌, List, [], ◌∷◌, ◌++◌, Option, None, Some, false, length, refl, ap, sym, ◌∙◌, subst, arith, append_assoc, append-nil, length-append}
 use Rattle.view_sums.specs.Total.{total}
 use Rattle.view_sums.proofs.Sums.{total-append}
 use Rattle.pin_core.specs.declared.sizes.Sizes.{Sizes}
@@ -15,9 +15,8 @@ use Rattle.shard_core.specs.declared.answer.PartAnswer.{PartAnswer}
 use Rattle.shard_core.specs.declared.answer.PartAnswer.TheVariants as say
 use Rattle.reply_layout.specs.Pieces.{Piece, item_pieces}
 use Rattle.reply_planner.specs.Laid.{pieces_in}
-use Rattle.reply_planner.specs.Planned.{Planned, planned, paid_by, paid_begun, paid_in, room_of}
+use Rattle.reply_planner.specs.Planned.{Planned, planned, paid_by, paid_begun, room_of}
 use Rattle.call_model.specs.Outcomes.{Done, answer_told}
-use Rattle.call_model.specs.Demand.{long_in}
 use Rattle.call_model.specs.Parts.{Says, Answered, pieces_told, segs_told}
 use Rattle.call_model.specs.Steps.{deed_told}
 use Rattle.command_exec.specs.Alike.{Alike}
@@ -77,22 +76,26 @@ module _ (z : Sizes) (shards : ℕ) (entry : Entry) (operation : Operation) (sai
         pieces = subst (λ (l : List Piece). Alike t l (pieces_in p.taken ++ items)) (sym pieces)
             (alike_then t (pieces_in p.taken) (pieces_in p.taken) (pieces_in more) items (alike_same t (pieces_in p.taken) (pieces_in p.taken) refl)
             (item_alike t z entry operation outcome said old.seat new.seat ran.told.says ran.told.reaches));
-        paid = omega (arith,
-            part_paid t few operation outcome ran.told.reaches ran.told.answered,
-            ap (λ (l : List taken.Piece). total (paid_by t) l) taken_is,
-            total-append (paid_by t) p.taken more,
-            total-append (paid_by t) (pieces_told operation outcome) (item_for said),
-            item_free t said,
-            ap (λ n. total (paid_by n) q.taken) base,
-            ap (paid_begun t) none,
-            ap (paid_begun q.base.threshold) (ap (λ (r : Planned). r.begun) now));
+        paid = omega (
+          arith,
+          part_paid t few operation outcome ran.told.reaches ran.told.answered,
+          ap (λ (l : List taken.Piece). total (paid_by t) l) taken_is,
+          total-append (paid_by t) p.taken more,
+          total-append (paid_by t) (pieces_told operation outcome) (item_for said),
+          item_free t said,
+          ap (λ n. total (paid_by n) q.taken) base,
+          ap (paid_begun t) none,
+          ap (paid_begun q.base.threshold) (ap (λ (r : Planned). r.begun) now),
+        );
         begun = ap (λ (r : Planned). r.begun) now;
-        room = omega (arith,
-            ran.room plain,
-            room,
-            one_piece z operation outcome said old.seat new.seat ran.told.says,
-            ap (λ (l : List taken.Piece). length l) ran.told.pieces,
-            length-append p.taken (pieces_told operation outcome));
+        room = omega (
+          arith,
+          ran.room plain,
+          room,
+          one_piece z operation outcome said old.seat new.seat ran.told.says,
+          ap (λ (l : List taken.Piece). length l) ran.told.pieces,
+          length-append p.taken (pieces_told operation outcome),
+        );
       }
 
   -- a value that was answered is in the plan already
@@ -106,7 +109,7 @@ module _ (z : Sizes) (shards : ℕ) (entry : Entry) (operation : Operation) (sai
   pub segs_stay : (key : List ℕ) → operation ≡ part.get key → length segs ≡ length segs_before
   segs_stay key is =
       let none : segs_told operation ran.told.outcome ≡ [] =
-          ap (λ o. segs_told o ran.told.outcome) is ∙ got_nothing key ran.told.outcome (subst (λ o. Answered o ran.told.outcome) is ran.told.answered) in
+      ap (λ o. segs_told o ran.told.outcome) is ∙ got_nothing key ran.told.outcome (subst (λ o. Answered o ran.told.outcome) is ran.told.answered) in
       omega (arith, ap (λ (l : List Seg). length l) ran.told.segs_are, ap (λ (l : List Seg). length l) none, length-append segs_before (segs_told operation ran.told.outcome))
 
 -- and any other answer is null

@@ -1,9 +1,6 @@
 -- Staging buffers that are lent and come back.
-use Rattle.std.proofs.Common.{◌≡◌, ℕ, zero, suc, ◌+◌, ◌≤◌, List, [], ◌∷◌, ◌++◌, length, take, drop, map, refl, ap, sym, ◌∙◌, subst, arith}
+use Rattle.std.proofs.Common.{◌≡◌, ℕ, zero, suc, ◌+◌, ◌≤◌, List, [], ◌∷◌, ◌++◌, take, drop, map, refl, ap, sym, ◌∙◌, subst, arith}
 use Rattle.view_sums.specs.Total.{total}
-use Rattle.pin_core.specs.Holding.{Holding}
-use Rattle.pinned_pool.specs.Views.{among}
-use Rattle.reply_planner.specs.Owned.{AreOwn}
 use Rattle.reply_planner.specs.Stages.{IsFrom, IsOrdered, inserted, merged}
 use Rattle.reply_planner.proofs.Merged.{inserted-here}
 

@@ -1,5 +1,5 @@
 -- One part of a call, by what the store says of it.
-use Rattle.std.proofs.Common.{◌≡◌, ℕ, ◌+◌, ◌≤◌, List, None, false, length, refl, ap, subst}
+use Rattle.std.proofs.Common.{◌≡◌, ℕ, ◌+◌, ◌≤◌, List, None, false, length, refl, ap}
 use Rattle.std.specs.Prelude.{Result, Ok, Err, IfOk, OnErr}
 use Rattle.pin_core.specs.declared.sizes.Sizes.{Sizes}
 use Rattle.pinned_pool.specs.declared.view.View.{View}
@@ -11,7 +11,7 @@ use Rattle.shard_core.specs.Done.{is_ranged}
 use Rattle.shard_core.specs.declared.answer.PartAnswer.{PartAnswer}
 use Rattle.reply_planner.specs.Planned.{Planned, planned, room_of}
 use Rattle.call_model.specs.Parts.{IsTold, IsUntold, KeepsSeat}
-use Rattle.command_exec.specs.Passes.{PassView, pass_of}
+use Rattle.command_exec.specs.Passes.{pass_of}
 use Rattle.command_exec.specs.Running.{KeepsPass}
 use Rattle.command_exec.specs.Parted.{RunsPart, MissesPart}
 

@@ -1,5 +1,5 @@
 -- What a plan has of one part: the pieces of its reply, or of an item of an array.
-use Rattle.std.proofs.Common.{◌≡◌, ℕ, ◌+◌, ◌<◌, ◌≤◌, Bool, false, List, [], ◌∷◌, ◌++◌, Option, Some, None, length, refl, ap, sym, ◌∙◌, subst, arith, append_assoc, append-nil}
+use Rattle.std.proofs.Common.{◌≡◌, ℕ, ◌≤◌, false, List, [], ◌∷◌, ◌++◌, Option, Some, None, refl, ap, sym, ◌∙◌, subst, arith, append_assoc, append-nil}
 use Rattle.std.specs.Option.{option_map_or}
 use Rattle.view_sums.specs.Total.{total}
 use Rattle.pin_core.specs.declared.sizes.Sizes.{Sizes}
@@ -7,13 +7,12 @@ use Rattle.pinned_pool.specs.declared.view.View.{View}
 use Rattle.flake_base.specs.declared.journal.Entry.{Entry}
 use Rattle.flake_base.specs.declared.reply.ErrorKind.{ErrorKind}
 use Rattle.flake_base.specs.declared.reply.ErrorKind.TheVariants.{ValueTooLong, NoBuffer}
-use Rattle.flake_base.specs.declared.segment.Seg.{Seg}
 use Rattle.flake_model.specs.Resp.{crlf}
 use Rattle.flake_model.specs.Store as part
 use Rattle.flake_model.specs.Store.{Operation, Answer, value, missing, done, length_is, did, too_long}
 use Rattle.flake_model.specs.Deed.{Deed}
 use Rattle.flake_model.specs.Command.{Command, ping, ping_with, get, set, mget, del, exists, append, str_len, get_range, fault}
-use Rattle.flake_model.specs.Reply.{Reply, error, reply_to, reply_text, error_text, null_text, item_of}
+use Rattle.flake_model.specs.Reply.{error, reply_to, reply_text, error_text, null_text, item_of}
 use Rattle.frag_value.specs.Taken.{copied, whole, entire}
 use Rattle.frag_value.specs.Taken as taken
 use Rattle.shard_core.specs.Answers.{shown}

@@ -1,11 +1,9 @@
 -- The parts of an array, or of a count, as far as they were run.
-use Rattle.std.proofs.Common.{◌≡◌, ℕ, suc, ◌+◌, ◌<◌, ◌≤◌, List, [], ◌∷◌, ◌++◌, Option, None, Some, length, map, slice_get, count_by, refl, ap, sym, ◌∙◌, subst, arith, append_assoc, append-nil, length-append}
+use Rattle.std.proofs.Common.{◌≡◌, ℕ, ◌+◌, ◌<◌, ◌≤◌, List, [], ◌∷◌, ◌++◌, Option, None, Some, length, map, slice_get, refl, ap, sym, ◌∙◌, subst, arith, append_assoc, length-append}
 use Rattle.std.specs.List.{zip}
 use Rattle.std.specs.Option.{option_map, option_map_or}
 use Rattle.std.proofs.lemmas.List.{map-append, length-map}
-use Rattle.std.proofs.lemmas.List.Sums.{sum_by_push}
 use Rattle.view_sums.specs.Total.{total}
-use Rattle.view_sums.proofs.Sums.{total-append}
 use Rattle.pin_core.specs.declared.sizes.Sizes.{Sizes}
 use Rattle.flake_base.specs.declared.journal.Entry.{Entry}
 use Rattle.flake_base.specs.declared.segment.Seg.{Seg}
@@ -14,23 +12,23 @@ use Rattle.flake_model.specs.Store as part
 use Rattle.flake_model.specs.Store.{Operation, Answer}
 use Rattle.flake_model.specs.Deed.{Deed}
 use Rattle.flake_model.specs.Command.{Command, ping, ping_with, get, set, mget, del, exists, append, str_len, get_range, fault, parts}
-use Rattle.flake_model.specs.Reply.{item_of, is_yes, int, reply_text, null_text}
+use Rattle.flake_model.specs.Reply.{item_of, null_text}
 use Rattle.frag_value.specs.Taken as taken
 use Rattle.reply_layout.specs.Need.{need_of, values_need}
-use Rattle.reply_layout.specs.Pieces.{Piece, plain, first_deed, bulk_pieces, item_pieces, reply_from, pieces_of}
+use Rattle.reply_layout.specs.Pieces.{Piece, plain, bulk_pieces, item_pieces, pieces_of}
 use Rattle.reply_planner.specs.Laid.{pieces_in}
-use Rattle.reply_planner.specs.Planned.{Planned, planned, paid_by, paid_begun, paid_in, left_of, slots_of, room_of}
+use Rattle.reply_planner.specs.Planned.{Planned, planned, paid_in, left_of, slots_of, room_of}
 use Rattle.call_model.specs.Outcomes.{Done, Outcomes, entry_at, AreOutcomes, call_deeds, answer_told, answers_told}
 use Rattle.call_model.specs.Demand.{long_in}
 use Rattle.call_model.specs.Steps.{deed_told}
 use Rattle.call_model.proofs.Growing.{more_deeds}
 use Rattle.call_model.proofs.Deeds.{as_many, deed_answers}
 use Rattle.command_exec.specs.Alike.{Alike}
-use Rattle.command_exec.specs.Kinds.{AsksValues, Counts, part_at}
+use Rattle.command_exec.specs.Kinds.{AsksValues, part_at}
 use Rattle.command_exec.specs.Lines.{number_line}
 use Rattle.command_exec.specs.Passes.{PassView}
 use Rattle.command_exec.specs.Running.{IsStarted, HasRun, HasReply}
-use Rattle.command_exec.specs.Parted.{HasOutcome, AddsValue, CountsKey}
+use Rattle.command_exec.specs.Parted.{AddsValue}
 use Rattle.command_exec.proofs.AlikePieces.{alike_same, alike_trans, alike_then}
 use Rattle.command_exec.proofs.Asked.{part_there}
 use Rattle.command_exec.proofs.Growing.{run_none, run_more}
@@ -116,13 +114,13 @@ value_more z shards command j at old mid new first second third p q r near part 
     let deed = deed_told at operation outcome in
     let are = so.ran.running.are in
     let long : length items ≡ length deeds =
-        length-map (answers_told outcomes) item_of ∙ length-map outcomes answer_told ∙ sym (as_many old.list.number at.call 0 operations outcomes are) in
+    length-map (answers_told outcomes) item_of ∙ length-map outcomes answer_told ∙ sym (as_many old.list.number at.call 0 operations outcomes are) in
     let now_items : map item_of (answers_told (outcomes ++ outcome ∷ [])) ≡ items ++ item ∷ [] = ap (map item_of) (answers-more outcomes outcome) ∙ map-append item_of (answers_told outcomes) (answer_told outcome ∷ []) in
     let now_deeds : call_deeds old.list.number at.call 0 operations (outcomes ++ outcome ∷ []) ≡ deeds ++ deed ∷ [] =
-        more_deeds old.list.number at.call 0 operations outcomes operation outcome there ∙ ap (λ (e : Entry). deeds ++ deed_told e operation outcome ∷ []) zero_more in
+    more_deeds old.list.number at.call 0 operations outcomes operation outcome there ∙ ap (λ (e : Entry). deeds ++ deed_told e operation outcome ∷ []) zero_more in
     let head : List Piece = plain (array_head (length operations)) ∷ [] in
     let now : values_pieces old.list.number at.call command (outcomes ++ outcome ∷ []) ≡ values_pieces old.list.number at.call command outcomes ++ item_pieces (item ∷ []) (deed ∷ []) =
-        (λ i. head ++ item_pieces (now_items i) (now_deeds i)) ∙ ap (λ (l : List Piece). head ++ l) (items-more items deeds item deed long) in
+    (λ i. head ++ item_pieces (now_items i) (now_deeds i)) ∙ ap (λ (l : List Piece). head ++ l) (items-more items deeds item deed long) in
     let last = item_pieces (item ∷ []) (deed ∷ []) in
     let at_t : Alike t (pieces_in r.taken) (pieces_in q.taken ++ last) = subst (λ n. Alike n (pieces_in r.taken) (pieces_in q.taken ++ last)) (ap (λ b. b.threshold) so.base) adds.pieces in
     record {

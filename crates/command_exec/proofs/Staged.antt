@@ -1,10 +1,10 @@
 -- A layout over the first staging buffers is that over all of them, where they are enough.
-use Rattle.std.proofs.Common.{◌≡◌, ℕ, zero, suc, ◌+◌, ◌-◌, ◌*◌, ◌/◌, ◌%◌, ◌<◌, ◌≤◌, min, List, [], ◌∷◌, ◌++◌, length, take, map, get_or, refl, ap, sym, ◌∙◌, arith, append-nil, length-append}
+use Rattle.std.proofs.Common.{◌≡◌, ℕ, zero, suc, ◌+◌, ◌-◌, ◌*◌, ◌/◌, ◌%◌, ◌<◌, ◌≤◌, min, List, [], ◌∷◌, ◌++◌, length, take, get_or, refl, ap, arith, length-append}
 use Rattle.flake_base.specs.declared.segment.Seg.{Seg}
 use Rattle.flake_model.specs.Command.{Command}
 use Rattle.flake_model.specs.Deed.{Deed}
 use Rattle.flake_model.specs.Reply.{Reply, ok, pong, error, int, bulk, null, array}
-use Rattle.std.specs.Prelude.{nat_le, Option, Bool, true, false, cond}
+use Rattle.std.specs.Prelude.{nat_le, Option, Bool, true, false}
 use Rattle.reply_layout.specs.Pieces.{Piece, plain, stored, reply_pieces, reply_from, pieces_of}
 use Rattle.reply_layout.specs.Layout.{Placing, copied, pinned, placing_of, placings_of, copied_of, runs, cut, segment, segments_from, layout_of, copied_address, staging_limit, buffers_for}
 use Rattle.reply_layout.specs.Gathered.{copied_from, copied_text}
@@ -53,8 +53,13 @@ pub copied_length : (t : ℕ) (pieces : List Piece) → length (copied_text t pi
 copied_length t [] = refl
 copied_length t (plain bytes ∷ pieces) = omega (arith, length-append bytes (copied_text t pieces), copied_length t pieces)
 copied_length t (stored address bytes ∷ pieces) =
-    omega (arith, length-append (copied_from t (stored address bytes)) (copied_text t pieces), copied_length t pieces,
-    one_copied t address bytes (nat_le t (length bytes)) refl, copied-cons (placing_of t (stored address bytes)) (placings_of t pieces))
+    omega (
+      arith,
+      length-append (copied_from t (stored address bytes)) (copied_text t pieces),
+      copied_length t pieces,
+      one_copied t address bytes (nat_le t (length bytes)) refl,
+      copied-cons (placing_of t (stored address bytes)) (placings_of t pieces),
+    )
 
 -- a reply copies at least one byte
 reply_some : (t : ℕ) (reply : Reply) (deeds : List (Option Deed)) → 0 < copied_of (placings_of t (reply_pieces reply deeds))

@@ -1,19 +1,16 @@
 -- What a plan has room for, to which nothing was given yet.
-use Rattle.std.proofs.Common.{◌≡◌, ℕ, ◌+◌, ◌-◌, ◌*◌, ◌/◌, ◌<◌, ◌≤◌, min, Bool, true, false, List, [], ◌∷◌, ◌++◌, length, Option, None, refl, ap, arith, length-append}
-use Rattle.frag_value.specs.Taken.{Begun}
-use Rattle.frag_value.specs.Taken as taken
+use Rattle.std.proofs.Common.{◌≡◌, ℕ, ◌+◌, ◌-◌, ◌*◌, ◌<◌, ◌≤◌, true, false, List, length, ap, arith, length-append}
 use Rattle.flake_model.specs.Command.{Command, get, set, append, str_len, get_range, mget, del, exists, ping, ping_with, fault}
-use Rattle.flake_model.specs.Resp.{array_head, crlf}
 use Rattle.flake_model.specs.Reply.{bulk, reply_text}
 use Rattle.reply_layout.specs.declared.need.Need.{Need}
 use Rattle.reply_layout.specs.Need.{need_of, values_need}
 use Rattle.reply_planner.specs.Laid.{head_text, pieces_so_far}
-use Rattle.reply_planner.specs.Planned.{Planned, planned, one_value, one_begun, bytes_aside, pins_aside, values_in, copied_in, pinned_in, left_of, slots_of, room_of, range_room_of}
+use Rattle.reply_planner.specs.Planned.{Planned, one_value, one_begun, bytes_aside, pins_aside, values_in, copied_in, pinned_in, left_of, slots_of, room_of, range_room_of}
 use Rattle.reply_layout.specs.Gathered.{copied_text}
 use Rattle.reply_layout.specs.Layout.{placings_of, pinned_of}
 use Rattle.view_sums.specs.Total.{total}
 use Rattle.shard_core.specs.Done.{is_taking, is_ranged}
-use Rattle.command_exec.specs.Kinds.{HasOnePart, Counts, part_at}
+use Rattle.command_exec.specs.Kinds.{HasOnePart, part_at}
 use Rattle.command_exec.specs.Running.{IsStarted}
 
 pub left_started : (need : Need) (p : Planned) → IsStarted need p → left_of p ≡ 512 * need.stage

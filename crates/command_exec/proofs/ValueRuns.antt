@@ -1,16 +1,16 @@
 -- The runs of a value that was taken are the pieces of its bytes.
-use Rattle.std.proofs.Common.{◌≡◌, ℕ, zero, suc, ◌+◌, ◌-◌, ◌*◌, ◌/◌, ◌%◌, ◌<◌, ◌≤◌, Bool, true, false, cond, List, [], ◌∷◌, ◌++◌, length, map, take, drop, Some, refl, ap, arith, rules, length-drop}
+use Rattle.std.proofs.Common.{◌≡◌, ℕ, zero, suc, ◌+◌, ◌-◌, ◌*◌, ◌/◌, ◌%◌, ◌<◌, ◌≤◌, Bool, true, false, cond, List, [], ◌∷◌, ◌++◌, length, map, take, drop, Some, refl, arith, rules, length-drop}
 use Rattle.std.specs.Prelude.{nat_le}
 use Rattle.std.proofs.lemmas.Bool.{le-leb}
 use Rattle.view_sums.specs.Total.{total}
 use Rattle.flake_model.specs.Resp.{crlf}
 use Rattle.flake_model.specs.Deed.{Deed}
-use Rattle.flake_model.specs.Fragments.{fragment_limit, cuts, fragments_of}
-use Rattle.frag_value.specs.Taken.{Placed, Extent, Begun, whole}
+use Rattle.flake_model.specs.Fragments.{fragment_limit, cuts}
+use Rattle.frag_value.specs.Taken.{Extent, whole}
 use Rattle.shard_core.specs.Pieces.{runs_over, runs_at}
 use Rattle.reply_layout.specs.Pieces.{Piece, plain, stored, pieces_over, value_pieces, bulk_pieces}
 use Rattle.reply_planner.specs.Laid.{stored_run, head_text, pieces_in}
-use Rattle.reply_planner.specs.Planned.{long_of, paid_of}
+use Rattle.reply_planner.specs.Planned.{paid_of}
 use Rattle.call_model.specs.Demand.{long_fragments}
 use Rattle.command_exec.specs.Alike.{Alike}
 use Rattle.command_exec.proofs.AlikePieces.{alike_same, alike_then, alike_empty}
@@ -63,8 +63,11 @@ long_paid t few (suc n) (address ∷ found) (byte ∷ bytes) reach =
     let rest = drop fragment_limit (byte ∷ bytes) in
     let size = length (take fragment_limit (byte ∷ bytes)) in
     let all : length (byte ∷ bytes) ≤ fragment_limit * length (address ∷ found) = reach (omega arith) in
-    omega (arith, one_if_long t size (nat_le 512 size) (nat_le t size) few refl refl,
-    long_paid t few n found rest (λ some. omega (arith, all, length-drop fragment_limit (byte ∷ bytes))))
+    omega (
+      arith,
+      one_if_long t size (nat_le 512 size) (nat_le t size) few refl refl,
+      long_paid t few n found rest (λ some. omega (arith, all, length-drop fragment_limit (byte ∷ bytes))),
+    )
 
 pub fragments_paid : (t : ℕ) → t ≤ 512 → (found bytes : List ℕ) → (0 < length bytes → length bytes ≤ fragment_limit * length found) → long_fragments bytes ≤ total (paid_of t) (runs_at false found 0 bytes)
 fragments_paid t few found bytes reach = long_paid t few (length bytes) found bytes reach

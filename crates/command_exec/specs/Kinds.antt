@@ -1,5 +1,5 @@
 -- Commands by how they are answered.
-use Rattle.std.specs.Prelude.{ℕ, List, [], slice_index_or}
+use Rattle.std.specs.Prelude.{ℕ, [], slice_index_or}
 use Rattle.flake_model.specs.Store as part
 use Rattle.flake_model.specs.Store.{Operation}
 use Rattle.flake_model.specs.Command.{Command, ping, ping_with, get, set, mget, del, exists, append, str_len, get_range}

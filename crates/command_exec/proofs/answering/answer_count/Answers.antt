@@ -1,4 +1,4 @@
-use Rattle.std.proofs.Common.{◌≡◌, ◌≤◌, ◌+◌, [], ◌∷◌, ◌++◌, None, length, refl, ap, subst, ◌∙◌, arith}
+use Rattle.std.proofs.Common.{refl, subst, arith}
 use Rattle.flake_base.specs.declared.journal.Entry.{Entry}
 use Rattle.call_model.specs.Outcomes.{entry_at}
 use Rattle.command_exec.specs.Kinds.{part_at}
@@ -32,7 +32,7 @@ loop-j-preserved g c =
     let n = c.in_ok-there.field-0 in
     let at : Entry = entry_at c.args.at.session c.args.at.call j in
     let counts : CountsKey z shards at (part_at command j) n c.loop-j.pass c.count_key.new.pass c.loop-j.stored.items c.count_key.new.stored.items q r =
-        subst (λ (e : Entry). CountsKey z shards e (part_at command e.part) n c.loop-j.pass c.count_key.new.pass c.loop-j.stored.items c.count_key.new.stored.items q r) c.entry_of-next.ensures c.in_ok-there.ensures.counted in
+    subst (λ (e : Entry). CountsKey z shards e (part_at command e.part) n c.loop-j.pass c.count_key.new.pass c.loop-j.stored.items c.count_key.new.stored.items q r) c.entry_of-next.ensures c.in_ok-there.ensures.counted in
     record {
       so_far = key_more z shards command j c.loop-j.there n at c.args.pass.now c.loop-j.pass c.count_key.new.pass c.args.stored.now.items c.loop-j.stored.items c.count_key.new.stored.items c.args.plan.now q r
           (omega (arith, c.loop-j-test.true, c.count-j-end.ensures.parts)) refl c.requires.session c.loop-j.invariant.so_far counts;

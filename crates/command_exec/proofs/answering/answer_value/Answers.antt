@@ -1,10 +1,9 @@
-use Rattle.std.proofs.Common.{◌≡◌, ◌∷◌, ◌++◌, [], List, None, false, length, sym, ap, ◌∙◌, arith}
+use Rattle.std.proofs.Common.{◌≡◌, ◌++◌, [], List, None, false, length, sym, ap, ◌∙◌, arith}
 use Rattle.shard_core.specs.Done.{is_ranged}
 use Rattle.frag_value.specs.Taken as taken
 use Rattle.reply_planner.specs.Planned.{planned}
 use Rattle.std.proofs.Common.{get_or}
 use Rattle.command_exec.specs.Kinds.{part_at}
-use Rattle.command_exec.specs.Lines.{item_for}
 use Rattle.command_exec.proofs.Asked.{keys_of, value_part}
 use Rattle.command_exec.proofs.OneValue.{adds_value, bulk_plan, segs_stay, null_item}
 use Rattle.command_exec.proofs.answering.answer_value.Goals as goal
@@ -30,7 +29,7 @@ pub returns-in-Bulk-clause-spare : goal.returns-in-Bulk-clause-spare
 returns-in-Bulk-clause-spare g c =
     let operation = part_at c.args.command.now c.args.at.part in
     let stay = segs_stay g.P.PoolName.sizes g.N.BookName.sizes.shards c.args.at operation c.in_ok-run_part.field-0 c.args.pass.now c.run_part.new.pass c.args.stored.now.items c.run_part.new.stored.items c.args.plan.now c.run_part.new.plan
-        c.in_ok-run_part.ensures.ran (get_or (keys_of c.args.command.now) c.args.at.part []) (value_part c.args.command.now c.requires.kind c.args.at.part) in
+    c.in_ok-run_part.ensures.ran (get_or (keys_of c.args.command.now) c.args.at.part []) (value_part c.args.command.now c.requires.kind c.args.at.part) in
     omega (arith, stay, c.in_ok-run_part.ensures.spare)
 
 pub returns-in_default-clause-value : goal.returns-in_default-clause-value
@@ -49,5 +48,5 @@ pub returns-in_default-clause-spare : goal.returns-in_default-clause-spare
 returns-in_default-clause-spare g c =
     let operation = part_at c.args.command.now c.args.at.part in
     let stay = segs_stay g.P.PoolName.sizes g.N.BookName.sizes.shards c.args.at operation c.in_ok-run_part.field-0 c.args.pass.now c.run_part.new.pass c.args.stored.now.items c.run_part.new.stored.items c.args.plan.now c.run_part.new.plan
-        c.in_ok-run_part.ensures.ran (get_or (keys_of c.args.command.now) c.args.at.part []) (value_part c.args.command.now c.requires.kind c.args.at.part) in
+    c.in_ok-run_part.ensures.ran (get_or (keys_of c.args.command.now) c.args.at.part []) (value_part c.args.command.now c.requires.kind c.args.at.part) in
     omega (arith, stay, c.in_ok-run_part.ensures.spare)

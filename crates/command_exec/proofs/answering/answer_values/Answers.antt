@@ -1,6 +1,5 @@
-use Rattle.std.proofs.Common.{◌≡◌, ◌≤◌, [], ◌∷◌, ◌++◌, None, ◌+◌, length, refl, ap, subst, ◌∙◌, arith}
+use Rattle.std.proofs.Common.{[], ◌∷◌, ◌++◌, None, ◌+◌, length, refl, ap, subst, ◌∙◌, arith}
 use Rattle.flake_base.specs.declared.journal.Entry.{Entry}
-use Rattle.flake_model.specs.Command.{parts}
 use Rattle.frag_value.specs.Taken.{copied}
 use Rattle.reply_planner.specs.Planned.{planned, left_of}
 use Rattle.call_model.specs.Outcomes.{entry_at}
@@ -42,7 +41,7 @@ loop-j-preserved g c =
     let r = c.answer_value.new.plan in
     let at : Entry = entry_at c.args.at.session c.args.at.call j in
     let adds : AddsValue z shards at (part_at command j) c.loop-j.pass c.answer_value.new.pass c.loop-j.stored.items c.answer_value.new.stored.items q r =
-        subst (λ (e : Entry). AddsValue z shards e (part_at command e.part) c.loop-j.pass c.answer_value.new.pass c.loop-j.stored.items c.answer_value.new.stored.items q r) c.entry_of-next.ensures c.in_ok-answer_value.ensures.value in
+    subst (λ (e : Entry). AddsValue z shards e (part_at command e.part) c.loop-j.pass c.answer_value.new.pass c.loop-j.stored.items c.answer_value.new.stored.items q r) c.entry_of-next.ensures c.in_ok-answer_value.ensures.value in
     record {
       so_far = value_more z shards command j at c.args.pass.now c.loop-j.pass c.answer_value.new.pass c.args.stored.now.items c.loop-j.stored.items c.answer_value.new.stored.items c.args.plan.now q r
           (omega (arith, c.loop-j-test.true, c.count-count.ensures.parts)) refl c.requires.session c.in_ok-answer_value.ensures.base c.loop-j.invariant.so_far adds;

@@ -1,8 +1,7 @@
-use Rattle.std.proofs.Common.{◌≡◌, true, false, refl, sym, ap, ◌∙◌, arith}
-use Rattle.shard_core.specs.Done.{is_taking, is_ranged}
+use Rattle.std.proofs.Common.{arith}
 use Rattle.command_exec.specs.Kinds.{part_at}
-use Rattle.command_exec.proofs.Asked.{IsCounting, count_part}
-use Rattle.command_exec.proofs.Counting.{counting_untaken, counting_plain, yes_of, no_yes, counts_key, count_stays}
+use Rattle.command_exec.proofs.Asked.{count_part}
+use Rattle.command_exec.proofs.Counting.{counting_untaken, counting_plain, no_yes, counts_key, count_stays}
 use Rattle.command_exec.proofs.answering.count_key.Goals as goal
 
 pub run_part-requires-clause-room : goal.run_part-requires-clause-room
@@ -26,5 +25,5 @@ pub returns-in_default-clause-spare : goal.returns-in_default-clause-spare
 returns-in_default-clause-spare g c =
     let operation = part_at c.args.command.now c.args.at.part in
     let stay = count_stays g.P.PoolName.sizes g.N.BookName.sizes.shards c.args.at operation c.in_ok-happened.field-0 c.args.pass.now c.run_part.new.pass c.args.stored.now.items c.run_part.new.stored.items c.args.plan.now c.run_part.new.plan
-        (count_part c.args.command.now c.requires.kind c.args.at.part c.requires.part) c.in_ok-happened.ensures.ran in
+    (count_part c.args.command.now c.requires.kind c.args.at.part c.requires.part) c.in_ok-happened.ensures.ran in
     omega (arith, stay, c.in_ok-happened.ensures.spare)
