@@ -3,13 +3,14 @@ ghost use Rattle.frag_value.specs.Fragments.{frags_limit};
 ghost use Rattle.reply_layout.specs.Need.{need_of};
 ghost use Rattle.command_exec.specs.Executed.{Executes, FallsShort};
 
+use crate::answering::answer;
 use crate::pass::Pass;
 use crate::shop::Shop;
 use command_parts::Command;
-use flake_base::{Memory, Segs};
+use flake_base::{Entry, Memory, Segs};
 use order_book::BookName;
 use pinned_pool::PoolName;
-use reply_planner::Parcel;
+use reply_planner::{Parcel, Plan};
 use std::sync::Wait;
 
 /// Why a call is not executed.
@@ -37,5 +38,26 @@ pub fn execute<R: Wait, N: BookName, P: PoolName>(
         stored.old.items stored.new.items) }
     ensures memory { OnErr result (FallsShort P.sizes N.sizes.shards command.now call pass.old pass.new) }
 {
-    Err(ExecError::Memory)
+    let _ = pass.stage.free();
+    let Ok(mut plan) = Plan::start(
+        shop.pool,
+        &mut pass.seat,
+        &mut pass.stage,
+        command.need(),
+        pass.threshold,
+    ) else {
+        return Err(ExecError::Memory);
+    };
+    let at = Entry {
+        session,
+        call,
+        part: 0,
+    };
+    match answer(rt, shop, pass, at, command, &mut plan, stored) {
+        Ok(()) => Ok(plan.seal(&mut pass.seat, &mut pass.stage, call)),
+        Err(Memory) => {
+            plan.cancel(&mut pass.seat, &mut pass.stage);
+            Err(ExecError::Memory)
+        }
+    }
 }

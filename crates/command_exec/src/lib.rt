@@ -1,7 +1,10 @@
 //! Commands, run on the store: their parts in order, and one reply of what these answered.
 #![tactic(auto)]
 
+mod answering;
 mod executing;
+mod lines;
+mod parts;
 mod pass;
 mod shop;
 

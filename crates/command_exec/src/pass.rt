@@ -76,7 +76,7 @@ impl<N: BookName, P: PoolName> Pass<N, P> {
         self.stage.free()
     }
 
-    /// Does nothing, and tells a proof what is true of every pass and of its seat.
+    /// Does nothing, and tells a proof what is true of every pass.
     pub fn is_pass(&self)
         ensures pass { IsPass P.sizes self.now }
         ensures seat { IsSeat P.sizes self.now.seat }
