@@ -1,0 +1,166 @@
+-- A served run, with the end of its pool, from what the layers hand up.
+use Rattle.std.proofs.Common.{◌≡◌, Bool, ℕ, ◌+◌, List, [], ◌∷◌, ◌++◌, Option, length, map, refl, ap, sym, ◌∙◌, subst}
+use Rattle.view_sums.specs.Total.{Each}
+use Rattle.flake_base.specs.declared.journal.Entry.{Entry}
+use Rattle.flake_base.specs.declared.session.SessionEnd.{SessionEnd}
+use Rattle.pin_core.specs.declared.sizes.Sizes as pool_sizes
+use Rattle.pinned_pool.specs.Ends.{end_of}
+use Rattle.pinned_pool.specs.declared.view.View.{View}
+use Rattle.flake_model.specs.Run.{WasServed}
+use Rattle.flake_model.specs.Session.{Session, IsSession}
+use Rattle.flake_model.specs.Wire.{WiresGrew}
+use Rattle.order_book.specs.Closed.{AreClosed, journal_of}
+use Rattle.order_book.specs.Pages.{ShardList, SessionList}
+use Rattle.order_book.specs.declared.rule.Sizes as book_sizes
+use Rattle.order_book.proofs.Ordered.{has_ranks}
+use Rattle.call_model.specs.Stock.{AreParts}
+use Rattle.serve_model.specs.Handed.{SessionRun, session_in, runs_in, OneRun, AllRun, AreServed, IsLastSeat}
+use Rattle.serve_model.specs.Lists.{AreLists}
+use Rattle.serve_model.specs.Runs.{run_text, IsRun, lists_told, texts_told}
+use Rattle.serve_model.specs.Seats.{AreSpentSeats}
+use Rattle.serve_model.specs.Shown.{WasRun}
+use Rattle.serve_model.specs.Whole.{AreThose, ServedTogether}
+use Rattle.flake_base.specs.Growth.{Grew}
+use Rattle.serve_model.proofs.Counted.{counted}
+use Rattle.serve_model.proofs.OneHistory.{one_history}
+use Rattle.serve_model.proofs.Served.{lists_long, sessions_long, rising, all_sessions, texts, in_order}
+
+abbrev Told : Type 0
+Told = Option (List ℕ)
+
+module _ (f : SessionRun → Told) (g : Session → Told) (same : (ran : SessionRun) → g (session_in ran) ≡ f ran) where
+  mapped : (all : List SessionRun) → map g (map session_in all) ≡ map f all
+  mapped [] = refl
+  mapped (ran ∷ all) = λ i. same ran i ∷ mapped all i
+
+ends_mapped : (all : List SessionRun)
+    → map (λ (session : Session). session.end) (map session_in all) ≡ map (λ (ran : SessionRun). ran.run.end) all
+ends_mapped [] = refl
+ends_mapped (ran ∷ all) = ap (λ (ends : List SessionEnd). ran.run.end ∷ ends) (ends_mapped all)
+
+module _ (books : book_sizes.Sizes) (z : pool_sizes.Sizes) (shards : List ShardList) (sessions : List SessionList)
+    (journal : List (List Entry)) (store : View) (inputs lefts : List Told) (ends : List SessionEnd)
+    (seats : List View) (olds news : List Told) (closed : AreClosed books shards sessions)
+    (as_many : length sessions ≡ books.sessions) (parts : AreParts z books.shards shards journal store)
+    (served : AreServed z books.shards inputs lefts ends sessions seats olds news) where
+  abbrev all : List SessionRun
+  all = served.all
+
+  lists : AreLists books (runs_in all) shards sessions
+  lists = record {
+    closed = closed;
+    numbered = parts.numbered;
+    legal = parts.legal;
+    runs_are = served.runs_are;
+    as_many = sym (lists_long books.shards 0 (runs_in all)) ∙ sym (ap length served.told) ∙ as_many;
+    told = served.told;
+  }
+
+  -- the run, by the journal that the shards' lists make
+  own : WasServed inputs lefts ends (journal_of shards) olds news
+  own = record {
+    sessions = map session_in all;
+    inputs_are = mapped (λ ran. ran.input) (λ session. session.input) (λ ran. refl) all ∙ sym served.inputs_are;
+    lefts_are = mapped (λ ran. ran.left) (λ session. session.left) (λ ran. refl) all ∙ sym served.lefts_are;
+    ends_are = ends_mapped all ∙ sym served.ends_are;
+    each_is = all_sessions all served.sessions_are;
+    orderly = in_order books all shards sessions lists;
+    one_order = (has_ranks books shards sessions closed (sessions_long books all shards sessions lists)
+        (rising books all shards sessions lists)).0;
+    one_history = one_history books all shards sessions lists;
+    wires = subst (λ t. WiresGrew t olds news) (sym (texts books all shards sessions lists)) served.wires;
+  }
+
+  -- it is of those sessions
+  abbrev Served : List (List Entry) → Type 0
+  Served j = (run : WasServed inputs lefts ends j olds news) × AreThose all run.sessions j
+
+  pub was_served : Served journal
+  unfolding own
+  was_served =
+      let run : Served (journal_of shards) =
+      (own, record { sessions_are = refl; texts_are = texts books all shards sessions lists }) in
+      subst Served (sym parts.journal_is) run
+
+  abbrev Ran : View → List (List Entry) → Type 0
+  Ran last j = (run : WasRun z inputs lefts ends j olds news (end_of z last)) × AreThose all run.served.sessions j
+
+  pub was_run : (last : View) (spare : List View) → IsLastSeat store spare seats last → Ran last journal
+  unfolding own
+  was_run last spare is =
+      let run : Ran last (journal_of shards) = (
+        record {
+          served = own;
+          counted = counted books all shards sessions lists z store last spare seats parts.stock parts.idle
+              served.seats_are is;
+        },
+        record { sessions_are = refl; texts_are = texts books all shards sessions lists },
+      ) in
+      subst (Ran last) (sym parts.journal_is) run
+
+-- the sessions' runs, one behind the other
+record HasRuns (z : pool_sizes.Sizes) (shards session : ℕ) (each : List OneRun) : Type 0 where
+  all : List SessionRun
+  inputs_are : map (λ (one : OneRun). one.input) each ≡ map (λ (ran : SessionRun). ran.input) all
+  lefts_are : map (λ (one : OneRun). one.left) each ≡ map (λ (ran : SessionRun). ran.left) all
+  ends_are : map (λ (one : OneRun). one.end) each ≡ map (λ (ran : SessionRun). ran.run.end) all
+  sessions_are : Each (λ (ran : SessionRun). IsSession (session_in ran)) all
+  runs_are : Each IsRun (runs_in all)
+  told : map (λ (one : OneRun). one.list) each ≡ lists_told shards session (runs_in all)
+  seats_are : AreSpentSeats z (runs_in all) (map (λ (one : OneRun). one.seat) each)
+  texts_are : texts_told (runs_in all) ≡ map (λ (one : OneRun). (one.end.failed, one.text)) each
+  wires : (past : List Told) → WiresGrew (texts_told (runs_in all)) (map (λ (one : OneRun). one.old) each ++ past)
+      (map (λ (one : OneRun). one.new) each ++ past)
+
+runs_of : (z : pool_sizes.Sizes) (shards session : ℕ) (each : List OneRun) → AllRun z shards session each
+    → HasRuns z shards session each
+runs_of z shards session [] have = record {
+  all = [];
+  inputs_are = refl;
+  lefts_are = refl;
+  ends_are = refl;
+  sessions_are = tt;
+  runs_are = tt;
+  told = refl;
+  seats_are = tt;
+  texts_are = refl;
+  wires = λ past. refl;
+}
+runs_of z shards session (one ∷ each) have =
+    let rest = runs_of z shards (session + 1) each have.2 in
+    let has = have.0 in
+    let text : (has.run.end.failed, run_text has.run) ≡ (one.end.failed, one.text) =
+    λ i. ((sym has.end_is i).failed, sym has.text_is i) in
+    record {
+      all = record { input = one.input; left = one.left; run = has.run } ∷ rest.all;
+      inputs_are = ap (λ (l : List Told). one.input ∷ l) rest.inputs_are;
+      lefts_are = ap (λ (l : List Told). one.left ∷ l) rest.lefts_are;
+      ends_are = λ i. has.end_is i ∷ rest.ends_are i;
+      sessions_are = (has.is_session, rest.sessions_are);
+      runs_are = (has.is_run, rest.runs_are);
+      told = λ i. has.list_is i ∷ rest.told i;
+      seats_are = (has.seat_is, rest.seats_are);
+      texts_are = λ i. text i ∷ rest.texts_are i;
+      wires = λ past. (
+        subst (λ (t : Bool × List ℕ). Grew t.0 t.1 one.old one.new) (sym text) have.1,
+        rest.wires past,
+      );
+    }
+
+-- sessions that were run one by one, or beside each other, were served
+pub all_served : ServedTogether
+all_served z shards each past have =
+    let found = runs_of z shards 0 each have in (
+      record {
+        all = found.all;
+        inputs_are = found.inputs_are;
+        lefts_are = found.lefts_are;
+        ends_are = found.ends_are;
+        sessions_are = found.sessions_are;
+        runs_are = found.runs_are;
+        told = found.told;
+        seats_are = found.seats_are;
+        wires = found.wires past;
+      },
+      found.texts_are,
+    )

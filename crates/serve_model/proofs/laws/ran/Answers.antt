@@ -1,0 +1,8 @@
+use Rattle.serve_model.proofs.Ran.{was_run}
+use Rattle.serve_model.proofs.laws.ran.Goals as goal
+
+pub returns : goal.returns
+returns c books z shards sessions journal store inputs lefts ends seats olds news spare last closed as_many parts
+    served is =
+    was_run books z shards sessions journal store inputs lefts ends seats olds news closed as_many parts served last
+    spare is

@@ -1,0 +1,14 @@
+pub mod Runs
+pub mod Demand
+pub mod Seats
+pub mod Going
+pub mod Steps
+pub mod Handed
+pub mod Lists
+pub mod Shown
+pub mod Whole
+pub mod One
+pub mod Stages
+pub mod Cuts
+pub mod Rows
+pub mod Worked

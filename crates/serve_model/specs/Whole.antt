@@ -1,0 +1,63 @@
+-- What a closed book, a store's parts and the sessions' runs give together.
+use Rattle.std.specs.Prelude.{◌≡◌, ℕ, ◌≤◌, List, ◌++◌, Option, length, map}
+use Rattle.flake_base.specs.declared.journal.Entry.{Entry}
+use Rattle.flake_base.specs.declared.session.SessionEnd.{SessionEnd}
+use Rattle.pin_core.specs.declared.class.Class.{Class}
+use Rattle.pin_core.specs.declared.sizes.Sizes as pool_sizes
+use Rattle.pinned_pool.specs.Claims.{count_of}
+use Rattle.pinned_pool.specs.Ends.{End, end_of}
+use Rattle.pinned_pool.specs.declared.view.View.{View}
+use Rattle.flake_model.specs.Run.{WasServed, all_commands, missing_writes, wire_texts}
+use Rattle.flake_model.specs.Session.{Session}
+use Rattle.order_book.specs.Closed.{AreClosed}
+use Rattle.order_book.specs.Pages.{ShardList, SessionList}
+use Rattle.order_book.specs.declared.rule.Sizes as book_sizes
+use Rattle.call_model.specs.Stock.{AreParts}
+use Rattle.serve_model.specs.Demand.{demand_of}
+use Rattle.serve_model.specs.Handed.{SessionRun, session_in, runs_in, OneRun, AllRun, AreServed, IsLastSeat}
+use Rattle.serve_model.specs.Runs.{texts_told}
+use Rattle.serve_model.specs.Shown.{IsCounted, WasRun}
+
+-- sessions that ran each for itself were served together, with these texts; wires past theirs are as they were
+abbrev pub ServedTogether : Type 0
+ServedTogether = (z : pool_sizes.Sizes) (shards : ℕ) (each : List OneRun) (past : List (Option (List ℕ)))
+    → AllRun z shards 0 each
+    → (served : AreServed z shards (map (λ (one : OneRun). one.input) each) (map (λ (one : OneRun). one.left) each)
+    (map (λ (one : OneRun). one.end) each) (map (λ (one : OneRun). one.list) each)
+    (map (λ (one : OneRun). one.seat) each) (map (λ (one : OneRun). one.old) each ++ past)
+    (map (λ (one : OneRun). one.new) each ++ past))
+    × (texts_told (runs_in served.all) ≡ map (λ (one : OneRun). (one.end.failed, one.text)) each)
+
+-- the sessions are those that ran so, and by the journal the wires are sent their texts
+pub record AreThose (all : List SessionRun) (sessions : List Session) (journal : List (List Entry)) : Type 0 where
+  pub sessions_are : sessions ≡ map session_in all
+  pub texts_are : wire_texts sessions journal ≡ texts_told (runs_in all)
+
+-- the inputs were served
+abbrev pub InputsServed : Type 0
+InputsServed = (books : book_sizes.Sizes) (z : pool_sizes.Sizes) (shards : List ShardList)
+    (sessions : List SessionList) (journal : List (List Entry)) (store : View) (inputs lefts : List (Option (List ℕ)))
+    (ends : List SessionEnd) (seats : List View) (olds news : List (Option (List ℕ)))
+    → AreClosed books shards sessions → length sessions ≡ books.sessions
+    → AreParts z books.shards shards journal store
+    → (served : AreServed z books.shards inputs lefts ends sessions seats olds news)
+    → (run : WasServed inputs lefts ends journal olds news) × AreThose served.all run.sessions journal
+
+-- and with the pool's last seat the whole run is as its clause says
+abbrev pub WholeRun : Type 0
+WholeRun = (books : book_sizes.Sizes) (z : pool_sizes.Sizes) (shards : List ShardList) (sessions : List SessionList)
+    (journal : List (List Entry)) (store : View) (inputs lefts : List (Option (List ℕ))) (ends : List SessionEnd)
+    (seats : List View) (olds news : List (Option (List ℕ))) (spare : List View) (last : View)
+    → AreClosed books shards sessions → length sessions ≡ books.sessions
+    → AreParts z books.shards shards journal store
+    → (served : AreServed z books.shards inputs lefts ends sessions seats olds news)
+    → IsLastSeat store spare seats last
+    → (run : WasRun z inputs lefts ends journal olds news (end_of z last))
+    × AreThose served.all run.served.sessions journal
+
+-- where the pool has the demand in both classes no write is missing
+abbrev pub NoneMissing : Type 0
+NoneMissing = (z : pool_sizes.Sizes) (sessions : List Session) (journal : List (List Entry)) (end : End)
+    → IsCounted z sessions journal end
+    → ((class : Class) → demand_of class (all_commands sessions) ≤ count_of z class)
+    → missing_writes sessions journal ≡ 0
