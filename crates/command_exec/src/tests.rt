@@ -156,3 +156,199 @@ fn no_parts(rt: HostRuntime) -> Result<(), Fail> {
     ];
     check(&rt, rt.alloc(), 1, &rows, &[], (0, 0))
 }
+
+#[test]
+fn sets_by_their_options(rt: HostRuntime) -> Result<(), Fail> {
+    let rows: [Row<'_>; 7] = [
+        (&[b"SET", b"a", b"1", b"NX"], b"+OK\r\n"),
+        (&[b"SET", b"a", b"2", b"NX"], b"$-1\r\n"),
+        (&[b"SET", b"a", b"3", b"XX", b"GET"], b"$1\r\n1\r\n"),
+        (&[b"SET", b"b", b"4", b"XX"], b"$-1\r\n"),
+        (&[b"SET", b"b", b"5", b"GET"], b"$-1\r\n"),
+        (&[b"SET", b"a", b"6", b"nx", b"get"], b"$1\r\n3\r\n"),
+        (
+            &[b"SET", b"a", b"7", b"NX", b"XX"],
+            b"-ERR syntax error\r\n",
+        ),
+    ];
+    let lines = [
+        (4, 0, 0, 0),
+        (4, 0, 1, 0),
+        (4, 0, 2, 0),
+        (4, 0, 5, 0),
+        (5, 0, 3, 0),
+        (5, 0, 4, 0),
+    ];
+    check(&rt, rt.alloc(), 1, &rows, &lines, (2, 0))
+}
+
+#[test]
+fn ranges(rt: HostRuntime) -> Result<(), Fail> {
+    let rows: [Row<'_>; 8] = [
+        (&[b"SET", b"k", b"abcdef"], b"+OK\r\n"),
+        (&[b"GETRANGE", b"k", b"1", b"3"], b"$3\r\nbcd\r\n"),
+        (&[b"GETRANGE", b"k", b"-3", b"-1"], b"$3\r\ndef\r\n"),
+        (&[b"GETRANGE", b"k", b"4", b"99"], b"$2\r\nef\r\n"),
+        (&[b"GETRANGE", b"k", b"3", b"1"], b"$0\r\n\r\n"),
+        (&[b"GETRANGE", b"x", b"0", b"-1"], b"$0\r\n\r\n"),
+        (&[b"STRLEN", b"k"], b":6\r\n"),
+        (&[b"STRLEN", b"x"], b":0\r\n"),
+    ];
+    let lines = [
+        (2, 0, 0, 0),
+        (2, 0, 1, 0),
+        (2, 0, 2, 0),
+        (2, 0, 3, 0),
+        (2, 0, 4, 0),
+        (2, 0, 6, 0),
+        (7, 0, 5, 0),
+        (7, 0, 7, 0),
+    ];
+    check(&rt, rt.alloc(), 1, &rows, &lines, (1, 0))
+}
+
+#[test]
+fn long_values(rt: HostRuntime) -> Result<(), Fail> {
+    let longest = vec![in rt.alloc(); b'A'; 65_536]?;
+    let lines = [(2, 0, 0, 0), (2, 0, 1, 0)];
+    let sizes: [(usize, &[u8], (u32, u32)); 2] = [
+        (16_384, b":16385\r\n", (1, 4)),
+        (65_536, b"-ERR value too long\r\n", (0, 16)),
+    ];
+    for (size, text, held) in sizes {
+        assert!(rt; size <= longest.len());
+        let rows: [Row<'_>; 2] = [
+            (&[b"SET", b"k", &longest.as_slice()[..size]], b"+OK\r\n"),
+            (&[b"APPEND", b"k", b"B"], text),
+        ];
+        check(&rt, rt.alloc(), 17, &rows, &lines, held)?;
+    }
+    Ok(())
+}
+
+#[test]
+fn no_buffer_is_free(rt: HostRuntime) -> Result<(), Fail> {
+    let value = [b'A'; 4096];
+    let rows: [Row<'_>; 3] = [
+        (&[b"SET", b"a", &value], b"+OK\r\n"),
+        (&[b"SET", b"b", &value], b"+OK\r\n"),
+        (&[b"SET", b"c", &value], b"-OOM no free buffer\r\n"),
+    ];
+    let lines = [(4, 0, 0, 0), (5, 0, 1, 0)];
+    check(&rt, rt.alloc(), 2, &rows, &lines, (0, 2))
+}
+
+// The words of a request, and where its reply and what it stored lie.
+type Lain<'a> = (&'a [&'a [u8]], &'a [(u64, u32)], &'a [(u64, u32)]);
+
+fn check_lain<R: Wait + Abort>(
+    rt: &R,
+    alloc: Global,
+    threshold: u32,
+    rows: &[Lain<'_>],
+) -> Result<(), Fail> {
+    let mut commands = Vec::new(alloc);
+    for (words, _, _) in rows {
+        commands.push(Command::of(request(alloc, *words)?))?;
+    }
+    let outcome = run_over(rt, alloc, 8, threshold, commands.as_slice())?;
+    assert_eq!(rt; outcome.seen.len(), rows.len());
+    for (seen, (_, segments, stored)) in outcome.seen.iter().zip(rows) {
+        assert!(rt; seen.segments.as_slice() == *segments, "{:?}", seen.segments);
+        assert!(rt; seen.stored.as_slice() == *stored, "{:?}", seen.stored);
+    }
+    Ok(())
+}
+
+// The stage's buffers begin at 1,048,576, the other small ones at 1,114,112, the large ones at 1,179,648.
+#[test]
+fn what_is_long_stays(rt: HostRuntime) -> Result<(), Fail> {
+    let value = [b'A'; 5000];
+    let rows: [Lain<'_>; 5] = [
+        (
+            &[b"SET", b"k", &value],
+            &[(1_048_576, 5)],
+            &[(1_179_648, 4096), (1_183_744, 904)],
+        ),
+        (
+            &[b"GETRANGE", b"k", b"100", b"4999"],
+            &[
+                (1_048_576, 7),
+                (1_179_748, 3996),
+                (1_183_744, 904),
+                (1_048_583, 2),
+            ],
+            &[],
+        ),
+        (
+            &[b"SET", b"j", &value[..600]],
+            &[(1_048_576, 5)],
+            &[(1_187_840, 600)],
+        ),
+        (
+            &[b"SET", b"j", &value[..600], b"GET"],
+            &[(1_048_576, 6), (1_187_840, 600), (1_048_582, 2)],
+            &[(1_191_936, 600)],
+        ),
+        (
+            &[b"MGET", b"j", b"x"],
+            &[(1_048_576, 10), (1_191_936, 600), (1_048_586, 7)],
+            &[],
+        ),
+    ];
+    check_lain(&rt, rt.alloc(), 512, &rows)
+}
+
+#[test]
+fn the_least_threshold(rt: HostRuntime) -> Result<(), Fail> {
+    let rows: [Lain<'_>; 2] = [
+        (
+            &[b"SET", b"a", b"x"],
+            &[(1_048_576, 5)],
+            &[(1_114_112, 1)],
+        ),
+        (
+            &[b"GET", b"a"],
+            &[(1_048_576, 4), (1_114_112, 1), (1_048_580, 2)],
+            &[],
+        ),
+    ];
+    check_lain(&rt, rt.alloc(), 1, &rows)
+}
+
+// The keys of so many values, of two digits each.
+fn keys() -> [[u8; 2]; 64] {
+    let mut keys = [[b'0'; 2]; 64];
+    for (i, key) in keys.iter_mut().enumerate() {
+        key[0] = b'0' + (i / 10 % 10) as u8;
+        key[1] = b'0' + (i % 10) as u8;
+    }
+    keys
+}
+
+fn array_commands(alloc: Global, keys: &[[u8; 2]], value: &[u8]) -> Result<Vec<Command>, Fail> {
+    let mut commands = Vec::new(alloc);
+    let mut words: Vec<&[u8]> = Vec::new(alloc);
+    words.push(b"MGET")?;
+    for key in keys {
+        commands.push(Command::of(request(alloc, &[b"SET", key, value])?))?;
+        words.push(key)?;
+    }
+    commands.push(Command::of(request(alloc, words.as_slice())?))?;
+    Ok(commands)
+}
+
+// 64 values of 511 bytes, which are copied.
+#[test]
+fn the_longest_array(rt: HostRuntime) -> Result<(), Fail> {
+    let commands = array_commands(rt.alloc(), &keys(), &[b'v'; 511])?;
+    assert_eq!(rt; commands.len(), 65);
+    let need = commands[64].need();
+    assert_eq!(rt; (need.descriptors, need.stage), (1154, 66));
+    let outcome = run_over(&rt, rt.alloc(), 1, 512, commands.as_slice())?;
+    assert_eq!(rt; outcome.seen.len(), 65);
+    let seen = &outcome.seen[64];
+    assert_eq!(rt; (seen.text.len(), seen.segments.len()), (33_221, 65));
+    assert_eq!(rt; seen.segments[64].1, 453);
+    Ok(())
+}
