@@ -87,8 +87,8 @@ impl<N: BookName, P: PoolName> Pass<N, P> {
     /// Takes a reply back, when it was sent. The answer is how many of its holds were the last of their buffers.
     pub fn give_back(&mut self, pool: &Pool<P>, parcel: Parcel<P>) -> u64
         requires { length self.old.free + length parcel.staged ≤ stage_size }
-        ensures pass { self.new
-            ≡ pass_of self.old.list self.new.seat self.old.stage (merged parcel.staged self.old.free) self.old.threshold }
+        ensures pass { self.new ≡ pass_of self.old.list self.new.seat self.old.stage
+            (merged parcel.staged self.old.free) self.old.threshold }
         ensures seat { TakesBack parcel result self.old.seat self.new.seat }
     {
         give_back(parcel, pool, &mut self.seat, &mut self.stage)
