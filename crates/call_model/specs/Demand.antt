@@ -3,8 +3,8 @@ use Rattle.std.specs.Prelude.{ℕ, List, nat_le, if◌then◌else◌, length, Op
 use Rattle.view_sums.specs.Total.{total}
 use Rattle.pin_core.specs.declared.class.Class.{Class}
 use Rattle.flake_model.specs.Fragments.{fragments_of}
-use Rattle.flake_model.specs.Store.{Operation, get, set, append, del, exists, str_len, get_range}
-use Rattle.flake_model.specs.Store.{Answer, value, missing, done, length_is, did, too_long}
+use Rattle.flake_model.specs.Store.{Operation, get}
+use Rattle.flake_model.specs.Store.{Answer, value}
 use Rattle.shard_core.specs.Demand.{part_row}
 
 abbrev pub parts_row : Class → List Operation → ℕ

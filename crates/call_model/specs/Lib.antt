@@ -3,3 +3,4 @@ pub mod Demand
 pub mod Calls
 pub mod Parts
 pub mod Stock
+pub mod Steps

@@ -1,5 +1,5 @@
 -- What became of a call's parts: their answers, the deeds that a session is told, and the reply.
-use Rattle.std.specs.Prelude.{◌≡◌, ℕ, ◌+◌, List, [], ◌∷◌, ◌++◌, Option, Some, None, is_none, if◌then◌else◌, map}
+use Rattle.std.specs.Prelude.{ℕ, ◌+◌, List, [], ◌∷◌, Option, Some, None, is_none, if◌then◌else◌, map}
 use Rattle.std.specs.Option.{option_map}
 use Rattle.view_sums.specs.Total.{total}
 use Rattle.flake_base.specs.declared.journal.Entry.{Entry}

@@ -1,0 +1,4 @@
+pub mod Growing
+pub mod Deeds
+pub mod Rows
+pub mod Running

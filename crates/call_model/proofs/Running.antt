@@ -1,0 +1,78 @@
+-- The parts of a call, one more at a time, and a call that memory cuts short.
+use Rattle.std.proofs.Common.{inl, inr, [], ◌∷◌, ◌++◌, length, take}
+use Rattle.std.proofs.Common.{refl, ap, sym, ◌∙◌, append-nil, arith}
+use Rattle.std.proofs.lemmas.List.{append_assoc}
+use Rattle.pin_core.specs.declared.class.Class.{Class}
+use Rattle.pinned_pool.proofs.SoughtLaws.{sought_then, sought_nothing, sought_still}
+use Rattle.flake_model.specs.Command.{parts}
+use Rattle.shard_core.specs.Demand.{part_row}
+use Rattle.call_model.specs.Outcomes.{Told, entry_at, part_told, call_told, missed_in}
+use Rattle.call_model.specs.Demand.{parts_row}
+use Rattle.call_model.specs.Steps.{RunningStarts, PartStep, RunningRests, CutsBefore, CutsBehind, CutsRest}
+use Rattle.call_model.proofs.Growing.{parts_add}
+use Rattle.call_model.proofs.Rows.{row_more, missed_more, front_row, below_end, sought_as}
+
+pub running_starts : RunningStarts
+running_starts z shards session call operations told seat after claims looks = record {
+  are = tt;
+  told = sym (append-nil told);
+  sought = sought_as z (λ class. 0) _ 0 _ seat after (sought_nothing z seat after claims looks)
+      (λ class. omega arith) refl;
+}
+
+pub part_step : PartStep
+part_step z shards session call operations outcomes operation outcome old mid new seat later after is running done =
+    let one = parts_add shards session call operations outcomes operation outcome is in
+    let here = call_told shards session call 0 operations outcomes in
+    let next = part_told shards (entry_at session call (length outcomes)) operation outcome in
+    let rows = λ (class : Class). parts_row class (take (length outcomes) operations) in
+    record {
+      are = one.are running.are done.is;
+      told = done.told ∙ ap (λ (told : Told). told ++ next) running.told ∙ append_assoc old here next
+          ∙ ap (λ (told : Told). old ++ told) (sym one.told);
+      sought = sought_as z _ _ _ _ seat after
+          (sought_then z rows (λ class. part_row class operation) (missed_in outcomes) (missed_in (outcome ∷ [])) seat
+          later after running.sought done.sought)
+          (λ class. omega (arith, row_more class operations outcomes outcome operation is))
+          (sym (missed_more outcomes outcome));
+    }
+
+pub running_rests : RunningRests
+running_rests z shards session call operations outcomes old new seat later after claims looks running = record {
+  are = running.are;
+  told = running.told;
+  sought = sought_still z (λ (class : Class). parts_row class (take (length outcomes) operations)) (missed_in outcomes)
+      seat later after running.sought claims looks;
+}
+
+pub cuts_before : CutsBefore
+cuts_before z shards session call command told seat after claims looks = record {
+  are = tt;
+  short = inl refl;
+  told = sym (append-nil told);
+  sought = sought_as z (λ class. 0) _ 0 _ seat after (sought_nothing z seat after claims looks)
+      (λ class. omega arith) refl;
+}
+
+pub cuts_behind : CutsBehind
+cuts_behind z shards session call command outcomes operation old new seat later after is running sought =
+    let operations = parts command in
+    let rows = λ (class : Class). parts_row class (take (length outcomes) operations) in
+    record {
+      are = running.are;
+      short = inr (below_end operations (length outcomes) operation is);
+      told = running.told;
+      sought = sought_as z _ _ _ _ seat after
+          (sought_then z rows (λ class. part_row class operation) (missed_in outcomes) 0 seat later after
+          running.sought sought)
+          (λ class. omega (arith, front_row class operations (length outcomes) operation is)) (omega arith);
+    }
+
+pub cuts_rest : CutsRest
+cuts_rest z shards session call command outcomes old new seat later after claims looks cut = record {
+  are = cut.are;
+  short = cut.short;
+  told = cut.told;
+  sought = sought_still z (λ (class : Class). parts_row class (parts command)) (missed_in outcomes)
+      seat later after cut.sought claims looks;
+}

@@ -1,0 +1,206 @@
+-- A session from its first call to its end.
+use Rattle.std.proofs.Common.{◌≡◌, ℕ, ◌+◌, ◌≤◌, inl, List, [], ◌∷◌, ◌++◌, Option, Some, length, take, slice_get}
+use Rattle.std.proofs.Common.{refl, ap, sym, ◌∙◌, subst, append-nil, arith}
+use Rattle.std.specs.List.{zip, flat_map}
+use Rattle.std.specs.Option.{option_to_list}
+use Rattle.std.proofs.lemmas.List.{length-append}
+use Rattle.std.proofs.lemmas.Grind.{flat_map-append}
+use Rattle.std.proofs.Math.Seq.{take-length}
+use Rattle.view_sums.specs.Total.{total}
+use Rattle.view_sums.proofs.Sums.{total-append}
+use Rattle.flake_base.specs.Growth.{Grew}
+use Rattle.flake_base.specs.declared.session.End.{End}
+use Rattle.flake_base.specs.declared.session.End.TheVariants.{Clean, Protocol, Truncated, TooLong, ReadFault, Memory}
+use Rattle.flake_base.specs.declared.session.End.TheVariants.{Left}
+use Rattle.pin_core.specs.declared.class.Class.{Class}
+use Rattle.pinned_pool.specs.Views.{nobody}
+use Rattle.pinned_pool.proofs.SoughtLaws.{sought_then, sought_nothing, sought_still}
+use Rattle.flake_model.specs.Store.{Operation}
+use Rattle.flake_model.specs.Command.{Command, parts}
+use Rattle.flake_model.specs.Reply.{Reply, reply_of, reply_text}
+use Rattle.flake_model.specs.Journal.{next_parts}
+use Rattle.flake_model.specs.Session.{IsBegun}
+use Rattle.call_model.specs.Demand.{parts_row, long_in}
+use Rattle.call_model.specs.Outcomes.{Outcomes, Told, AreOutcomes, call_told, answers_told, missed_in}
+use Rattle.call_model.proofs.Rows.{sought_as}
+use Rattle.serve_model.specs.Demand.{stage_row, commands_row}
+use Rattle.serve_model.specs.Runs.{calls_told, replies_told, parts_told, missed_by}
+use Rattle.serve_model.specs.Steps.{GoingStarts, GoingRests, GoingOn, GoingEnds, GoingBreaks, WithStage, SessionRan}
+use Rattle.serve_model.proofs.Steps.{calls_add, first_calls}
+
+pub going_starts : GoingStarts
+going_starts z shards session opened = record {
+  as_many = refl;
+  are = tt;
+  told_is = refl;
+  texts_are = refl;
+  sought = sought_nothing z opened opened refl refl;
+  pinned = omega arith;
+}
+
+pub going_rests : GoingRests
+going_rests z shards session given calls texts pins told opened seat after claims looks going = record {
+  as_many = going.as_many;
+  are = going.are;
+  told_is = going.told_is;
+  texts_are = going.texts_are;
+  sought = sought_still z (λ (class : Class). commands_row class given) (missed_by calls) opened seat after
+      going.sought claims looks;
+  pinned = going.pinned;
+}
+
+replies_more : (given : List Command) (calls : List Outcomes) (command : Command) (outcomes : Outcomes)
+    → length calls ≡ length given → replies_told (given ++ command ∷ []) (calls ++ outcomes ∷ [])
+    ≡ replies_told given calls ++ reply_of command (answers_told outcomes) ∷ []
+replies_more [] [] command outcomes long = refl
+replies_more [] (o ∷ calls) command outcomes long = absurd (let no : ⊥ = omega arith in no)
+replies_more (c ∷ given) [] command outcomes long = absurd (let no : ⊥ = omega arith in no)
+replies_more (c ∷ given) (o ∷ calls) command outcomes long =
+    ap (λ (replies : List Reply). reply_of c (answers_told o) ∷ replies)
+    (replies_more given calls command outcomes (omega arith))
+
+long_more : (given : List Command) (calls : List Outcomes) (command : Command) (outcomes : Outcomes)
+    → length calls ≡ length given
+    → total (λ p. long_in p.0 p.1) (parts_told (given ++ command ∷ []) (calls ++ outcomes ∷ []))
+    ≡ total (λ p. long_in p.0 p.1) (parts_told given calls)
+    + total (λ p. long_in p.0 p.1) (zip (parts command) (answers_told outcomes))
+long_more [] [] command outcomes long =
+    omega (arith, total-append (λ p. long_in p.0 p.1) (zip (parts command) (answers_told outcomes)) [])
+long_more [] (o ∷ calls) command outcomes long = absurd (let no : ⊥ = omega arith in no)
+long_more (c ∷ given) [] command outcomes long = absurd (let no : ⊥ = omega arith in no)
+long_more (c ∷ given) (o ∷ calls) command outcomes long =
+    let here = zip (parts c) (answers_told o) in
+    omega (
+      arith,
+      total-append (λ p. long_in p.0 p.1) here (parts_told (given ++ command ∷ []) (calls ++ outcomes ∷ [])),
+      total-append (λ p. long_in p.0 p.1) here (parts_told given calls),
+      long_more given calls command outcomes (omega arith),
+    )
+
+whole_row : (class : Class) (operations : List Operation) (outcomes : Outcomes) → length outcomes ≡ length operations
+    → parts_row class (take (length outcomes) operations) ≡ parts_row class operations
+whole_row class operations outcomes whole =
+    ap (parts_row class) (ap (λ n. take n operations) whole ∙ take-length operations)
+
+missed_calls : (calls : List Outcomes) (outcomes : Outcomes)
+    → missed_by (calls ++ outcomes ∷ []) ≡ missed_by calls + missed_in outcomes
+missed_calls calls outcomes = omega (arith, total-append missed_in calls (outcomes ∷ []))
+
+pub going_on : GoingOn
+going_on z shards session given calls texts text pins more command outcomes old new opened seat after going done =
+    let one = calls_add shards session given calls command outcomes going.as_many in
+    let here = call_told shards session (length given) 0 (parts command) outcomes in
+    let reply = reply_of command (answers_told outcomes) in
+    record {
+      as_many = omega (arith, going.as_many, length-append calls (outcomes ∷ []), length-append given (command ∷ []));
+      are = one.are going.are done.running.are done.whole;
+      told_is = done.running.told ∙ ap (λ (told : Told). told ++ here) going.told_is ∙ sym one.told;
+      texts_are = (λ i. going.texts_are i ++ (done.text_is ∙ sym (append-nil (reply_text reply))) i)
+          ∙ sym (flat_map-append reply_text (replies_told given calls) (reply ∷ []))
+          ∙ ap (flat_map reply_text) (sym (replies_more given calls command outcomes going.as_many));
+      sought = sought_as z _ _ _ _ opened after
+          (sought_then z (λ class. commands_row class given)
+          (λ class. parts_row class (take (length outcomes) (parts command))) (missed_by calls)
+          (missed_in outcomes) opened seat after going.sought done.running.sought)
+          (λ class. omega (
+            arith,
+            whole_row class (parts command) outcomes done.whole,
+            total-append (λ (c : Command). parts_row class (parts c)) given (command ∷ []),
+          ))
+          (sym (missed_calls calls outcomes));
+      pinned = omega (arith, going.pinned, done.pinned, long_more given calls command outcomes going.as_many);
+    }
+
+begun_none : (end : End) (parts : ℕ) → IsBegun end 0 parts
+begun_none Clean parts = refl
+begun_none (Protocol kind place) parts = refl
+begun_none (Truncated place) parts = refl
+begun_none TooLong parts = refl
+begun_none ReadFault parts = refl
+begun_none Memory parts = inl refl
+begun_none Left parts = refl
+
+rows_front : (class : Class) (given rest : List Command)
+    → commands_row class given ≤ commands_row class (given ++ rest)
+rows_front class given rest = omega (arith, total-append (λ (c : Command). parts_row class (parts c)) given rest)
+
+pub going_ends : GoingEnds
+going_ends z shards session given rest calls texts pins told opened seat looks end going replies =
+    let all = first_calls shards session given rest calls going.as_many in
+    record {
+      is_run = record {
+        replies_are = replies ∙ sym going.as_many;
+        calls_are = all.are going.are;
+        behind_are = tt;
+        begun_is = begun_none end.end _;
+      };
+      told_is = going.told_is ∙ sym all.told ∙ sym (append-nil (calls_told shards session 0 (given ++ rest) calls));
+      texts_are = going.texts_are ∙ ap (flat_map reply_text) (sym all.replies);
+      sought = sought_as z _ _ _ _ opened seat going.sought (λ class. rows_front class given rest) (omega arith);
+      pinned = omega (arith, going.pinned, ap (total (λ p. long_in p.0 p.1)) all.parts);
+    }
+
+-- the call behind the given ones
+next_is : (given : List Command) (command : Command) (rest : List Command)
+    → slice_get (given ++ command ∷ rest) (length given) ≡ Some command
+next_is [] command rest = refl
+next_is (c ∷ given) command rest = next_is given command rest
+
+next_parts_are : (given : List Command) (calls : List Outcomes) (command : Command) (rest : List Command)
+    → length calls ≡ length given → next_parts (length calls) (given ++ command ∷ rest) ≡ parts command
+next_parts_are given calls command rest long =
+    ap (λ n. next_parts n (given ++ command ∷ rest)) long
+    ∙ ap (λ (found : Option Command). flat_map parts (option_to_list found)) (next_is given command rest)
+    ∙ append-nil (parts command)
+
+pub going_breaks : GoingBreaks
+going_breaks z shards session given rest calls texts pins command outcomes old new opened seat after looks end going
+    short replies memory =
+    let all = first_calls shards session given (command ∷ rest) calls going.as_many in
+    let next = next_parts_are given calls command rest going.as_many in
+    record {
+      is_run = record {
+        replies_are = replies ∙ sym going.as_many;
+        calls_are = all.are going.are;
+        behind_are = subst (λ operations. AreOutcomes operations outcomes) (sym next) short.are;
+        begun_is = subst (λ (y : End × List Operation). IsBegun y.0 (length outcomes) (length y.1))
+            (λ i. (sym memory i, sym next i)) short.short;
+      };
+      told_is = short.told ∙ (λ i. (going.told_is ∙ sym all.told) i
+          ++ call_told shards session (sym going.as_many i) 0 (sym next i) outcomes);
+      texts_are = going.texts_are ∙ ap (flat_map reply_text) (sym all.replies);
+      sought = sought_as z _ _ _ _ opened after
+          (sought_then z (λ class. commands_row class given) (λ class. parts_row class (parts command))
+          (missed_by calls) (missed_in outcomes) opened seat after going.sought short.sought)
+          (λ class. omega (arith, total-append (λ (c : Command). parts_row class (parts c)) given (command ∷ rest)))
+          refl;
+      pinned = omega (arith, going.pinned, ap (total (λ p. long_in p.0 p.1)) all.parts);
+    }
+
+pub with_stage : WithStage
+with_stage z run opened seat stage calls =
+    let missed = missed_by run.calls + missed_in run.behind in
+    let whole = sought_then z stage_row (λ class. commands_row class run.commands) 0 missed nobody opened seat stage
+    calls in
+    sought_as z _ _ _ _ nobody seat whole (λ class. omega arith) (omega arith)
+
+pub session_ran : SessionRan
+session_ran z shards session input left run texts pins told opened seat last old new stage is finished is_session
+    grew =
+    let missed = missed_by run.calls + missed_in run.behind in
+    let sought = with_stage z run opened last stage
+    (sought_still z (λ (class : Class). commands_row class run.commands) missed opened seat last is.sought
+    finished.claims finished.looks) in
+    record {
+      run = run;
+      is_run = is.is_run;
+      is_session = is_session;
+      end_is = refl;
+      list_is = λ i. record { number = session; told = is.told_is i; looks = run.looks };
+      seat_is = record {
+        holds = finished.holds;
+        sought = sought;
+        returned = omega (arith, is.pinned, finished.returns);
+      };
+      sent = subst (λ t. Grew run.end.failed t old new) is.texts_are grew;
+    }

@@ -1,0 +1,10 @@
+pub mod Steps
+pub mod Seats
+pub mod Going
+pub mod Places
+pub mod Calls
+pub mod Answers
+pub mod InOrder
+pub mod Served
+pub mod Merged
+pub mod OneHistory

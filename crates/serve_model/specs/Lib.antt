@@ -1,0 +1,10 @@
+pub mod Runs
+pub mod Demand
+pub mod Seats
+pub mod Going
+pub mod Steps
+pub mod Handed
+pub mod Lists
+pub mod Shown
+pub mod Stages
+pub mod Cuts

@@ -1,0 +1,60 @@
+-- What seats of the pool have together, and what a session's seat has at its end.
+use Rattle.std.specs.Prelude.{◌≡◌, ℕ, ◌+◌, ◌≤◌, List, [], ◌∷◌}
+use Rattle.view_sums.specs.Total.{total, SameItems}
+use Rattle.pin_core.specs.Holding.{Holding}
+use Rattle.pin_core.specs.declared.class.Class.{Class}
+use Rattle.pin_core.specs.declared.sizes.Sizes.{Sizes}
+use Rattle.pinned_pool.specs.Moves.{joined}
+use Rattle.pinned_pool.specs.Sought.{Sought}
+use Rattle.pinned_pool.specs.Views.{nobody, looked_at}
+use Rattle.pinned_pool.specs.declared.view.View.{View}
+use Rattle.call_model.specs.Demand.{long_in}
+use Rattle.call_model.specs.Outcomes.{missed_in}
+use Rattle.call_model.specs.Stock.{IsIdle}
+use Rattle.serve_model.specs.Demand.{session_row}
+use Rattle.serve_model.specs.Runs.{Run, missed_by, parts_told}
+
+-- the seat has what these seats have together
+pub record HasAll (seats : List View) (all : View) : Type 0 where
+  pub holds : (weight : Holding → ℕ) → total weight all.holds ≡ total (λ (v : View). total weight v.holds) seats
+  pub credits : all.credits ≡ total (λ (v : View). v.credits) seats
+  pub claims : (weight : ℕ → ℕ) → total weight all.claims ≡ total (λ (v : View). total weight v.claims) seats
+  pub looks : (b : ℕ) → looked_at b all.looks ≡ total (λ (v : View). looked_at b v.looks) seats
+  pub returns : all.returns ≡ total (λ (v : View). v.returns) seats
+
+-- a join adds a seat
+abbrev pub JoinsAdd : Type 0
+JoinsAdd = (seats : List View) (all seat : View) → HasAll seats all → HasAll (seat ∷ seats) (joined all seat)
+
+-- a seat has what it has
+abbrev pub OneSeat : Type 0
+OneSeat = (seat : View) → HasAll (seat ∷ []) seat
+
+-- in whatever order
+abbrev pub AnyOrder : Type 0
+AnyOrder = (seats others : List View) (all : View) → HasAll seats all → SameItems seats others → HasAll others all
+
+-- from a seat that never claimed it is as from no seat
+abbrev pub IdleStarts : Type 0
+IdleStarts = (z : Sizes) (rows : Class → ℕ) (requests : ℕ) (idle seat : View) → IsIdle idle
+    → Sought z rows requests idle seat → Sought z rows requests nobody seat
+
+-- a seat that never claimed, and holds nothing
+pub record IsSpare (seat : View) : Type 0 where
+  pub holds : seat.holds ≡ []
+  pub idle : IsIdle seat
+
+-- A session's seat at its end: within the rows of its stage and its commands, and with a pinned hold given back for
+-- each long fragment that its GETs found.
+pub record IsSpentSeat (z : Sizes) (run : Run) (seat : View) : Type 0 where
+  pub holds : seat.holds ≡ []
+  pub sought : Sought z (λ (class : Class). session_row class run.commands)
+      (missed_by run.calls + missed_in run.behind) nobody seat
+  pub returned : total (λ part. long_in part.0 part.1) (parts_told run.commands run.calls) ≤ seat.returns
+
+-- each session has its seat
+abbrev pub AreSpentSeats : Sizes → List Run → List View → Type 0
+AreSpentSeats z [] [] = Unit {0}
+AreSpentSeats z [] (seat ∷ seats) = ⊥
+AreSpentSeats z (run ∷ runs) [] = ⊥
+AreSpentSeats z (run ∷ runs) (seat ∷ seats) = IsSpentSeat z run seat × AreSpentSeats z runs seats

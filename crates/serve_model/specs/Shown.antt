@@ -1,0 +1,61 @@
+-- What the end of a served pool shows, by the journal.
+use Rattle.std.specs.Prelude.{◌≡◌, ℕ, ◌+◌, ◌<◌, ◌≤◌, List, Option}
+use Rattle.std.specs.List.{flat_map}
+use Rattle.std.specs.FinMap as finite
+use Rattle.view_sums.specs.Total.{total}
+use Rattle.flake_base.specs.declared.journal.Entry.{Entry}
+use Rattle.flake_base.specs.declared.session.SessionEnd.{SessionEnd}
+use Rattle.pin_core.specs.declared.class.Class.{Class}
+use Rattle.pin_core.specs.declared.class.Class.TheVariants.{Small, Large}
+use Rattle.pin_core.specs.declared.sizes.Sizes.{Sizes}
+use Rattle.pinned_pool.specs.Claims.{count_of}
+use Rattle.pinned_pool.specs.Classes.{buffers_in}
+use Rattle.pinned_pool.specs.Ends.{End}
+use Rattle.pinned_pool.specs.Views.{looked_at}
+use Rattle.frag_value.specs.Fragments.{fragments_in}
+use Rattle.flake_model.specs.Command.{Command}
+use Rattle.flake_model.specs.Fragments.{fragments_of}
+use Rattle.flake_model.specs.Journal.{Step, step_of, store_after, answers_of, answer_at}
+use Rattle.flake_model.specs.Run.{WasServed, all_commands, served_steps, missing_writes}
+use Rattle.flake_model.specs.Session.{Session}
+use Rattle.call_model.specs.Demand.{long_in}
+use Rattle.serve_model.specs.Demand.{demand_of}
+
+-- the values that a journal leaves
+abbrev pub values_left : List (List Command) → List (List Entry) → List (List ℕ)
+values_left commands journal =
+    flat_map
+    (λ (history : List Entry). finite.values (store_after finite.empty (flat_map (step_of commands) history)))
+    journal
+
+-- how many of their fragments need a buffer of the class
+abbrev pub fragments_by_class : Class → List (List Command) → List (List Entry) → ℕ
+fragments_by_class class commands journal =
+    total (λ (bytes : List ℕ). fragments_in class (fragments_of bytes)) (values_left commands journal)
+
+-- how many long fragments the GETs of all calls that have their reply found
+abbrev pub long_found : List Session → List (List Entry) → ℕ
+long_found sessions journal =
+    let answers = answers_of (all_commands sessions) journal in
+    total (λ (step : Step). long_in step.1 (answer_at step.0 answers)) (served_steps 0 sessions)
+
+-- The buffers that are held, that were claimed and that were missed, and the pinned holds that were given back.
+pub record IsCounted (z : Sizes) (sessions : List Session) (journal : List (List Entry)) (end : End) : Type 0 where
+  -- a buffer is held for each fragment of a final value
+  pub held_small : end.small ≡ fragments_by_class Small (all_commands sessions) journal
+  pub held_large : end.large ≡ fragments_by_class Large (all_commands sessions) journal
+  pub claims : (class : Class) → buffers_in z class end.seat.claims ≤ demand_of class (all_commands sessions)
+  -- each write that is missing missed a buffer, of the one class or the other
+  pub missed : Class → ℕ
+  pub missed_are : missed Small + missed Large ≡ missing_writes sessions journal
+  -- each of whose buffers was found held as often
+  pub looks_small : (b : ℕ) → b < z.small → missed Small ≤ looked_at b end.seat.looks
+  pub looks_large : (b : ℕ) → z.small ≤ b → b < z.small + z.large → missed Large ≤ looked_at b end.seat.looks
+  pub exceeded : (class : Class) → 0 < missed class → count_of z class < demand_of class (all_commands sessions)
+  pub returned : long_found sessions journal ≤ end.seat.returns
+
+-- What a whole run says: the inputs were served, and the end of the pool is that of their commands.
+pub record WasRun (z : Sizes) (inputs lefts : List (Option (List ℕ))) (ends : List SessionEnd)
+    (journal : List (List Entry)) (olds news : List (Option (List ℕ))) (end : End) : Type 0 where
+  pub served : WasServed inputs lefts ends journal olds news
+  pub counted : IsCounted z served.sessions journal end

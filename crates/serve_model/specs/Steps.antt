@@ -1,0 +1,102 @@
+-- How a session goes on, call by call, and how it ends.
+use Rattle.std.specs.Prelude.{◌≡◌, ℕ, ◌+◌, List, [], ◌∷◌, ◌++◌, Option, length}
+use Rattle.flake_base.specs.Growth.{Grew}
+use Rattle.flake_base.specs.declared.session.End.TheVariants as how
+use Rattle.flake_base.specs.declared.session.SessionEnd.{SessionEnd}
+use Rattle.pin_core.specs.declared.class.Class.{Class}
+use Rattle.pin_core.specs.declared.sizes.Sizes.{Sizes}
+use Rattle.pinned_pool.specs.Sought.{Sought}
+use Rattle.pinned_pool.specs.Views.{nobody}
+use Rattle.pinned_pool.specs.declared.view.View.{View}
+use Rattle.flake_model.specs.Command.{Command, parts}
+use Rattle.flake_model.specs.Deed.{Deed}
+use Rattle.flake_model.specs.Session.{IsSession}
+use Rattle.call_model.specs.Calls.{IsExecuted, IsCutShort}
+use Rattle.call_model.specs.Outcomes.{Outcomes, Told, AreOutcomes, call_told, missed_in}
+use Rattle.serve_model.specs.Demand.{stage_row, commands_row, session_row}
+use Rattle.serve_model.specs.Going.{IsGoing, HasEnded, IsFinished}
+use Rattle.serve_model.specs.Handed.{HasRun}
+use Rattle.serve_model.specs.Runs.{Run, AreCalls, calls_told, replies_told, parts_told, missed_by, session_of}
+
+-- what is said of the first calls of a session, and of one call more
+pub record HasCallMore (shards session : ℕ) (given : List Command) (calls : List Outcomes) (command : Command)
+    (outcomes : Outcomes) : Type 0 where
+  pub told : calls_told shards session 0 (given ++ command ∷ []) (calls ++ outcomes ∷ [])
+      ≡ calls_told shards session 0 given calls
+      ++ call_told shards session (length given) 0 (parts command) outcomes
+  pub are : AreCalls given calls → AreOutcomes (parts command) outcomes
+      → length outcomes ≡ length (parts command) → AreCalls (given ++ command ∷ []) (calls ++ outcomes ∷ [])
+
+abbrev pub CallsAdd : Type 0
+CallsAdd = (shards session : ℕ) (given : List Command) (calls : List Outcomes) (command : Command)
+    (outcomes : Outcomes) → length calls ≡ length given → HasCallMore shards session given calls command outcomes
+
+-- what was said of the first calls stands when more commands are known
+pub record StaysSaid (shards session : ℕ) (given rest : List Command) (calls : List Outcomes) : Type 0 where
+  pub told : calls_told shards session 0 (given ++ rest) calls ≡ calls_told shards session 0 given calls
+  pub are : AreCalls given calls → AreCalls (given ++ rest) calls
+  pub replies : replies_told (given ++ rest) calls ≡ replies_told given calls
+  pub parts : parts_told (given ++ rest) calls ≡ parts_told given calls
+
+abbrev pub FirstCalls : Type 0
+FirstCalls = (shards session : ℕ) (given rest : List Command) (calls : List Outcomes)
+    → length calls ≡ length given → StaysSaid shards session given rest calls
+
+-- before the first call
+abbrev pub GoingStarts : Type 0
+GoingStarts = (z : Sizes) (shards session : ℕ) (opened : View)
+    → IsGoing z shards session [] [] [] 0 [] opened opened
+
+-- frames that come back change neither claims nor looks
+abbrev pub GoingRests : Type 0
+GoingRests = (z : Sizes) (shards session : ℕ) (given : List Command) (calls : List Outcomes) (texts : List ℕ)
+    (pins : ℕ) (told : Told) (opened seat after : View) → after.claims ≡ seat.claims → after.looks ≡ seat.looks
+    → IsGoing z shards session given calls texts pins told opened seat
+    → IsGoing z shards session given calls texts pins told opened after
+
+-- one call more
+abbrev pub GoingOn : Type 0
+GoingOn = (z : Sizes) (shards session : ℕ) (given : List Command) (calls : List Outcomes) (texts text : List ℕ)
+    (pins more : ℕ) (command : Command) (outcomes : Outcomes) (old new : Told) (opened seat after : View)
+    → IsGoing z shards session given calls texts pins old opened seat
+    → IsExecuted z shards session (length given) command outcomes text more old new seat after
+    → IsGoing z shards session (given ++ command ∷ []) (calls ++ outcomes ∷ []) (texts ++ text) (pins + more) new
+    opened after
+
+-- a session that stops between two calls, or behind its last
+abbrev pub GoingEnds : Type 0
+GoingEnds = (z : Sizes) (shards session : ℕ) (given rest : List Command) (calls : List Outcomes) (texts : List ℕ)
+    (pins : ℕ) (told : Told) (opened seat : View) (looks : List (ℕ × List Deed)) (end : SessionEnd)
+    → IsGoing z shards session given calls texts pins told opened seat → end.replies ≡ length given
+    → HasEnded z shards session
+    (record { commands = given ++ rest; calls = calls; behind = []; looks = looks; end = end })
+    texts pins told opened seat
+
+-- a session in one of whose calls memory was wanting
+abbrev pub GoingBreaks : Type 0
+GoingBreaks = (z : Sizes) (shards session : ℕ) (given rest : List Command) (calls : List Outcomes) (texts : List ℕ)
+    (pins : ℕ) (command : Command) (outcomes : Outcomes) (old new : Told) (opened seat after : View)
+    (looks : List (ℕ × List Deed)) (end : SessionEnd)
+    → IsGoing z shards session given calls texts pins old opened seat
+    → IsCutShort z shards session (length given) command outcomes old new seat after
+    → end.replies ≡ length given → end.end ≡ how.Memory
+    → HasEnded z shards session
+    (record { commands = given ++ command ∷ rest; calls = calls; behind = outcomes; looks = looks; end = end })
+    texts pins new opened after
+
+-- what a session claimed, with its stage
+abbrev pub WithStage : Type 0
+WithStage = (z : Sizes) (run : Run) (opened seat : View) → Sought z stage_row 0 nobody opened
+    → Sought z (λ (class : Class). commands_row class run.commands) (missed_by run.calls + missed_in run.behind)
+    opened seat
+    → Sought z (λ (class : Class). session_row class run.commands) (missed_by run.calls + missed_in run.behind)
+    nobody seat
+
+-- So the session ran, where its input is told so, and its wire grew by the texts of its frames.
+abbrev pub SessionRan : Type 0
+SessionRan = (z : Sizes) (shards session : ℕ) (input left : Option (List ℕ)) (run : Run) (texts : List ℕ) (pins : ℕ)
+    (told : Told) (opened seat last : View) (old new : Option (List ℕ)) → Sought z stage_row 0 nobody opened
+    → HasEnded z shards session run texts pins told opened seat → IsFinished pins seat last
+    → IsSession (session_of input left run) → Grew run.end.failed texts old new
+    → HasRun z shards session input left run.end (record { number = session; told = told; looks = run.looks }) last
+    old new
