@@ -1,8 +1,9 @@
 -- Puts and flushes, one after another.
-use Rattle.std.proofs.Common.{ℕ, Bool, true, false, List, [], ◌∷◌, ◌++◌, arith, refl, sym, subst, append_assoc, append-nil}
+use Rattle.std.proofs.Common.{◌<◌, ℕ, Bool, true, false, List, [], ◌∷◌, ◌++◌, length, arith, refl, sym, subst, append_assoc, append-nil}
 use Rattle.std.specs.Borrow.{Bor}
 use Rattle.std.proofs.lemmas.List.{length-append}
-use Rattle.any_wire.specs.Sends.{Step, puts, flushes, bytes_put, joined, Chain, Sends, Flushes}
+use Rattle.view_sums.specs.Total.{Each}
+use Rattle.any_wire.specs.Sends.{Step, puts, flushes, bytes_put, joined, IsShort, Chain, Sends, Flushes}
 use Rattle.flake_base.specs.Growth.{Grew}
 use Rattle.flake_base.specs.Told.{WireTold}
 use Rattle.flake_model.specs.Wire.{FaultIs, KeptIs}
@@ -61,32 +62,32 @@ module _
     (flush_may : W → (W × Bool) → Type 0)
     (tells : W → WireTold)
     (says : AreTold put_may flush_may tells) where
-  chain_told : (steps : List Step) (failed now : Bool) (front : List ℕ) (first w end : W)
+  chain_told : (steps : List Step) → Each IsShort steps → (failed now : Bool) (front : List ℕ) (first w end : W)
       → WasSent failed front (tells first) (tells w) → Chain put_may flush_may steps failed now w end
       → WasSent now (front ++ joined steps) (tells first) (tells end)
-  chain_told [] failed now front first w end was h =
+  chain_told [] short failed now front first w end was h =
       subst (λ t. WasSent now t (tells first) (tells end)) (sym (append-nil front))
       (subst (λ v. WasSent now front (tells first) (tells v)) (sym h.0)
       (subst (λ f. WasSent f front (tells first) (tells w)) (sym h.1) was))
-  chain_told (step ∷ steps) true now front first w end was h =
+  chain_told (step ∷ steps) short true now front first w end was h =
       behind front (bytes_put step) (joined steps) now (tells first) (tells end)
-      (chain_told steps true now (front ++ bytes_put step) first w end
+      (chain_told steps short.1 true now (front ++ bytes_put step) first w end
       (no_more front (bytes_put step) (tells first) (tells w) was) h)
-  chain_told (puts piece ∷ steps) false now front first w end was h =
+  chain_told (puts piece ∷ steps) short false now front first w end was h =
       let one : PutIs h.0.1 piece (tells w) (tells h.0.0) =
-      subst (λ t. PutIs h.0.1 t (tells w) (tells h.0.0)) h.2 (says.put w h.1 h.0 h.3) in
+      subst (λ t. PutIs h.0.1 t (tells w) (tells h.0.0)) h.2 (says.put w h.1 h.0 (subst (λ t. 0 < length t) (sym h.2) short.0.0) h.3) in
       behind front piece (joined steps) now (tells first) (tells end)
-      (chain_told steps h.0.1 now (front ++ piece) first h.0.0 end
+      (chain_told steps short.1 h.0.1 now (front ++ piece) first h.0.0 end
       (put_more h.0.1 front piece (tells first) (tells w) (tells h.0.0) was one) h.4)
-  chain_told (flushes ∷ steps) false now front first w end was h =
-      chain_told steps h.0.1 now front first h.0.0 end
+  chain_told (flushes ∷ steps) short false now front first w end was h =
+      chain_told steps short.1 h.0.1 now front first h.0.0 end
       (flush_more h.0.1 front (tells first) (tells w) (tells h.0.0) was (says.flush w h.0 h.1)) h.2
 
   pub sends_told : (failed : Bool) (text : List ℕ) (w end : W) → Sends put_may flush_may false failed text w end
       → WasSent failed text (tells w) (tells end)
   sends_told failed text w end sends =
       subst (λ t. WasSent failed t (tells w) (tells end)) (sym sends.whole)
-      (chain_told sends.steps false failed [] w w end (nothing_sent (tells w)) sends.chain)
+      (chain_told sends.steps sends.short false failed [] w w end (nothing_sent (tells w)) sends.chain)
 
   pub flush_told : (failed now : Bool) (text : List ℕ) (w mid end : W) → WasSent failed text (tells w) (tells mid)
       → Flushes flush_may failed now mid end → WasSent now text (tells w) (tells end) × KeptIs now (tells mid).kept (tells end).kept

@@ -1,5 +1,5 @@
 -- What a wire was sent, by what it tells.
-use Rattle.std.specs.Prelude.{ℕ, Bool, false, List, length}
+use Rattle.std.specs.Prelude.{ℕ, ◌<◌, Bool, false, List, length}
 use Rattle.std.specs.Borrow.{Bor}
 use Rattle.any_wire.specs.Sends.{Sends, Flushes}
 use Rattle.flake_base.specs.Growth.{Grew}
@@ -30,7 +30,7 @@ module _
     (tells : W → WireTold) where
   -- the puts and flushes tell what they do
   pub record AreTold : Type 0 where
-    pub put : (w : W) (piece : Bor (List ℕ)) (r : W × Bool) → put_may w piece r
+    pub put : (w : W) (piece : Bor (List ℕ)) (r : W × Bool) → 0 < length piece.now → put_may w piece r
         → PutIs r.1 piece.now (tells w) (tells r.0)
     pub flush : (w : W) (r : W × Bool) → flush_may w r → FlushIs r.1 (tells w) (tells r.0)
 
