@@ -3,7 +3,6 @@ use Rattle.std.proofs.Common.{◌≡◌, ℕ, Bool, true, false, List, [], ◌�
 use Rattle.std.specs.Borrow.{Bor}
 use Rattle.any_wire.specs.Sends.{Sends, Flushes}
 use Rattle.flake_base.specs.Growth.{Grew}
-use Rattle.flake_base.specs.Roomy.{Roomy}
 use Rattle.flake_base.specs.Told.{WireTold}
 use Rattle.flake_base.specs.declared.journal.Entry.{Entry}
 use Rattle.flake_base.specs.declared.session.SessionEnd.{SessionEnd}
@@ -13,7 +12,7 @@ use Rattle.flake_model.specs.Session.{Session}
 use Rattle.flake_model.specs.Wire.{WiresGrew, HasPut, BytesAre, KeptIs}
 use Rattle.pin_core.specs.declared.sizes.Sizes.{Sizes}
 use Rattle.pinned_pool.specs.Ends.{End}
-use Rattle.serve_one.specs.Ran.{HasShown, IsServedTo, histories}
+use Rattle.serve_one.specs.Ran.{HasShown, RanOne}
 use Rattle.wire_told.specs.Sent.{WasSent, AreTold}
 use Rattle.wire_told.proofs.Sent.{sends_told, flush_told}
 use Rattle.flake_program.specs.Serving.{IsRun}
@@ -51,16 +50,16 @@ was_run told z first new wires input left end text journal pool shown sent kept 
     }
 
 -- of a wire whose puts and flushes tell what they do
-pub served_to : {W : Type 0} (put_may : W → Bor (List ℕ) → (W × Bool) → Type 0) (flush_may : W → (W × Bool) → Type 0) (told : W → WireTold) (z : Sizes) (shards : ℕ) (input left : Option (List ℕ)) (end : SessionEnd)
-    (journal : List (Roomy Entry)) (pool : End) (first new : W) (wires olds news : List W) → AreTold put_may flush_may told
-    → IsServedTo put_may flush_may z shards input left end journal pool first new → olds ≡ first ∷ wires → news ≡ new ∷ wires
-    → IsRun z input left end (histories journal) pool olds news told
-served_to put_may flush_may told z shards input left end journal pool first new wires olds news says served before after =
-    let sent = sends_told put_may flush_may told says served.failed served.text first served.mid served.sends in
-    let flushed = flush_told put_may flush_may told says served.failed end.failed served.text first served.mid new sent served.flushes in
-    subst (λ ws. IsRun z input left end (histories journal) pool ws news told) (sym before)
-    (subst (λ ws. IsRun z input left end (histories journal) pool (first ∷ wires) ws told) (sym after)
-    (was_run told z first new wires input left end served.text (histories journal) pool served.shown flushed.0 (kept_from end.failed _ _ _ flushed.1))) where
+pub served_to : {W : Type 0} (put_may : W → Bor (List ℕ) → (W × Bool) → Type 0) (flush_may : W → (W × Bool) → Type 0) (told : W → WireTold) (z : Sizes) (input left : Option (List ℕ)) (end : SessionEnd)
+    (journal : List (List Entry)) (pool : End) (first new : W) (wires olds news : List W) → AreTold put_may flush_may told
+    → RanOne put_may flush_may z input left end journal pool first new → olds ≡ first ∷ wires → news ≡ new ∷ wires
+    → IsRun z input left end journal pool olds news told
+served_to put_may flush_may told z input left end journal pool first new wires olds news says served before after =
+    let sent = sends_told put_may flush_may told says served.sends.between served.text first served.sends.middle served.sends.sends in
+    let flushed = flush_told put_may flush_may told says served.sends.between end.failed served.text first served.sends.middle new sent served.sends.flushed in
+    subst (λ ws. IsRun z input left end journal pool ws news told) (sym before)
+    (subst (λ ws. IsRun z input left end journal pool (first ∷ wires) ws told) (sym after)
+    (was_run told z first new wires input left end served.text journal pool served.shown flushed.0 (kept_from end.failed _ _ _ flushed.1))) where
       kept_from : (failed : Bool) (first mid new : ℕ) → KeptIs failed mid new → KeptIs failed first new
       kept_from true first mid new kept = tt
       kept_from false first mid new kept = kept

@@ -6,7 +6,7 @@ use Rattle.flake_base.specs.declared.session.End.{End}
 use Rattle.flake_base.specs.declared.session.SessionEnd.{SessionEnd}
 use Rattle.pin_core.specs.declared.class.Held.{Held}
 use Rattle.pinned_pool.specs.Ends.{End as PoolEnd}
-use Rattle.serve_one.specs.Ran.{histories}
+use Rattle.shard_store.specs.Journals.{histories}
 use Rattle.flake_program.specs.declared.outcome.Detail.{Detail}
 
 -- a source that was opened: its file's number, what it has left, and how often its reads failed

@@ -1,7 +1,7 @@
 // A source that is served to the first wire.
 ghost use Rattle.std.specs.Prelude.{◌≡◌, ◌≢◌, ◌<◌, ◌∷◌, [], length, vec_len, vec_capacity, IfOk, IfErr};
 ghost use Rattle.command_pump.specs.Pump.{EndFaults};
-ghost use Rattle.serve_one.specs.Ran.{histories};
+ghost use Rattle.shard_store.specs.Journals.{histories};
 ghost use Rattle.flake_program.specs.Serving.{IsRun};
 ghost use Rattle.flake_program.specs.Task.{pool_sizes, shard_count};
 ghost use Rattle.wire_told.specs.Sent.{PutIs, FlushIs};
@@ -97,7 +97,7 @@ pub fn serve_source<R: Wait, S: Source>(
     let served = serve_one(
         rt,
         alloc,
-        SIZES,
+        &SIZES,
         source,
         wire,
         &|w: Box<dyn Wire>, piece: &[u8]| -> (Box<dyn Wire>, bool)
