@@ -1,4 +1,3 @@
-pub mod Serving
 pub mod Served
 pub mod Ran
 pub mod RanServed
@@ -7,4 +6,5 @@ pub mod RanCauses
 pub mod RanSaid
 pub mod RanComplete
 pub mod Unopened
+pub mod Unserved
 pub mod RanAll

@@ -6,10 +6,10 @@ use Rattle.flake_base.specs.Growth.{Grew}
 use Rattle.flake_base.specs.Told.{HostTold, WireTold}
 use Rattle.flake_base.specs.declared.session.End.TheVariants.{Left}
 use Rattle.flake_base.specs.declared.session.SessionEnd.{SessionEnd}
-use Rattle.flake_model.specs.Said.{summary_from}
+use Rattle.pinned_pool.specs.Ends.{End as PoolEnd}
 use Rattle.flake_program.specs.declared.outcome.Detail.TheVariants.{Nothing}
 use Rattle.command_pump.specs.Pump.{EndFaults}
-use Rattle.flake_program.specs.Task.{Task}
+use Rattle.flake_program.specs.Task.{Task, pool_sizes, shard_count}
 use Rattle.flake_program.specs.Outside.{outside}
 use Rattle.flake_program.specs.Outcome.{Done, SourceTold}
 use Rattle.flake_program.specs.Serving.{IsRun}
@@ -17,7 +17,7 @@ use Rattle.flake_program.specs.Served.{Served}
 use Rattle.flake_program.specs.Untouched.{Untouched}
 use Rattle.flake_program.specs.Causes.{Causes, status_by}
 use Rattle.flake_program.specs.Complete.{Complete}
-use Rattle.flake_program.specs.Said.{Said, Says}
+use Rattle.flake_program.specs.Said.{Said, Says, summary_of}
 
 -- the statuses of what was served
 abbrev pub IsServedStatus : ℕ → Type 0
@@ -31,14 +31,17 @@ pub record Ran {W : Type 0} (tells : W → WireTold) (task : Task) (name : List 
   pub detail_is : done.detail ≡ Nothing
   pub sources_are : done.sources ≡ source ∷ []
   pub file_is : source.file ≡ 0
-  pub run : IsRun (host.holds name) source.left end done.journal wires after tells
-  pub shards : length done.journal ≡ 8
+  pub pool : PoolEnd
+  pub pool_is : done.pool ≡ Some pool
+  pub held : (done.held.small ≡ pool.small) × (done.held.large ≡ pool.large)
+  pub run : IsRun pool_sizes (host.holds name) source.left end done.journal pool wires after tells
+  pub shards : length done.journal ≡ shard_count
   pub reads : EndFaults end.end 0 source.faults
   pub to_the_end : end.end ≢ Left
   pub opens : now.opens ≡ counted host.opens
   pub holds : (other : List ℕ) → other ≢ name → now.holds other ≡ host.holds other
   pub open_faults : (other : List ℕ) → now.open_faults other ≡ host.open_faults other
-  pub said : done.status ≢ 6 → Says (summary_from 0 (end ∷ [])) host now
+  pub said : done.status ≢ 6 → Says (summary_of (end ∷ []) done.held) host now
   pub statuses : IsServedStatus done.status
   pub by_end : done.status ≢ 5 → done.status ≢ 6 → (done.status ≡ status_by end.end) × (end.failed ≡ false) × (now.say_faults ≡ host.say_faults)
   pub failed : done.status ≡ 5 → (status_by end.end ≢ 6) × ((end.failed ≡ true) ⊎ Rose host.say_faults now.say_faults)

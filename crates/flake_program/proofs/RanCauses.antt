@@ -53,7 +53,7 @@ some_failed failed olds news P faults (inr said) = inl said
 
 causes_as : {W : Type 0} (tells : W → WireTold) (name : List ℕ) (host now : HostTold) (wires after : List W) (done : Done) (end : SessionEnd) (source : SourceTold) (task : Task)
     → Ran tells task name host now wires after done end source
-    → Causes (Some name) (outside host wires tells) (outside now after tells) (record { status = done.status; detail = done.detail; ends = end ∷ []; journal = done.journal; sources = source ∷ [] })
+    → Causes (Some name) (outside host wires tells) (outside now after tells) (record done { ends = end ∷ []; sources = source ∷ [] })
 causes_as tells name host now wires after done end source task r = record {
   statuses = any_status done.status r.statuses;
   served = λ status. refl;
@@ -83,5 +83,5 @@ pub ran_causes : {W : Type 0} (tells : W → WireTold) (task : Task) (name : Lis
 ran_causes tells task name host now wires after done end source r =
     let known = causes_as tells name host now wires after done end source task r in
     subst (λ t. Causes t (outside host wires tells) (outside now after tells) done) (sym r.task_is)
-    (subst (λ sources. Causes (Some name) (outside host wires tells) (outside now after tells) (record { status = done.status; detail = done.detail; ends = done.ends; journal = done.journal; sources = sources })) (sym r.sources_are)
-    (subst (λ ends. Causes (Some name) (outside host wires tells) (outside now after tells) (record { status = done.status; detail = done.detail; ends = ends; journal = done.journal; sources = source ∷ [] })) (sym r.ends_are) known))
+    (subst (λ sources. Causes (Some name) (outside host wires tells) (outside now after tells) (record done { sources = sources })) (sym r.sources_are)
+    (subst (λ ends. Causes (Some name) (outside host wires tells) (outside now after tells) (record done { ends = ends; sources = source ∷ [] })) (sym r.ends_are) known))

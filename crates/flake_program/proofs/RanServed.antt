@@ -1,23 +1,49 @@
 -- The headline of a run that served its file.
-use Rattle.std.proofs.Common.{◌≢◌, ℕ, List, [], ◌∷◌, Some, ap, sym, subst}
+use Rattle.std.proofs.Common.{◌≡◌, ◌≢◌, ℕ, zero, suc, ◌<◌, ◌≤◌, List, [], ◌∷◌, Some, arith, refl, ap, sym, subst}
 use Rattle.std.proofs.lemmas.List.Elements.{All-from_recursion}
 use Rattle.flake_base.specs.Told.{HostTold, WireTold}
 use Rattle.flake_base.specs.declared.session.End.{End}
 use Rattle.flake_base.specs.declared.session.End.TheVariants.{Left}
 use Rattle.flake_base.specs.declared.session.SessionEnd.{SessionEnd}
-use Rattle.flake_program.specs.Task.{Task}
+use Rattle.pin_core.specs.declared.class.Class.{Class}
+use Rattle.pin_core.specs.declared.class.Class.TheVariants.{Small, Large}
+use Rattle.pin_core.specs.declared.sizes.Sizes.{Sizes}
+use Rattle.pinned_pool.specs.Claims.{count_of}
+use Rattle.pinned_pool.specs.Ends.{End as PoolEnd}
+use Rattle.flake_base.specs.declared.journal.Entry.{Entry}
+use Rattle.flake_model.specs.Run.{all_commands, missing_writes}
+use Rattle.flake_model.specs.Session.{Session}
+use Rattle.serve_model.specs.Demand.{demand_of}
+use Rattle.serve_model.specs.Shown.{IsCounted}
+use Rattle.flake_program.specs.Task.{Task, pool_sizes}
 use Rattle.flake_program.specs.Outside.{outside}
 use Rattle.flake_program.specs.Outcome.{Done, SourceTold}
 use Rattle.flake_program.specs.Served.{Served}
 use Rattle.flake_program.proofs.Ran.{Ran}
 
+-- no buffer is missed where there are as many as the commands may claim
+none_missed : (missed have need : ℕ) → (0 < missed → have < need) → need ≤ have → missed ≡ 0
+none_missed zero have need exceeded fits = refl
+none_missed (suc missed) have need exceeded fits = absurd (let more = exceeded (omega arith) in omega (arith, more, fits))
+
+enough : (z : Sizes) (sessions : List Session) (journal : List (List Entry)) (pool : PoolEnd) → IsCounted z sessions journal pool
+    → ((class : Class) → demand_of class (all_commands sessions) ≤ count_of z class) → missing_writes sessions journal ≡ 0
+enough z sessions journal pool counted fits =
+    let small = none_missed (counted.missed Small) _ _ (counted.exceeded Small) (fits Small) in
+    let large = none_missed (counted.missed Large) _ _ (counted.exceeded Large) (fits Large) in
+    omega (arith, counted.missed_are, small, large)
+
 -- the same, where task, ends and sources are what they are known to be
 served_as : {W : Type 0} (tells : W → WireTold) (name : List ℕ) (host now : HostTold) (wires after : List W) (done : Done) (end : SessionEnd) (source : SourceTold) (task : Task)
     → Ran tells task name host now wires after done end source
-    → Served (Some name) (outside host wires tells) (outside now after tells) (record { status = done.status; detail = done.detail; ends = end ∷ []; journal = done.journal; sources = source ∷ [] })
+    → Served (Some name) (outside host wires tells) (outside now after tells) (record done { ends = end ∷ []; sources = source ∷ [] })
 served_as tells name host now wires after done end source task r = record {
   run = r.run.run;
-  none_missing = r.run.none_missing;
+  pool = r.pool;
+  pool_is = r.pool_is;
+  shows = r.run.counted;
+  held = r.held;
+  none_missing = enough pool_sizes r.run.run.sessions done.journal r.pool r.run.counted;
   bytes = r.run.bytes;
   flushed = r.run.flushed;
   faults = r.run.faults;
@@ -33,5 +59,5 @@ pub ran_served : {W : Type 0} (tells : W → WireTold) (task : Task) (name : Lis
 ran_served tells task name host now wires after done end source r =
     let known = served_as tells name host now wires after done end source task r in
     subst (λ t. Served t (outside host wires tells) (outside now after tells) done) (sym r.task_is)
-    (subst (λ sources. Served (Some name) (outside host wires tells) (outside now after tells) (record { status = done.status; detail = done.detail; ends = done.ends; journal = done.journal; sources = sources })) (sym r.sources_are)
-    (subst (λ ends. Served (Some name) (outside host wires tells) (outside now after tells) (record { status = done.status; detail = done.detail; ends = ends; journal = done.journal; sources = source ∷ [] })) (sym r.ends_are) known))
+    (subst (λ sources. Served (Some name) (outside host wires tells) (outside now after tells) (record done { sources = sources })) (sym r.sources_are)
+    (subst (λ ends. Served (Some name) (outside host wires tells) (outside now after tells) (record done { ends = ends; sources = source ∷ [] })) (sym r.ends_are) known))

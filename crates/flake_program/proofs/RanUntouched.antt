@@ -25,6 +25,7 @@ pub ran_untouched : {W : Type 0} (tells : W → WireTold) (task : Task) (name : 
 ran_untouched tells task name host now wires after done end source r = record {
   wires = λ none. absurd (cc (none, r.ends_are));
   journal = λ none. absurd (cc (none, r.ends_are));
+  pool = λ none. absurd (cc (none, r.ends_are));
   refused = λ status. absurd (not_refused done.status r.statuses status);
   sources = λ status. absurd (not_refused done.status r.statuses status);
   holds = λ status. absurd (not_refused done.status r.statuses status);

@@ -1,40 +1,70 @@
 -- A served source is a served run of one session.
-use Rattle.std.proofs.Common.{◌≡◌, ◌<◌, ℕ, Bool, true, false, List, [], ◌∷◌, Option, length, get_or, set, map, take, arith, refl, sym, subst}
+use Rattle.std.proofs.Common.{◌≡◌, ℕ, Bool, true, false, List, [], ◌∷◌, Option, None, length, map, drop, refl, sym, ap, ◌∙◌, subst}
+use Rattle.std.specs.Borrow.{Bor}
+use Rattle.any_wire.specs.Sends.{Sends, Flushes}
+use Rattle.flake_base.specs.Growth.{Grew}
 use Rattle.flake_base.specs.Told.{WireTold}
 use Rattle.flake_base.specs.declared.journal.Entry.{Entry}
 use Rattle.flake_base.specs.declared.session.SessionEnd.{SessionEnd}
 use Rattle.flake_model.specs.Journal.{wire_text}
-use Rattle.flake_model.proofs.ManyShards.{many_shards_wire}
-use Rattle.flake_model.proofs.OneServed.{one_served}
-use Rattle.flake_model.specs.Run.{wire_texts}
+use Rattle.flake_model.specs.Run.{WasServed, all_commands, wire_texts}
 use Rattle.flake_model.specs.Session.{Session}
-use Rattle.flake_model.specs.Wire.{HasPut, BytesAre, KeptIs}
-use Rattle.command_pump.specs.Pump.{session_at}
-use Rattle.flake_program.specs.Serving.{texts_to, HasServed, IsRun}
+use Rattle.flake_model.specs.Wire.{WiresGrew, HasPut, BytesAre, KeptIs}
+use Rattle.pin_core.specs.declared.sizes.Sizes.{Sizes}
+use Rattle.pinned_pool.specs.Ends.{End}
+use Rattle.serve_one.specs.Ran.{HasShown, RanOne}
+use Rattle.wire_told.specs.Sent.{WasSent, AreTold}
+use Rattle.wire_told.proofs.Sent.{sends_told, flush_told}
+use Rattle.flake_program.specs.Serving.{IsRun}
 
-kept_is : (failed : Bool) (old new : ℕ) → (failed ≡ false → new ≡ 0) → KeptIs failed old new
-kept_is true old new none = tt
-kept_is false old new none = none refl
+-- what the wires of a run of one session are sent
+texts_are : (sessions : List Session) (journal : List (List Entry)) (end : SessionEnd) → map (λ (session : Session). session.end) sessions ≡ end ∷ []
+    → wire_texts sessions journal ≡ (end.failed, wire_text (all_commands sessions) journal 0 end.replies) ∷ []
+texts_are [] journal end ends = absurd (cc ends)
+texts_are (session ∷ []) journal end ends = let is : session.end ≡ end = cc ends in ap (λ (e : SessionEnd). (e.failed, wire_text (session.commands ∷ []) journal 0 e.replies) ∷ []) is
+texts_are (session ∷ other ∷ sessions) journal end ends = absurd (cc ends)
 
-pub was_run : {W : Type 0} (told : W → WireTold) (wires : List W) (first new : W) (input left : Option (List ℕ)) (end : SessionEnd) (journal : List (List Entry)) → 0 < length wires
-    → first ≡ get_or wires 0 first → 0 < length journal → HasServed input left end journal (told first) (told new) → (end.failed ≡ false → (told new).kept ≡ 0)
-    → IsRun input left end journal wires (set wires 0 new) told
-was_run told [] first new input left end journal some is shards served flushed = absurd (omega arith)
-was_run told (old ∷ wires) first new input left end journal some is shards served flushed =
-    let session : Session = session_at input left served.commands end served.begun in
-    let text : wire_text (served.commands ∷ []) journal 0 end.replies ≡ texts_to (take end.replies served.commands) = many_shards_wire served.commands end.replies served.begun journal shards served.sharded in
-    let all = one_served session journal (told first).sent (told new).sent (map (λ w. (told w).sent) wires) served.session shards served.sharded served.wire.sent in
-    subst (λ w. IsRun input left end journal (w ∷ wires) (new ∷ wires) told) is (record {
-      run = all.0;
-      none_missing = all.2;
-      bytes = subst (λ sessions. BytesAre (wire_texts sessions journal) (map (λ w. (told w).bytes) (first ∷ wires)) (map (λ w. (told w).bytes) (new ∷ wires))) (sym all.1)
-          (subst (λ t. HasPut end.failed (length t) (told first).bytes (told new).bytes) (sym text) served.wire.bytes, refl);
-      faults = (served.wire.faults, refl);
-      flushed = (kept_is end.failed (told first).kept (told new).kept flushed, refl);
+pub was_run : {W : Type 0} (told : W → WireTold) (z : Sizes) (first new : W) (wires : List W) (input left : Option (List ℕ)) (end : SessionEnd) (text : List ℕ) (journal : List (List Entry)) (pool : End)
+    → HasShown z input left end text journal pool → WasSent end.failed text (told first) (told new) → KeptIs end.failed (told first).kept (told new).kept
+    → IsRun z input left end journal pool (first ∷ wires) (new ∷ wires) told
+was_run told z first new wires input left end text journal pool shown sent kept =
+    let was = shown.ran.served in
+    let texts : wire_texts was.sessions journal ≡ (end.failed, text) ∷ [] = texts_are was.sessions journal end was.ends_are ∙ ap (λ t. (end.failed, t) ∷ []) (sym shown.text_is) in
+    record {
+      run = record {
+        sessions = was.sessions;
+        inputs_are = was.inputs_are;
+        lefts_are = was.lefts_are;
+        ends_are = was.ends_are;
+        each_is = was.each_is;
+        orderly = was.orderly;
+        one_order = was.one_order;
+        one_history = was.one_history;
+        wires = subst (λ ts. WiresGrew ts (map (λ w. (told w).sent) (first ∷ wires)) (map (λ w. (told w).sent) (new ∷ wires))) (sym texts) (sent.sent, refl);
+      };
+      counted = shown.ran.counted;
+      bytes = subst (λ ts. BytesAre ts (map (λ w. (told w).bytes) (first ∷ wires)) (map (λ w. (told w).bytes) (new ∷ wires))) (sym texts) (sent.bytes, refl);
+      faults = (sent.faults, refl);
+      flushed = (kept, refl);
       others = refl;
-    })
+    }
+
+-- of a wire whose puts and flushes tell what they do
+pub served_to : {W : Type 0} (put_may : W → Bor (List ℕ) → (W × Bool) → Type 0) (flush_may : W → (W × Bool) → Type 0) (told : W → WireTold) (z : Sizes) (input left : Option (List ℕ)) (end : SessionEnd)
+    (journal : List (List Entry)) (pool : End) (first new : W) (wires olds news : List W) → AreTold put_may flush_may told
+    → RanOne put_may flush_may z input left end journal pool first new → olds ≡ first ∷ wires → news ≡ new ∷ wires
+    → IsRun z input left end journal pool olds news told
+served_to put_may flush_may told z input left end journal pool first new wires olds news says served before after =
+    let sent = sends_told put_may flush_may told says served.sends.between served.text first served.sends.middle served.sends.sends in
+    let flushed = flush_told put_may flush_may told says served.sends.between end.failed served.text first served.sends.middle new sent served.sends.flushed in
+    subst (λ ws. IsRun z input left end journal pool ws news told) (sym before)
+    (subst (λ ws. IsRun z input left end journal pool (first ∷ wires) ws told) (sym after)
+    (was_run told z first new wires input left end served.text journal pool served.shown flushed.0 (kept_from end.failed _ _ _ flushed.1))) where
+      kept_from : (failed : Bool) (first mid new : ℕ) → KeptIs failed mid new → KeptIs failed first new
+      kept_from true first mid new kept = tt
+      kept_from false first mid new kept = kept
 
 -- the same, of the same input
-pub run_on : {W : Type 0} (told : W → WireTold) (wires after : List W) (input other left : Option (List ℕ)) (end : SessionEnd) (journal : List (List Entry)) → input ≡ other
-    → IsRun input left end journal wires after told → IsRun other left end journal wires after told
-run_on told wires after input other left end journal is run = subst (λ i. IsRun i left end journal wires after told) is run
+pub run_on : {W : Type 0} (told : W → WireTold) (z : Sizes) (wires after : List W) (input other left : Option (List ℕ)) (end : SessionEnd) (journal : List (List Entry)) (pool : End) → input ≡ other
+    → IsRun z input left end journal pool wires after told → IsRun z other left end journal pool wires after told
+run_on told z wires after input other left end journal pool is run = subst (λ i. IsRun z i left end journal pool wires after told) is run

@@ -6,7 +6,7 @@ use Rattle.std.proofs.lemmas.List.Elements.{All-from_recursion}
 use Rattle.flake_base.specs.Calls.{counted}
 use Rattle.flake_base.specs.Causes.{Rose}
 use Rattle.flake_base.specs.Told.{HostTold, WireTold}
-use Rattle.byte_store.specs.Table.{same_bytes}
+use Rattle.shard_core.specs.Keys.{same_bytes}
 use Rattle.flake_program.specs.Task.{Task}
 use Rattle.flake_program.specs.Outside.{outside}
 use Rattle.flake_program.specs.Outcome.{Done, SourceTold}
@@ -49,6 +49,7 @@ module _ {W : Type 0} (tells : W → WireTold) (task : Task) (name : List ℕ) (
   unopened_untouched = record {
     wires = λ none. u.refused.wires;
     journal = λ none. u.refused.journal;
+    pool = λ none. (u.refused.pool, u.refused.held);
     refused = λ status. u.refused.ends;
     sources = λ status. u.refused.sources;
     holds = λ status other. u.refused.files.holds other ∙ at_each name host.holds mid.holds u.others u.own other;
@@ -95,7 +96,7 @@ module _ {W : Type 0} (tells : W → WireTold) (task : Task) (name : List ℕ) (
 
   unopened_said : Said task (outside host wires tells) (outside now after tells) done
   unopened_said = record {
-    text = λ other. subst (λ text. Says text host now) (sym (ap (λ status. text_of status done.ends) two)) (says_since _ host mid now u.said u.say_faults u.refused.said);
+    text = λ other. subst (λ text. Says text host now) (sym (ap (λ status. text_of status done.ends done.held) two)) (says_since _ host mid now u.said u.say_faults u.refused.said);
   }
 
   pub unopened_all : Clauses tells task host now wires after done

@@ -1,5 +1,4 @@
 pub mod Serving
-pub mod Room
 pub mod Refusals
 pub mod Task
 pub mod Outside

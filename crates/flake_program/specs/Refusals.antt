@@ -1,8 +1,8 @@
 -- Why nothing was served, and what a run that served nothing has done.
-use Rattle.std.specs.Prelude.{◌≡◌, ℕ, List, [], codes}
+use Rattle.std.specs.Prelude.{◌≡◌, ℕ, List, [], None, codes}
 use Rattle.flake_model.specs.Said.{said_line}
 use Rattle.flake_program.specs.Outside.{Outside, LeavesFiles}
-use Rattle.flake_program.specs.Outcome.{Done}
+use Rattle.flake_program.specs.Outcome.{Done, none_held}
 use Rattle.flake_program.specs.Said.{Says}
 use Rattle.flake_program.specs.declared.outcome.Detail.{Detail}
 use Rattle.flake_program.specs.declared.outcome.Detail.TheVariants.{Nothing, File}
@@ -31,6 +31,8 @@ pub record IsRefused {W : Type 0} (refusal : Refusal) (before after : Outside W)
   pub detail : done.detail ≡ detail_of refusal
   pub ends : done.ends ≡ []
   pub journal : done.journal ≡ []
+  pub held : done.held ≡ none_held
+  pub pool : done.pool ≡ None
   pub sources : done.sources ≡ []
   pub wires : after.wires ≡ before.wires
   pub said : Says (refusal_text refusal) before.host after.host

@@ -1,12 +1,17 @@
 -- What a run says of what it served.
-use Rattle.std.specs.Prelude.{◌≡◌, ◌≢◌, ℕ, List, [], ◌∷◌, Option, length, map, drop, All}
+use Rattle.std.specs.Prelude.{◌≡◌, ◌≢◌, ◌≤◌, ℕ, List, [], ◌∷◌, Option, Some, length, map, drop, All}
 use Rattle.std.specs.Option.{option_to_list}
 use Rattle.flake_base.specs.Calls.{counted}
 use Rattle.flake_base.specs.Told.{HostTold}
 use Rattle.flake_base.specs.declared.session.End.TheVariants.{Left}
-use Rattle.flake_model.specs.Run.{WasServed, missing_writes, wire_texts}
+use Rattle.flake_model.specs.Run.{WasServed, all_commands, missing_writes, wire_texts}
 use Rattle.flake_model.specs.Wire.{FaultsAre, BytesAre, KeptAre}
-use Rattle.flake_program.specs.Task.{Task}
+use Rattle.pin_core.specs.declared.class.Class.{Class}
+use Rattle.pinned_pool.specs.Claims.{count_of}
+use Rattle.pinned_pool.specs.Ends.{End}
+use Rattle.serve_model.specs.Demand.{demand_of}
+use Rattle.serve_model.specs.Shown.{IsCounted}
+use Rattle.flake_program.specs.Task.{Task, pool_sizes, shard_count}
 use Rattle.flake_program.specs.Outside.{Outside, sent_by, bytes_of, kept_by, faults_of}
 use Rattle.flake_program.specs.Outcome.{Done, ways, files_of, lefts_of}
 
@@ -19,8 +24,15 @@ pub record Served {W : Type 0} (task : Task) (before after : Outside W) (done : 
   -- gives
   pub run : WasServed (inputs_of task before.host) (lefts_of done.sources) done.ends done.journal
       (sent_by before) (sent_by after)
-  -- every write has its entry: there is no pool that could be full
-  pub none_missing : missing_writes run.sessions done.journal ≡ 0
+  -- what the closed pool shows by the journal: a buffer is held for each fragment of a final value, as many were claimed
+  -- as the commands may claim at most, and a write without an entry found no free buffer
+  pub pool : End
+  pub pool_is : done.pool ≡ Some pool
+  pub shows : IsCounted pool_sizes run.sessions done.journal pool
+  pub held : (done.held.small ≡ pool.small) × (done.held.large ≡ pool.large)
+  -- and every write has its entry, where the pool has as many buffers of each class as the commands may claim
+  pub none_missing : ((class : Class) → demand_of class (all_commands run.sessions) ≤ count_of pool_sizes class)
+      → missing_writes run.sessions done.journal ≡ 0
   -- as many bytes were put as the texts have, also on a wire that doesn't tell which
   pub bytes : BytesAre (wire_texts run.sessions done.journal) (bytes_of before) (bytes_of after)
   -- a wire that didn't fail keeps none of them back
@@ -29,8 +41,8 @@ pub record Served {W : Type 0} (task : Task) (before after : Outside W) (done : 
   pub faults : FaultsAre (map (λ end. end.failed) done.ends) (faults_of before) (faults_of after)
   -- the wires past the sessions are as handed in
   pub others : drop (length done.ends) after.wires ≡ drop (length done.ends) before.wires
-  -- each of the 8 shards has its history
-  pub shards : length done.journal ≡ 8
+  -- each shard has its history
+  pub shards : length done.journal ≡ shard_count
   -- no session was left before its input ended
   pub to_the_end : All (λ way. way ≢ Left) (ways done.ends)
   -- the file was opened once, and its source comes back

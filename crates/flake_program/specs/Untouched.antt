@@ -1,15 +1,17 @@
 -- What a run leaves as it was.
-use Rattle.std.specs.Prelude.{◌≡◌, ◌≢◌, ◌⊎◌, ℕ, List, [], Some}
+use Rattle.std.specs.Prelude.{◌≡◌, ◌≢◌, ◌⊎◌, ℕ, List, [], Some, None}
 use Rattle.flake_base.specs.Calls.{counted}
 use Rattle.flake_program.specs.Task.{Task}
 use Rattle.flake_program.specs.Outside.{Outside}
-use Rattle.flake_program.specs.Outcome.{Done}
+use Rattle.flake_program.specs.Outcome.{Done, none_held}
 
 pub record Untouched {W : Type 0} (task : Task) (before after : Outside W) (done : Done) : Type 0 where
   -- where nothing was served the wires are as handed in
   pub wires : done.ends ≡ [] → after.wires ≡ before.wires
   -- and there is no history
   pub journal : done.ends ≡ [] → done.journal ≡ []
+  -- and no pool, of which anything is held
+  pub pool : done.ends ≡ [] → (done.pool ≡ None) × (done.held ≡ none_held)
   -- bad words and a file that doesn't open serve nothing
   pub refused : (done.status ≡ 1) ⊎ (done.status ≡ 2) → done.ends ≡ []
   -- no source comes of them

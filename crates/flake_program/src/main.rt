@@ -3,7 +3,6 @@
 
 mod outcome;
 mod run;
-mod session;
 mod source;
 mod summary;
 mod tell;
@@ -19,6 +18,7 @@ use std::alloc::AllocError;
 use std::env;
 use std::io::ErrorKind;
 use std::process::ExitCode;
+use std::sync::Wait;
 
 // The words behind the program's name; none where one is no text, which makes them bad words.
 fn command_line(rt: &HostRuntime) -> Result<Vec<String>, AllocError> {
@@ -36,7 +36,7 @@ fn command_line(rt: &HostRuntime) -> Result<Vec<String>, AllocError> {
 }
 
 // Session 0 writes to `out0.resp` in the folder where the program runs.
-fn serve(rt: &HostRuntime) -> Result<u8, Memory> {
+fn serve<R: Wait>(waits: &R, rt: &HostRuntime) -> Result<u8, Memory> {
     let alloc = rt.alloc();
     let words = command_line(rt)?;
     let name = String::from_str(alloc, "out0.resp")?;
@@ -44,11 +44,11 @@ fn serve(rt: &HostRuntime) -> Result<u8, Memory> {
     let wire = FileWire::new(rt.clone()?, alloc, name)?;
     wires.push(Box::new(alloc, wire)?)?;
     let mut host = FileHost::new(rt.clone()?, alloc)?;
-    Ok(run(rt, alloc, words.as_slice(), &mut host, wires).status)
+    Ok(run(waits, alloc, words.as_slice(), &mut host, wires).status)
 }
 
 fn main(rt: HostRuntime) -> ExitCode {
-    match serve(&rt) {
+    match serve(&rt, &rt) {
         Ok(status) => ExitCode::from(status),
         Err(Memory) => {
             let _ = rt.print(Refusal::Memory.text());

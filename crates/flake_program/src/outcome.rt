@@ -1,4 +1,6 @@
 use flake_base::{Ends, Journal, Wire};
+use pin_core::Held;
+use pinned_pool::PoolEnd;
 use std::alloc::Global;
 
 /// A source that was opened, by its file's number among the words, from 0.
@@ -81,6 +83,10 @@ pub struct Outcome<S> {
     pub ends: Ends,
     /// What each shard did, in order; empty where nothing was served.
     pub journal: Journal,
+    /// How many buffers of the pool are held by values; none where nothing was served.
+    pub held: Held,
+    /// The closed pool; none where nothing was served.
+    pub pool: Option<PoolEnd>,
     /// Every source that was opened, in the order of the words.
     pub sources: Vec<Opened<S>>,
     /// All wires, at their places.
@@ -88,7 +94,8 @@ pub struct Outcome<S> {
 }
 
 impl<S> Outcome<S> {
-    ghost use Rattle.std.specs.Prelude.{◌≡◌, []};
+    ghost use Rattle.std.specs.Prelude.{◌≡◌, [], None};
+    ghost use Rattle.flake_program.specs.Outcome.{none_held};
     ghost use Rattle.flake_program.specs.Refusals.{status_of, detail_of};
 
     /// An answer before any request ran.
@@ -97,6 +104,8 @@ impl<S> Outcome<S> {
         ensures detail { result.detail ≡ detail_of refusal }
         ensures ends { result.ends.items ≡ [] }
         ensures journal { result.journal.items ≡ [] }
+        ensures held { result.held ≡ none_held }
+        ensures pool { result.pool ≡ None }
         ensures sources { result.sources.items ≡ [] }
         ensures wires { result.wires ≡ wires }
     {
@@ -105,6 +114,8 @@ impl<S> Outcome<S> {
             detail: refusal.detail(),
             ends: Ends::new(alloc),
             journal: Journal::new(alloc),
+            held: Held { small: 0, large: 0 },
+            pool: None,
             sources: Vec::new(alloc),
             wires,
         }

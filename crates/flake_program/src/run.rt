@@ -10,15 +10,16 @@ ghost use Rattle.flake_program.specs.Complete.{Complete};
 ghost use Rattle.flake_program.specs.Said.{Said};
 
 use crate::outcome::{Detail, Opened, Outcome, Refusal};
-use crate::source::{Room, serve_source};
+use crate::source::serve_source;
 use crate::tell::{refuse, report};
 use crate::words::file_word;
-use flake_base::{Host, Source, Wire};
+use flake_base::{Ends, Host, Source, Wire};
 use std::alloc::Global;
+use std::sync::Wait;
 
 /// Serves the file that the words name: its requests' replies go to the first wire.
-pub fn run<R, H: Host>(
-    _rt: &R,
+pub fn run<R: Wait, H: Host>(
+    rt: &R,
     alloc: Global,
     words: &[String],
     host: &mut H,
@@ -28,55 +29,67 @@ pub fn run<R, H: Host>(
     ensures served { result.ends.items ≢ [] → Served (task_of words.now)
         (outside (H.host_told host.old) wires.items (λ w. wire_told w))
         (outside (H.host_told host.new) result.wires.items (λ w. wire_told w))
-        (done result.status result.detail result.ends.items result.journal.items
+        (done result.status result.detail result.ends.items result.journal.items result.held result.pool
         (map (λ s. source_told s.file (H.In.left s.source) (H.In.read_faults s.source)) result.sources.items)) }
     // What stays as it was.
     ensures untouched { Untouched (task_of words.now)
         (outside (H.host_told host.old) wires.items (λ w. wire_told w))
         (outside (H.host_told host.new) result.wires.items (λ w. wire_told w))
-        (done result.status result.detail result.ends.items result.journal.items
+        (done result.status result.detail result.ends.items result.journal.items result.held result.pool
         (map (λ s. source_told s.file (H.In.left s.source) (H.In.read_faults s.source)) result.sources.items)) }
     // Each status, end and detail has its cause.
     ensures causes { Causes (task_of words.now)
         (outside (H.host_told host.old) wires.items (λ w. wire_told w))
         (outside (H.host_told host.new) result.wires.items (λ w. wire_told w))
-        (done result.status result.detail result.ends.items result.journal.items
+        (done result.status result.detail result.ends.items result.journal.items result.held result.pool
         (map (λ s. source_told s.file (H.In.left s.source) (H.In.read_faults s.source)) result.sources.items)) }
     // Nothing is refused without a cause.
     ensures complete { Complete (task_of words.now)
         (outside (H.host_told host.old) wires.items (λ w. wire_told w))
         (outside (H.host_told host.new) result.wires.items (λ w. wire_told w))
-        (done result.status result.detail result.ends.items result.journal.items
+        (done result.status result.detail result.ends.items result.journal.items result.held result.pool
         (map (λ s. source_told s.file (H.In.left s.source) (H.In.read_faults s.source)) result.sources.items)) }
     // What is said of it.
     ensures said { Said (task_of words.now)
         (outside (H.host_told host.old) wires.items (λ w. wire_told w))
         (outside (H.host_told host.new) result.wires.items (λ w. wire_told w))
-        (done result.status result.detail result.ends.items result.journal.items
+        (done result.status result.detail result.ends.items result.journal.items result.held result.pool
         (map (λ s. source_told s.file (H.In.left s.source) (H.In.read_faults s.source)) result.sources.items)) }
 {
     let file = file_word(words);
     let (Some(name), false) = (file, wires.is_empty()) else {
         return refuse(alloc, host, Refusal::BadWords, wires);
     };
-    let (Ok(mut sources), Ok(room)) = (Vec::with_capacity(alloc, 1), Room::new(alloc)) else {
+    let (Ok(mut sources), Ok(ends)) = (Vec::with_capacity(alloc, 1), Ends::with_room(alloc, 1))
+    else {
         return refuse(alloc, host, Refusal::Memory, wires);
     };
     let Ok(source) = host.open(name) else {
         return refuse(alloc, host, Refusal::OpenFault, wires);
     };
-    let mut wires = wires;
-    let ran = serve_source(alloc, source, room, &mut wires);
-    let _ = sources.push(Opened {
-        file: 0,
-        source: ran.source,
-    });
-    Outcome {
-        status: report(alloc, host, &ran.end),
-        detail: Detail::Nothing,
-        ends: ran.ends,
-        journal: ran.journal,
-        sources,
-        wires,
+    match serve_source(rt, alloc, source, ends, wires) {
+        Ok(ran) => {
+            let held = ran.pool.held();
+            let _ = sources.push(Opened {
+                file: 0,
+                source: ran.source,
+            });
+            Outcome {
+                status: report(alloc, host, &ran.end, held),
+                detail: Detail::Nothing,
+                ends: ran.ends,
+                journal: ran.journal,
+                held,
+                pool: Some(ran.pool),
+                sources,
+                wires: ran.wires,
+            }
+        }
+        Err((source, wires)) => {
+            let mut outcome = refuse(alloc, host, Refusal::Memory, wires);
+            let _ = sources.push(Opened { file: 0, source });
+            outcome.sources = sources;
+            outcome
+        }
     }
 }

@@ -1,37 +1,45 @@
 // A source that is served to the first wire.
-ghost use Rattle.std.specs.Prelude.{◌≡◌, ◌≢◌, ◌<◌, ◌∷◌, [], length, false, IfOk};
-ghost use Rattle.std.specs.FinMap as finite;
-ghost use Rattle.flake_model.specs.OneThread.{IsSharded};
-ghost use Rattle.command_run.specs.Histories.{histories};
+ghost use Rattle.std.specs.Prelude.{◌≡◌, ◌≢◌, ◌<◌, ◌∷◌, [], length, vec_len, vec_capacity, IfOk, IfErr};
 ghost use Rattle.command_pump.specs.Pump.{EndFaults};
-ghost use Rattle.flake_program.specs.Room.{IsFresh};
-ghost use Rattle.flake_program.specs.Serving.{HasServed, IsRun};
-ghost use Rattle.byte_store.specs.Store.{Holds};
+ghost use Rattle.shard_store.specs.Journals.{histories};
+ghost use Rattle.flake_program.specs.Serving.{IsRun};
+ghost use Rattle.flake_program.specs.Task.{pool_sizes, shard_count};
+ghost use Rattle.wire_told.specs.Sent.{PutIs, FlushIs};
 
-use crate::session::{Served, serve};
-use byte_store::Store;
-use command_run::Histories;
-use flake_base::{End, Ends, Journal, Memory, SessionEnd, Source, Wire};
+use flake_base::{End, Ends, Journal, SessionEnd, Source, Wire};
+use pinned_pool::PoolEnd;
+use serve_one::{Sizes, serve_one};
 use std::alloc::Global;
+use std::sync::Wait;
 
-/// What a run needs before it reads anything.
-#[derive(Drop)]
-pub struct Room {
-    pub store: Store,
-    pub histories: Histories,
-    pub ends: Ends,
+/// How large a run is.
+const SIZES: Sizes = Sizes {
+    shards: 8,
+    small: 4096,
+    large: 1024,
+    ring: 1160,
+    threshold: 512,
+};
+
+// Puts a piece that has bytes; answers whether that failed.
+fn put(wire: Box<dyn Wire>, piece: &[u8]) -> (Box<dyn Wire>, bool)
+    ensures { 0 < length piece.now → PutIs result.1 piece.now (wire_told wire) (wire_told result.0) }
+{
+    let mut wire = wire;
+    if piece.is_empty() {
+        return (wire, false);
+    }
+    let failed = wire.put(piece).is_err();
+    (wire, failed)
 }
 
-impl Room {
-    pub fn new(alloc: Global) -> Result<Room, Memory>
-        ensures { IfOk result IsFresh }
-    {
-        Ok(Room {
-            store: Store::new(alloc)?,
-            histories: Histories::new(alloc)?,
-            ends: Ends::with_room(alloc, 1)?,
-        })
-    }
+// Flushes; answers whether that failed.
+fn flush(wire: Box<dyn Wire>) -> (Box<dyn Wire>, bool)
+    ensures { FlushIs result.1 (wire_told wire) (wire_told result.0) }
+{
+    let mut wire = wire;
+    let failed = wire.flush().is_err();
+    (wire, failed)
 }
 
 /// What a served source left.
@@ -39,57 +47,82 @@ impl Room {
 pub struct Ran<S> {
     pub ends: Ends,
     pub journal: Journal,
+    pub pool: PoolEnd,
     pub end: SessionEnd,
     pub source: S,
+    pub wires: Vec<Box<dyn Wire>>,
 }
 
-// `serve` to a boxed wire: its clauses name the box itself.
-fn serve_boxed<S: Source>(
-    alloc: Global,
-    source: S,
-    store: Store,
-    histories: Histories,
-    wire: &mut Box<dyn Wire>,
-) -> Served<S>
-    requires store { Holds store finite.empty }
-    requires histories { IsSharded [] histories }
-    ensures served { HasServed (S.left source) (S.left result.source) result.end result.histories
-        (wire_told wire.old) (wire_told wire.new) }
-    ensures reads { EndFaults result.end.end (S.read_faults source) (S.read_faults result.source) }
-    ensures flushed { result.end.failed ≡ false → (wire_told wire.new).kept ≡ 0 }
-    ensures to_the_end { result.end.end ≢ End.Left }
-    ensures shards { length result.histories ≡ length histories }
+// Takes the first wire out.
+fn take_first(wires: &mut Vec<Box<dyn Wire>>) -> Box<dyn Wire>
+    requires { 0 < length wires.old.items }
+    ensures items { wires.old.items ≡ result ∷ wires.new.items }
+    ensures room { vec_len wires.new < vec_capacity wires.new }
 {
-    serve(alloc, source, store, histories, &mut **wire)
+    wires.remove(0)
 }
 
-/// Serves the requests of a source, to its end or until memory is wanting; the replies go to the first wire.
-pub fn serve_source<S: Source>(
+// Puts it back.
+fn put_first(wires: &mut Vec<Box<dyn Wire>>, wire: Box<dyn Wire>)
+    requires { vec_len wires.old < vec_capacity wires.old }
+    ensures { wires.new.items ≡ wire ∷ wires.old.items }
+{
+    let Ok(()) = wires.insert(0, wire) else {
+        unreachable!()
+    };
+}
+
+/// Serves the requests of a source, to its end or until memory is wanting; the replies go to the first wire. Where
+/// memory is wanting before the first read all comes back.
+pub fn serve_source<R: Wait, S: Source>(
+    rt: &R,
     alloc: Global,
     source: S,
-    room: Room,
-    wires: &mut Vec<Box<dyn Wire>>,
-) -> Ran<S>
-    requires wires { 0 < length wires.old.items }
-    requires room { IsFresh room }
-    ensures run { IsRun (S.left source) (S.left result.source) result.end (histories result.journal.items)
-        wires.old.items wires.new.items (λ w. wire_told w) }
-    ensures ends { result.ends.items ≡ result.end ∷ [] }
-    ensures reads { EndFaults result.end.end (S.read_faults source) (S.read_faults result.source) }
-    ensures to_the_end { result.end.end ≢ End.Left }
-    ensures shards { length result.journal.items ≡ 8 }
+    ends: Ends,
+    wires: Vec<Box<dyn Wire>>,
+) -> Result<Ran<S>, (S, Vec<Box<dyn Wire>>)>
+    requires wires { 0 < length wires.items }
+    requires ends { (ends.items ≡ []) × (0 < ends.spare) }
+    ensures run { IfOk result (λ r. IsRun pool_sizes (S.left source) (S.left r.source) r.end
+        (histories r.journal.items) r.pool wires.items r.wires.items (λ w. wire_told w)) }
+    ensures ends { IfOk result (λ r. r.ends.items ≡ r.end ∷ []) }
+    ensures reads { IfOk result (λ r. EndFaults r.end.end (S.read_faults source) (S.read_faults r.source)) }
+    ensures to_the_end { IfOk result (λ r. r.end.end ≢ End.Left) }
+    ensures shards { IfOk result (λ r. length r.journal.items ≡ shard_count) }
+    ensures back { IfErr result (λ e. (e.0 ≡ source) × (e.1.items ≡ wires.items)) }
 {
-    let Room {
-        store,
-        histories,
-        mut ends,
-    } = room;
-    let served = serve_boxed(alloc, source, store, histories, &mut wires[0]);
-    let _ = ends.push(served.end);
-    Ran {
-        ends,
-        journal: served.histories.into_journal(),
-        end: served.end,
-        source: served.source,
+    let mut ends = ends;
+    let mut wires = wires;
+    let wire = take_first(&mut wires);
+    let served = serve_one(
+        rt,
+        alloc,
+        &SIZES,
+        source,
+        wire,
+        &|w: Box<dyn Wire>, piece: &[u8]| -> (Box<dyn Wire>, bool)
+            ensures { 0 < length piece.now → PutIs result.1 piece.now (wire_told w) (wire_told result.0) }
+        { put(w, piece) },
+        &|w: Box<dyn Wire>| -> (Box<dyn Wire>, bool)
+            ensures { FlushIs result.1 (wire_told w) (wire_told result.0) }
+        { flush(w) },
+    );
+    match served {
+        Ok(served) => {
+            put_first(&mut wires, served.wire);
+            let _ = ends.push(served.end);
+            Ok(Ran {
+                ends,
+                journal: served.journal,
+                pool: served.pool,
+                end: served.end,
+                source: served.source,
+                wires,
+            })
+        }
+        Err((source, wire)) => {
+            put_first(&mut wires, wire);
+            Err((source, wires))
+        }
     }
 }

@@ -1,8 +1,9 @@
 // What is said of sessions.
 ghost use Rattle.std.specs.Prelude.{◌≡◌, [], ◌∷◌, IfOk, string_bytes};
-ghost use Rattle.flake_model.specs.Said.{summary_from};
+ghost use Rattle.flake_program.specs.Said.{summary_of};
 
 use flake_base::{End, Memory, SessionEnd};
+use pin_core::Held;
 use std::alloc::Global;
 use std::fmt;
 
@@ -71,13 +72,30 @@ impl fmt::Display for SessionLine {
     }
 }
 
-/// The line of a run's only session.
-pub fn summary(alloc: Global, end: &SessionEnd) -> Result<String, Memory>
-    ensures { IfOk result (λ text. string_bytes text ≡ summary_from 0 (end.now ∷ [])) }
+#[derive(Clone, Copy)]
+struct HeldLine(Held);
+
+impl fmt::Display for HeldLine {
+    ghost use Rattle.std.specs.Prelude.{Some};
+    ghost use Rattle.flake_program.specs.Said.{held_line};
+
+    ghost output = { λ l. Some (held_line l.0) };
+
+    fn fmt<W: fmt::Write>(&self, f: &mut fmt::Formatter<W>) -> fmt::Result {
+        let small = self.0.small;
+        let large = self.0.large;
+        write!(f, "held {small} {large}\n")
+    }
+}
+
+/// The line of a run's only session, and that of what is held.
+pub fn summary(alloc: Global, end: &SessionEnd, held: Held) -> Result<String, Memory>
+    ensures { IfOk result (λ text. string_bytes text ≡ summary_of (end.now ∷ []) held) }
 {
     let line = SessionLine {
         session: 0,
         end: *end,
     };
-    Ok(format!(in alloc; "{line}")?)
+    let held = HeldLine(held);
+    Ok(format!(in alloc; "{line}{held}")?)
 }

@@ -1,18 +1,18 @@
 // What is said.
 ghost use Rattle.std.specs.Prelude.{◌≡◌, ◌≢◌, ◌<◌, ◌⊎◌, ◌∷◌, [], length, map, true, false};
 ghost use Rattle.flake_base.specs.Causes.{Rose, HasCause};
-ghost use Rattle.flake_model.specs.Said.{summary_from};
 ghost use Rattle.flake_program.specs.Causes.{status_by};
 ghost use Rattle.flake_program.specs.Outside.{LeavesFiles, outside};
 ghost use Rattle.flake_program.specs.Outcome.{done, source_told};
 ghost use Rattle.flake_program.specs.Refusals.{IsRefused};
-ghost use Rattle.flake_program.specs.Said.{Says};
+ghost use Rattle.flake_program.specs.Said.{Says, summary_of};
 
 use crate::outcome::{
     BAD_SESSION, OUT_OF_MEMORY, Outcome, READ_FAULT, Refusal, SERVED, WRITE_FAULT,
 };
 use crate::summary::summary;
 use flake_base::{End, Failed, Host, SessionEnd, Source, Wire};
+use pin_core::Held;
 use std::alloc::Global;
 
 fn tell<H: Host>(host: &mut H, text: &str) -> Result<(), Failed>
@@ -33,7 +33,7 @@ pub fn refuse<H: Host>(
 ) -> Outcome<H::In>
     ensures { IsRefused refusal (outside (H.host_told host.old) wires.items (λ w. wire_told w))
         (outside (H.host_told host.new) result.wires.items (λ w. wire_told w))
-        (done result.status result.detail result.ends.items result.journal.items
+        (done result.status result.detail result.ends.items result.journal.items result.held result.pool
         (map (λ s. source_told s.file (H.In.left s.source) (H.In.read_faults s.source)) result.sources.items)) }
 {
     let _ = tell(host, refusal.text());
@@ -53,8 +53,8 @@ fn status_by_end(end: End) -> u8
 }
 
 /// Says how a session ended, and answers the status.
-pub fn report<H: Host>(alloc: Global, host: &mut H, end: &SessionEnd) -> u8
-    ensures said { result ≢ 6 → Says (summary_from 0 (end.now ∷ [])) (H.host_told host.old) (H.host_told host.new) }
+pub fn report<H: Host>(alloc: Global, host: &mut H, end: &SessionEnd, held: Held) -> u8
+    ensures said { result ≢ 6 → Says (summary_of (end.now ∷ []) held) (H.host_told host.old) (H.host_told host.new) }
     ensures files { LeavesFiles (H.host_told host.old) (H.host_told host.new) }
     ensures by_end { result ≢ 5 → result ≢ 6 → (result ≡ status_by end.now.end) × (end.now.failed ≡ false)
         × ((H.host_told host.new).say_faults ≡ (H.host_told host.old).say_faults) }
@@ -62,7 +62,7 @@ pub fn report<H: Host>(alloc: Global, host: &mut H, end: &SessionEnd) -> u8
         × ((end.now.failed ≡ true) ⊎ Rose (H.host_told host.old).say_faults (H.host_told host.new).say_faults) }
     ensures statuses { (result ≡ 0) ⊎ (result ≡ 3) ⊎ (result ≡ 4) ⊎ (result ≡ 5) ⊎ (result ≡ 6) }
 {
-    let Ok(text) = summary(alloc, end) else {
+    let Ok(text) = summary(alloc, end, held) else {
         return OUT_OF_MEMORY;
     };
     let said = tell(host, text.as_str());

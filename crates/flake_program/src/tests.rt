@@ -5,6 +5,7 @@ use crate::run::run;
 use flake_base::{Bytes, Entry, Failed, Fails, Files, Journal, MemoryHost, MemoryWire, Wire};
 use std::alloc::Global;
 use std::process::Abort;
+use std::sync::Wait;
 use std::test::Fail;
 
 /// A SET and a GET of one key.
@@ -25,6 +26,8 @@ struct Row {
     status: u8,
     detail: Detail,
     said: &'static str,
+    /// What is said behind that of the buffers that values hold.
+    held: &'static str,
     sent: &'static [u8],
     /// The parts of the journal, by shard and in the order of its history; none where nothing was served.
     parts: Option<&'static [Part]>,
@@ -41,6 +44,7 @@ const SERVED: Row = Row {
     status: 0,
     detail: Detail::Nothing,
     said: "session 0 clean taken 47 replies 2 wire whole\n",
+    held: "held 1 0\n",
     sent: b"+OK\r\n$1\r\n1\r\n",
     parts: Some(&[(4, 0, 0), (4, 1, 0)]),
 };
@@ -48,6 +52,7 @@ const SERVED: Row = Row {
 const BAD_WORDS: Row = Row {
     status: 1,
     said: "bad words\n",
+    held: "",
     sent: b"",
     parts: None,
     ..SERVED
@@ -57,6 +62,7 @@ const CANNOT_OPEN: Row = Row {
     status: 2,
     detail: Detail::File(0),
     said: "cannot open 0\n",
+    held: "",
     sent: b"",
     parts: None,
     ..SERVED
@@ -74,8 +80,8 @@ struct Seen {
 }
 
 // The only call of `run`. It has no clauses, so that no assertion carries those of `run`.
-fn ran(
-    rt: &impl Abort,
+fn ran<R: Abort + Wait>(
+    rt: &R,
     alloc: Global,
     words: &[String],
     host: &mut MemoryHost,
@@ -167,14 +173,21 @@ fn expect_journal(rt: &impl Abort, journal: &Journal, parts: Option<&[Part]>) {
 }
 
 // Serves an input in place of the row's own.
-fn check_input(rt: &impl Abort, alloc: Global, row: &Row, input: Bytes) -> Result<(), Fail> {
+fn check_input<R: Abort + Wait>(
+    rt: &R,
+    alloc: Global,
+    row: &Row,
+    input: Bytes,
+) -> Result<(), Fail> {
     let mut host = memory_host(alloc, row, input)?;
     let words = typed(alloc, row.words)?;
     let wires = one_wire(alloc, 65_536, row.put_fails)?;
     let seen = ran(rt, alloc, words.as_slice(), &mut host, wires);
     assert_eq!(rt; seen.status, row.status);
     assert_eq!(rt; seen.detail, row.detail);
-    assert_eq!(rt; host.said(), row.said.as_bytes());
+    let mut said = Bytes::from_slice(alloc, row.said.as_bytes())?;
+    said.append(row.held.as_bytes())?;
+    assert_eq!(rt; host.said(), said.as_slice());
     assert_eq!(rt; seen.wires.len(), 1);
     expect_sent(rt, seen.wires.as_slice(), row.sent);
     assert_eq!(rt; seen.is_unserved, row.parts.is_none());
@@ -184,11 +197,11 @@ fn check_input(rt: &impl Abort, alloc: Global, row: &Row, input: Bytes) -> Resul
     Ok(())
 }
 
-fn check(rt: &impl Abort, alloc: Global, row: &Row) -> Result<(), Fail> {
+fn check<R: Abort + Wait>(rt: &R, alloc: Global, row: &Row) -> Result<(), Fail> {
     check_input(rt, alloc, row, Bytes::from_slice(alloc, row.input)?)
 }
 
-fn check_all(rt: &impl Abort, alloc: Global, rows: &[Row]) -> Result<(), Fail> {
+fn check_all<R: Abort + Wait>(rt: &R, alloc: Global, rows: &[Row]) -> Result<(), Fail> {
     for row in rows {
         check(rt, alloc, row)?;
     }
@@ -196,7 +209,12 @@ fn check_all(rt: &impl Abort, alloc: Global, rows: &[Row]) -> Result<(), Fail> {
 }
 
 // Each row, its input in pieces of at most so many bytes.
-fn check_in_steps(rt: &impl Abort, alloc: Global, rows: &[Row], step: usize) -> Result<(), Fail> {
+fn check_in_steps<R: Abort + Wait>(
+    rt: &R,
+    alloc: Global,
+    rows: &[Row],
+    step: usize,
+) -> Result<(), Fail> {
     for row in rows {
         check(rt, alloc, &Row { step, ..*row })?;
     }
@@ -218,6 +236,7 @@ static COMMANDS: [Row; 10] = [
     Row {
         input: b"",
         said: "session 0 clean taken 0 replies 0 wire whole\n",
+        held: "held 0 0\n",
         sent: b"",
         parts: Some(&[]),
         ..SERVED
@@ -226,6 +245,7 @@ static COMMANDS: [Row; 10] = [
     Row {
         input: b"*3\r\n$3\r\nSET\r\n$1\r\ne\r\n$0\r\n\r\n*2\r\n$3\r\nGET\r\n$1\r\ne\r\n*2\r\n$3\r\nGET\r\n$1\r\nx\r\n",
         said: "session 0 clean taken 66 replies 3 wire whole\n",
+        held: "held 0 0\n",
         sent: b"+OK\r\n$0\r\n\r\n$-1\r\n",
         parts: Some(&[(0, 0, 0), (0, 1, 0), (7, 2, 0)]),
         ..SERVED
@@ -261,6 +281,7 @@ static COMMANDS: [Row; 10] = [
             *4\r\n$6\r\nEXISTS\r\n$1\r\na\r\n$1\r\nx\r\n$1\r\na\r\n*3\r\n$3\r\nDEL\r\n$1\r\nx\r\n$1\r\na\r\n\
             *2\r\n$3\r\nGET\r\n$1\r\na\r\n",
         said: "session 0 clean taken 146 replies 5 wire whole\n",
+        held: "held 0 0\n",
         sent: b"+OK\r\n*3\r\n$1\r\n1\r\n$-1\r\n$1\r\n1\r\n:2\r\n:1\r\n$-1\r\n",
         parts: Some(&[
             (4, 0, 0),
@@ -282,6 +303,7 @@ static COMMANDS: [Row; 10] = [
             *5\r\n$3\r\nSET\r\n$1\r\na\r\n$1\r\nb\r\n$2\r\nEX\r\n$1\r\n9\r\n*1\r\n$4\r\nPING\r\n\
             *2\r\n$4\r\nPING\r\n$2\r\nhi\r\n",
         said: "session 0 clean taken 131 replies 6 wire whole\n",
+        held: "held 0 0\n",
         sent: b"$-1\r\n-ERR unknown command\r\n-ERR wrong number of arguments\r\n-ERR syntax error\r\n+PONG\r\n\
             $2\r\nhi\r\n",
         parts: Some(&[(4, 0, 0)]),
@@ -297,6 +319,7 @@ static COMMANDS: [Row; 10] = [
             *5\r\n$3\r\nSET\r\n$1\r\na\r\n$1\r\n6\r\n$2\r\nnx\r\n$3\r\nget\r\n\
             *5\r\n$3\r\nSET\r\n$1\r\na\r\n$1\r\n7\r\n$2\r\nNX\r\n$2\r\nXX\r\n",
         said: "session 0 clean taken 272 replies 7 wire whole\n",
+        held: "held 2 0\n",
         sent: b"+OK\r\n$-1\r\n$1\r\n1\r\n$-1\r\n$-1\r\n$1\r\n3\r\n-ERR syntax error\r\n",
         parts: Some(&[
             (4, 0, 0),
@@ -355,6 +378,7 @@ static COMMANDS: [Row; 10] = [
     Row {
         input: b"*0\r\n*-1\r\n*1\r\n$4\r\nPING\r\n",
         said: "session 0 clean taken 23 replies 1 wire whole\n",
+        held: "held 0 0\n",
         sent: b"+PONG\r\n",
         parts: Some(&[]),
         ..SERVED
@@ -368,6 +392,7 @@ fn commands(rt: HostRuntime) -> Result<(), Fail> {
 
 const BAD_INPUT: Row = Row {
     status: 3,
+    held: "held 0 0\n",
     parts: Some(&[]),
     ..SERVED
 };
@@ -435,7 +460,8 @@ static FAULTS: [Row; 9] = [
     Row {
         host_fails: Some(1),
         status: 5,
-        said: "session 0 clean taken 4",
+        said: "session 0 clean taken 47 re",
+        held: "",
         ..SERVED
     },
     Row {
@@ -451,6 +477,7 @@ static FAULTS: [Row; 9] = [
         read_fails: Some(0),
         status: 4,
         said: "session 0 readfault taken 0 replies 0 wire whole\n",
+        held: "held 0 0\n",
         sent: b"",
         parts: Some(&[]),
         ..SERVED
@@ -491,6 +518,7 @@ static FAULTS: [Row; 9] = [
         put_fails: Some(0),
         status: 5,
         said: "session 0 protocol 4 at 0 taken 1 replies 1 wire failed\n",
+        held: "held 0 0\n",
         sent: b"-ERR Protocol error: inline ",
         parts: Some(&[]),
         ..SERVED
@@ -529,8 +557,8 @@ static NO_COMMANDS: [&[&str]; 6] = [
     &["serve", "in.resp", "in.resp"],
 ];
 
-fn check_bad_words(
-    rt: &impl Abort,
+fn check_bad_words<R: Abort + Wait>(
+    rt: &R,
     alloc: Global,
     words: &'static [&'static str],
 ) -> Result<(), Fail> {
@@ -589,8 +617,8 @@ impl Wire for KeepingWire {
 }
 
 // A run over one wire that keeps back what is put.
-fn check_flush(
-    rt: &impl Abort,
+fn check_flush<R: Abort + Wait>(
+    rt: &R,
     alloc: Global,
     flush_fails: bool,
     status: u8,
@@ -616,9 +644,9 @@ fn check_flush(
 #[test]
 fn a_wire_is_flushed_at_the_end(rt: HostRuntime) -> Result<(), Fail> {
     let alloc = rt.alloc();
-    let whole = "session 0 clean taken 47 replies 2 wire whole\n";
+    let whole = "session 0 clean taken 47 replies 2 wire whole\nheld 1 0\n";
     check_flush(&rt, alloc, false, 0, whole)?;
-    let failed = "session 0 clean taken 47 replies 2 wire failed\n";
+    let failed = "session 0 clean taken 47 replies 2 wire failed\nheld 1 0\n";
     check_flush(&rt, alloc, true, 5, failed)
 }
 
@@ -646,6 +674,7 @@ const PING: &[u8] = b"*1\r\n$4\r\nPING\r\n";
 /// What is too large is refused by its text, and the next request is served.
 const TOO_MANY_KEYS: Row = Row {
     said: "session 0 clean taken 484 replies 2 wire whole\n",
+    held: "held 0 0\n",
     sent: b"-ERR too many keys\r\n+PONG\r\n",
     parts: Some(&[]),
     ..SERVED
@@ -653,6 +682,7 @@ const TOO_MANY_KEYS: Row = Row {
 
 const LONG_KEY: Row = Row {
     said: "session 0 clean taken 548 replies 2 wire whole\n",
+    held: "held 0 0\n",
     sent: b"-ERR key too long\r\n+PONG\r\n",
     parts: Some(&[]),
     ..SERVED
@@ -660,6 +690,7 @@ const LONG_KEY: Row = Row {
 
 const LONG_VALUE: Row = Row {
     said: "session 0 clean taken 65581 replies 2 wire whole\n",
+    held: "held 0 0\n",
     sent: b"-ERR value too long\r\n+PONG\r\n",
     parts: Some(&[]),
     ..SERVED
@@ -709,6 +740,7 @@ fn a_message_that_is_too_long(rt: HostRuntime) -> Result<(), Fail> {
 /// A value as long as may be, and a byte more: both calls have their entry.
 const LONGEST_VALUE: Row = Row {
     said: "session 0 clean taken 65596 replies 2 wire whole\n",
+    held: "held 0 16\n",
     sent: b"+OK\r\n-ERR value too long\r\n",
     parts: Some(&[(2, 0, 0), (2, 1, 0)]),
     ..SERVED
@@ -716,6 +748,7 @@ const LONGEST_VALUE: Row = Row {
 
 const SHORTER_VALUE: Row = Row {
     said: "session 0 clean taken 16444 replies 2 wire whole\n",
+    held: "held 1 4\n",
     sent: b"+OK\r\n:16385\r\n",
     ..LONGEST_VALUE
 };
@@ -758,7 +791,7 @@ fn an_input_that_is_too_long(rt: HostRuntime) -> Result<(), Fail> {
     assert_eq!(rt; seen.status, 3);
     assert_eq!(rt;
         host.said(),
-        b"session 0 toolong taken 67108864 replies 63 wire whole\n".as_slice()
+        b"session 0 toolong taken 67108864 replies 63 wire whole\nheld 0 0\n".as_slice()
     );
     expect_sent(&rt, seen.wires.as_slice(), sent.as_slice());
     Ok(())

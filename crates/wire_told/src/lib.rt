@@ -1,0 +1,4 @@
+//! What a wire tells of puts and flushes that functions of the caller made.
+#![tactic(auto)]
+
+pub mod laws;
