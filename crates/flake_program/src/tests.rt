@@ -796,3 +796,59 @@ fn an_input_that_is_too_long(rt: HostRuntime) -> Result<(), Fail> {
     expect_sent(&rt, seen.wires.as_slice(), sent.as_slice());
     Ok(())
 }
+
+// A key, as a word of a request.
+fn add_key(alloc: Global, input: &mut Bytes, number: u64) -> Result<(), Fail> {
+    let key = format!(in alloc; "k{number}")?;
+    let length = key.len();
+    let word = format!(in alloc; "${length}\r\n{key}\r\n")?;
+    input.append(word.as_bytes())?;
+    Ok(())
+}
+
+// A SET of a key to so many bytes.
+fn add_set(alloc: Global, input: &mut Bytes, number: u64, count: usize) -> Result<(), Fail> {
+    input.append(b"*3\r\n$3\r\nSET\r\n")?;
+    add_key(alloc, input, number)?;
+    let head = format!(in alloc; "${count}\r\n")?;
+    add_word(input, head.as_bytes(), b'v', count)
+}
+
+// An MGET of 20 keys, from a number on.
+fn add_mget(alloc: Global, input: &mut Bytes, first: u64) -> Result<(), Fail> {
+    input.append(b"*21\r\n$4\r\nMGET\r\n")?;
+    for number in first..first.saturating_add(20) {
+        add_key(alloc, input, number)?;
+    }
+    Ok(())
+}
+
+// 200 values of 100 to 8,856 bytes, and ten MGETs of 20 keys each: the values take 34 small and 291 large buffers.
+#[test]
+fn values_of_many_lengths(rt: HostRuntime) -> Result<(), Fail> {
+    let alloc = rt.alloc();
+    let mut input = Bytes::new(alloc);
+    for number in 0..200 {
+        add_set(alloc, &mut input, number, 100 + 44 * number as usize)?;
+    }
+    for first in [0, 20, 40, 60, 80, 100, 120, 140, 160, 180] {
+        add_mget(alloc, &mut input, first)?;
+    }
+    let taken = input.len();
+    let said = format!(in alloc;
+        "session 0 clean taken {taken} replies 210 wire whole\nheld 34 291\n"
+    )?;
+    let mut host = memory_host(alloc, &SERVED, input)?;
+    let words = typed(alloc, SERVED.words)?;
+    let wires = one_wire(alloc, 1_000_000, None)?;
+    let seen = ran(&rt, alloc, words.as_slice(), &mut host, wires);
+    assert_eq!(rt; seen.status, 0);
+    assert_eq!(rt; host.said(), said.as_bytes());
+    for wire in seen.wires.as_slice() {
+        let Some(sent) = wire.shown() else {
+            return Err("the wire tells nothing".into());
+        };
+        assert_eq!(rt; sent.len(), 898_429);
+    }
+    Ok(())
+}
