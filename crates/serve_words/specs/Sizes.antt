@@ -13,7 +13,8 @@ within limits _ = None
 
 -- the size that an option gives: a plain decimal within its limits, or the usual one where the option isn't there
 abbrev pub size_in : List ℕ → Limits → List Row → Option ℕ
-size_in name limits rows = option_map_or (λ text. within limits (signed_of text)) (first_of name rows) (Some limits.usual)
+size_in name limits rows =
+    option_map_or (λ text. within limits (signed_of text)) (first_of name rows) (Some limits.usual)
 
 abbrev pub shards_limits : Limits
 shards_limits = record { least = 1; most = 16; usual = 8 }

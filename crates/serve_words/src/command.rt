@@ -12,8 +12,12 @@ use flake_base::Memory;
 use std::alloc::{AllocError, Global};
 
 /// What the words say, by the names of the options; none where they don't fit the command.
-pub(crate) fn matches_of_words<'a>(alloc: Global, words: &'a [String]) -> Result<Option<ArgMatches<'a>>, Memory>
-    ensures { IfOk result (λ matches. option_map (λ m. rows_of (found_of m)) matches ≡ rows_in (texts_of words.entry.now)) }
+pub(crate) fn matches_of_words<'a>(
+    alloc: Global,
+    words: &'a [String],
+) -> Result<Option<ArgMatches<'a>>, Memory>
+    ensures { IfOk result (λ matches. option_map (λ m. rows_of (found_of m)) matches
+        ≡ rows_in (texts_of words.entry.now)) }
 {
     let command = serve_command(alloc)?;
     match command.try_get_matches_from(words) {

@@ -17,7 +17,10 @@ pub struct ServeTask<'a> {
 }
 
 /// The task that the words ask for, if their sizes and the number of files fit.
-pub(crate) fn task_in<'a>(alloc: Global, matches: &ArgMatches<'a>) -> Result<Option<ServeTask<'a>>, Memory>
+pub(crate) fn task_in<'a>(
+    alloc: Global,
+    matches: &ArgMatches<'a>,
+) -> Result<Option<ServeTask<'a>>, Memory>
     ensures { IfOk result (λ task. option_map shown task ≡ task_in (rows_of (found_of matches.now))) }
 {
     let Some(sizes) = sizes_in(matches) else {

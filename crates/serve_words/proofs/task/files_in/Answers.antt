@@ -10,7 +10,8 @@ pub returns-in-Some : goal.returns-in-Some
 returns-in-Some c =
     let found = found_of c.args.matches.now in
     let all = c.in-Some.ensures ∙ raw_values-rows found (codes "file") in
-    IfOk-weaker c.from_slice.result _ _ (λ files is. ap (map (λ file. file.now)) is ∙ ap (λ o. unwrap_or o []) all) c.from_slice.ensures.items
+    IfOk-weaker c.from_slice.result _ _
+    (λ files is. ap (map (λ file. file.now)) is ∙ ap (λ o. unwrap_or o []) all) c.from_slice.ensures.items
 
 pub returns-in-None : goal.returns-in-None
 returns-in-None c =
