@@ -1,5 +1,6 @@
 -- The sizes that the options ask for.
-use Rattle.std.specs.Prelude.{ℕ, ℤ, List, Option, Some, None, codes, if◌then◌else◌, pos, ◌==◌, ◌&&◌, ◌%◌, nat_le}
+use Rattle.std.specs.Prelude.{◌≡◌, ◌≤◌, ℕ, ℤ, List, Option, Some, None, codes, if◌then◌else◌, pos, ◌==◌, ◌&&◌, ◌%◌}
+use Rattle.std.specs.Prelude.{nat_le}
 use Rattle.std.specs.Option.{option_map_or}
 use Rattle.flake_model.specs.Range.{signed_of}
 use Rattle.clap.specs.Walk.{Row, first_of}
@@ -47,3 +48,11 @@ abbrev pub sizes_in : List Row → Option Sizes
 sizes_in rows = all_sizes (size_in (codes "shards") shards_limits rows) (size_in (codes "small") small_limits rows)
     (size_in (codes "large") large_limits rows) (size_in (codes "ring") ring_limits rows)
     (size_in (codes "threshold") threshold_limits rows)
+
+-- sizes that a run can be given
+pub record AreAllowed (sizes : Sizes) : Type 0 where
+  pub shards : (1 ≤ sizes.shards) × (sizes.shards ≤ 16)
+  pub small : (128 ≤ sizes.small) × (sizes.small ≤ 65_536)
+  pub large : (1 ≤ sizes.large) × (sizes.large ≤ 16_384)
+  pub ring : (sizes.ring % 8 ≡ 0) × (1160 ≤ sizes.ring) × (sizes.ring ≤ 4096)
+  pub threshold : (1 ≤ sizes.threshold) × (sizes.threshold ≤ 512)

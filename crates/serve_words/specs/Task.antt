@@ -1,12 +1,12 @@
 -- What the words of the command line ask for.
 use Rattle.std.specs.Prelude.{ℕ, Bool, List, [], ◌∷◌, Option, Some, None, codes, if◌then◌else◌, map, length, unwrap_or}
-use Rattle.std.specs.Prelude.{◌*◌, ◌&&◌, false, nat_le, String, string_bytes}
+use Rattle.std.specs.Prelude.{◌≤◌, ◌*◌, ◌&&◌, false, nat_le, String, string_bytes}
 use Rattle.std.specs.Global.{Global}
 use Rattle.std.specs.Option.{option_and_then}
 use Rattle.std.specs.Str.{bytes_eq}
 use Rattle.clap.specs.Walk.{Row, all_of}
 use Rattle.serve_words.specs.Command.{rows_in}
-use Rattle.serve_words.specs.Sizes.{sizes_in}
+use Rattle.serve_words.specs.Sizes.{AreAllowed, sizes_in}
 use Rattle.serve_words.specs.declared.sizes.Sizes.{Sizes}
 use Rattle.serve_words.specs.declared.task.ServeTask.{ServeTask}
 
@@ -43,3 +43,9 @@ texts_of words = map (λ word. string_bytes word) words
 -- the task, as the code holds it
 abbrev pub shown : ServeTask → Task
 shown task = record { files = map (λ file. file.now) task.files.items; sizes = task.sizes }
+
+-- a task that a run can be given
+pub record IsAllowed (task : Task) : Type 0 where
+  pub sizes : AreAllowed task.sizes
+  pub files : (1 ≤ length task.files) × (length task.files ≤ 16)
+  pub small : 128 * length task.files ≤ task.sizes.small

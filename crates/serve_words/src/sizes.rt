@@ -2,7 +2,7 @@ ghost use Rattle.std.specs.Prelude.{◌≡◌, ◌≤◌, IfSome, Some, None};
 ghost use Rattle.clap.specs.Matches.{found_of};
 ghost use Rattle.clap.specs.Walk.{rows_of};
 ghost use Rattle.flake_model.specs.Range.{signed_of};
-ghost use Rattle.serve_words.specs.Sizes.{size_in, sizes_in, within};
+ghost use Rattle.serve_words.specs.Sizes.{AreAllowed, size_in, sizes_in, within};
 
 use clap::ArgMatches;
 use range_pick::read_signed;
@@ -60,7 +60,8 @@ const THRESHOLD: Limits = Limits {
 
 /// The sizes that the options ask for.
 pub(crate) fn sizes_in(matches: &ArgMatches<'_>) -> Option<Sizes>
-    ensures { result ≡ sizes_in (rows_of (found_of matches.now)) }
+    ensures value { result ≡ sizes_in (rows_of (found_of matches.now)) }
+    ensures allowed { IfSome result AreAllowed }
 {
     let shards = size_in(matches, "shards", SHARDS)?;
     let small = size_in(matches, "small", SMALL)?;
@@ -81,9 +82,9 @@ pub(crate) fn sizes_in(matches: &ArgMatches<'_>) -> Option<Sizes>
 
 // The size that an option gives.
 fn size_in(matches: &ArgMatches<'_>, name: &str, limits: Limits) -> Option<u32>
-    requires { limits.usual ≤ limits.most }
+    requires { (limits.least ≤ limits.usual) × (limits.usual ≤ limits.most) }
     ensures value { result ≡ size_in name.now limits (rows_of (found_of matches.now)) }
-    ensures most { IfSome result (λ size. size ≤ limits.most) }
+    ensures within { IfSome result (λ size. (limits.least ≤ size) × (size ≤ limits.most)) }
 {
     match matches.get_str(name) {
         Some(text) => within(limits, text),
@@ -94,7 +95,7 @@ fn size_in(matches: &ArgMatches<'_>, name: &str, limits: Limits) -> Option<u32>
 // The number within its limits.
 fn within(limits: Limits, text: &str) -> Option<u32>
     ensures value { result ≡ within limits (signed_of text.now) }
-    ensures most { IfSome result (λ size. size ≤ limits.most) }
+    ensures within { IfSome result (λ size. (limits.least ≤ size) × (size ≤ limits.most)) }
 {
     let number = read_signed(text.as_bytes()).ok()?;
     let size = u32::try_from(number).ok()?;

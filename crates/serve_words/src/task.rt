@@ -1,7 +1,7 @@
-ghost use Rattle.std.specs.Prelude.{◌≡◌, IfOk, map, option_map};
+ghost use Rattle.std.specs.Prelude.{◌≡◌, IfOk, IfSome, map, option_map};
 ghost use Rattle.clap.specs.Matches.{found_of};
 ghost use Rattle.clap.specs.Walk.{rows_of};
-ghost use Rattle.serve_words.specs.Task.{files_in, fits, shown, task_in};
+ghost use Rattle.serve_words.specs.Task.{IsAllowed, files_in, fits, shown, task_in};
 
 use crate::sizes::{Sizes, sizes_in};
 use clap::ArgMatches;
@@ -21,7 +21,8 @@ pub(crate) fn task_in<'a>(
     alloc: Global,
     matches: &ArgMatches<'a>,
 ) -> Result<Option<ServeTask<'a>>, Memory>
-    ensures { IfOk result (λ task. option_map shown task ≡ task_in (rows_of (found_of matches.now))) }
+    ensures value { IfOk result (λ task. option_map shown task ≡ task_in (rows_of (found_of matches.now))) }
+    ensures allowed { IfOk result (λ task. IfSome task (λ t. IsAllowed (shown t))) }
 {
     let Some(sizes) = sizes_in(matches) else {
         return Ok(None);

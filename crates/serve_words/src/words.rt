@@ -1,5 +1,5 @@
-ghost use Rattle.std.specs.Prelude.{◌≡◌, IfOk, option_map};
-ghost use Rattle.serve_words.specs.Task.{is_serve, shown, task_of, texts_of};
+ghost use Rattle.std.specs.Prelude.{◌≡◌, IfOk, IfSome, option_map};
+ghost use Rattle.serve_words.specs.Task.{IsAllowed, is_serve, shown, task_of, texts_of};
 
 use crate::command::matches_of_words;
 use crate::task::{ServeTask, task_in};
@@ -9,7 +9,8 @@ use std::alloc::Global;
 /// The task that the words behind the program's name ask for, of which the first is `serve`; none where they are bad
 /// words.
 pub fn serve_task<'a>(alloc: Global, words: &'a [String]) -> Result<Option<ServeTask<'a>>, Memory>
-    ensures { IfOk result (λ task. option_map shown task ≡ task_of (texts_of words.entry.now)) }
+    ensures value { IfOk result (λ task. option_map shown task ≡ task_of (texts_of words.entry.now)) }
+    ensures allowed { IfOk result (λ task. IfSome task (λ t. IsAllowed (shown t))) }
 {
     if !is_serve(words) {
         return Ok(None);
