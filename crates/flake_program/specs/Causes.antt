@@ -42,7 +42,7 @@ pub record Causes {W : Type 0} (task : Task) (before after : Outside W) (done : 
   pub bad_words : (done.status ≡ 1) ↔ (IsNone task ⊎ (before.wires ≡ []))
   -- 2 only where an open of the file failed
   pub open_fault : done.status ≡ 2
-      → IfSome task (λ name. Rose (before.host.open_faults name) (after.host.open_faults name))
+      → IfSome task (λ job. Rose (before.host.open_faults job.name) (after.host.open_faults job.name))
   -- and with every other status but 6 none did
   pub opened : done.status ≢ 2 → done.status ≢ 6
       → (name : List ℕ) → after.host.open_faults name ≡ before.host.open_faults name

@@ -18,6 +18,6 @@ pub record NothingFailed {W : Type 0} (name : List ℕ) (before after : Outside 
 
 pub record Complete {W : Type 0} (task : Task) (before after : Outside W) (done : Done) : Type 0 where
   -- where the words are accepted and nothing failed, an input of whole requests is served with status 0
-  pub whole : before.wires ≢ [] → IfSome task (λ name. NothingFailed name before after done
-      → IfSome (before.host.holds name) (λ bytes.
+  pub whole : before.wires ≢ [] → IfSome task (λ job. NothingFailed job.name before after done
+      → IfSome (before.host.holds job.name) (λ bytes.
       (requests : List Words) → Parses bytes requests Clean → done.status ≡ 0))

@@ -1,6 +1,5 @@
 -- What a run says of what it served.
 use Rattle.std.specs.Prelude.{◌≡◌, ◌≢◌, ◌≤◌, ℕ, List, [], ◌∷◌, Option, Some, length, map, drop, All}
-use Rattle.std.specs.Option.{option_to_list}
 use Rattle.flake_base.specs.Calls.{counted}
 use Rattle.flake_base.specs.Told.{HostTold}
 use Rattle.flake_base.specs.declared.session.End.TheVariants.{Left}
@@ -11,13 +10,13 @@ use Rattle.pinned_pool.specs.Claims.{count_of}
 use Rattle.pinned_pool.specs.Ends.{End}
 use Rattle.serve_model.specs.Demand.{demand_of}
 use Rattle.serve_model.specs.Shown.{IsCounted}
-use Rattle.flake_program.specs.Task.{Task, pool_sizes, shard_count}
+use Rattle.flake_program.specs.Task.{Task, names_of, pool_of, shards_of}
 use Rattle.flake_program.specs.Outside.{Outside, sent_by, bytes_of, kept_by, faults_of}
 use Rattle.flake_program.specs.Outcome.{Done, ways, files_of, lefts_of}
 
 -- what the host held under the names of the files, where it tells that
 abbrev pub inputs_of : Task → HostTold → List (Option (List ℕ))
-inputs_of task host = map host.holds (option_to_list task)
+inputs_of task host = map host.holds (names_of task)
 
 pub record Served {W : Type 0} (task : Task) (before after : Outside W) (done : Done) : Type 0 where
   -- the journal has the parts that were run, in one history, and the wires were sent the texts of the replies that it
@@ -28,10 +27,10 @@ pub record Served {W : Type 0} (task : Task) (before after : Outside W) (done : 
   -- as the commands may claim at most, and a write without an entry found no free buffer
   pub pool : End
   pub pool_is : done.pool ≡ Some pool
-  pub shows : IsCounted pool_sizes run.sessions done.journal pool
+  pub shows : IsCounted (pool_of task) run.sessions done.journal pool
   pub held : (done.held.small ≡ pool.small) × (done.held.large ≡ pool.large)
   -- and every write has its entry, where the pool has as many buffers of each class as the commands may claim
-  pub none_missing : ((class : Class) → demand_of class (all_commands run.sessions) ≤ count_of pool_sizes class)
+  pub none_missing : ((class : Class) → demand_of class (all_commands run.sessions) ≤ count_of (pool_of task) class)
       → missing_writes run.sessions done.journal ≡ 0
   -- as many bytes were put as the texts have, also on a wire that doesn't tell which
   pub bytes : BytesAre (wire_texts run.sessions done.journal) (bytes_of before) (bytes_of after)
@@ -42,7 +41,7 @@ pub record Served {W : Type 0} (task : Task) (before after : Outside W) (done : 
   -- the wires past the sessions are as handed in
   pub others : drop (length done.ends) after.wires ≡ drop (length done.ends) before.wires
   -- each shard has its history
-  pub shards : length done.journal ≡ shard_count
+  pub shards : length done.journal ≡ shards_of task
   -- no session was left before its input ended
   pub to_the_end : All (λ way. way ≢ Left) (ways done.ends)
   -- the file was opened once, and its source comes back

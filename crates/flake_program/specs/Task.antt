@@ -1,27 +1,42 @@
 -- What the words of the command line ask for.
-use Rattle.std.specs.Prelude.{ℕ, if◌then◌else◌, List, [], ◌∷◌, Option, Some, None, codes, map, string_bytes}
-use Rattle.std.specs.Prelude.{String}
+use Rattle.std.specs.Prelude.{ℕ, ◌+◌, List, [], ◌∷◌, Option, Some, None, String}
 use Rattle.std.specs.Global.{Global}
-use Rattle.std.specs.Str.{bytes_eq}
-use Rattle.pin_core.specs.declared.sizes.Sizes.{Sizes}
+use Rattle.std.specs.Option.{option_and_then, option_map_or}
+use Rattle.pin_core.specs.declared.sizes.Sizes as pool
+use Rattle.serve_words.specs.Task as words
+use Rattle.serve_words.specs.declared.sizes.Sizes.{Sizes}
 
--- the name of the file that is to be served; none where the words are no command
+-- the name of a file that is to be served, and the sizes to serve it with
+pub record Job : Type 0 where
+  pub name : List ℕ
+  pub sizes : Sizes
+
+-- none where the words are bad words
 abbrev pub Task : Type 0
-Task = Option (List ℕ)
+Task = Option Job
 
--- the words are `serve` and the file's name
-abbrev pub task_in : List (List ℕ) → Task
-task_in [] = None
-task_in (command ∷ []) = None
-task_in (command ∷ file ∷ []) = if bytes_eq command (codes "serve") then Some file else None
-task_in (command ∷ file ∷ more ∷ words) = None
+-- a run serves one file
+abbrev pub job_of : List (List ℕ) → Sizes → Task
+job_of [] sizes = None
+job_of (name ∷ []) sizes = Some (record { name = name; sizes = sizes })
+job_of (name ∷ other ∷ names) sizes = None
+
+abbrev pub only_file : words.Task → Task
+only_file task = job_of task.files task.sizes
 
 abbrev pub task_of : List (String Global) → Task
-task_of words = task_in (map (λ word. string_bytes word) words)
+task_of typed = option_and_then only_file (words.task_of (words.texts_of typed))
 
--- how many shards there are, and how large the pool is: its credits are those of a session, of the shards, and one more
-abbrev pub shard_count : ℕ
-shard_count = 8
+abbrev pub names_of : Task → List (List ℕ)
+names_of None = []
+names_of (Some job) = job.name ∷ []
 
-abbrev pub pool_sizes : Sizes
-pool_sizes = record { small = 4096; large = 1024; credits = 8201 }
+-- how large the pool is: its credits are those of a session, one for each shard, and one more
+abbrev pub pool_for : Sizes → pool.Sizes
+pool_for sizes = record { small = sizes.small; large = sizes.large; credits = 8192 + sizes.shards + 1 }
+
+abbrev pub pool_of : Task → pool.Sizes
+pool_of task = option_map_or (λ (job : Job). pool_for job.sizes) task (record { small = 0; large = 0; credits = 0 })
+
+abbrev pub shards_of : Task → ℕ
+shards_of task = option_map_or (λ (job : Job). job.sizes.shards) task 0

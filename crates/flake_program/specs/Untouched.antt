@@ -1,7 +1,7 @@
 -- What a run leaves as it was.
-use Rattle.std.specs.Prelude.{◌≡◌, ◌≢◌, ◌⊎◌, ℕ, List, [], Some, None}
+use Rattle.std.specs.Prelude.{◌≡◌, ◌≢◌, ◌⊎◌, ℕ, List, [], ◌∷◌, None}
 use Rattle.flake_base.specs.Calls.{counted}
-use Rattle.flake_program.specs.Task.{Task}
+use Rattle.flake_program.specs.Task.{Task, names_of}
 use Rattle.flake_program.specs.Outside.{Outside}
 use Rattle.flake_program.specs.Outcome.{Done, none_held}
 
@@ -19,7 +19,7 @@ pub record Untouched {W : Type 0} (task : Task) (before after : Outside W) (done
   -- and the host holds every name as before
   pub holds : (done.status ≡ 1) ⊎ (done.status ≡ 2) → (name : List ℕ) → after.host.holds name ≡ before.host.holds name
   -- whatever the status, it holds the names of other files as before
-  pub other_files : (name : List ℕ) → task ≢ Some name → after.host.holds name ≡ before.host.holds name
+  pub other_files : (name : List ℕ) → names_of task ≢ name ∷ [] → after.host.holds name ≡ before.host.holds name
   -- no file is opened for bad words
   pub unopened : done.status ≡ 1 → after.host.opens ≡ before.host.opens
   -- nor any file a second time
