@@ -48,9 +48,9 @@ Says z operation None said seat after =
     (none : NoBuffer) × (said ≡ say.NoBuffer none) × HasNone z operation none seat after
 Says z operation (Some done) said seat after = said ≡ shown done.answer
 
--- all bytes that were answered lie in the fragments that were found
+-- all bytes that were answered, if there are any, lie in the fragments that were found
 abbrev pub Reach : Answer → ℕ → List ℕ → Type 0
-Reach (value bytes) first found = first + length bytes ≤ fragment_limit * length found
+Reach (value bytes) first found = 0 < length bytes → first + length bytes ≤ fragment_limit * length found
 Reach answer first found = Unit {0}
 
 abbrev pub Reaches : Option Done → Type 0

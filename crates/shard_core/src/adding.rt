@@ -1,5 +1,5 @@
 //! Appends.
-ghost use Rattle.std.specs.Prelude.{◌≡◌, ◌<◌, ◌≤◌, List, Some, None, length, IfErr, OnErr};
+ghost use Rattle.std.specs.Prelude.{◌≡◌, ◌+◌, ◌<◌, ◌≤◌, List, Some, None, length, IfErr, OnErr};
 ghost use Rattle.indexmap.specs.IndexMap.{index_of_by};
 ghost use Rattle.flake_model.specs.Store.{append as append_op};
 ghost use Rattle.frag_value.specs.Changes.{found_none};
@@ -45,6 +45,7 @@ fn add_first<P: PoolName>(
     ensures same { StandsAsBefore P.sizes kept.old.values.entries kept.old.own.holds
         kept.new.values.entries kept.new.own.holds result }
     ensures untold { OnErr result (stored.new.items ≡ stored.old.items) }
+    ensures spare { stored.old.spare + length stored.old.items ≤ stored.new.spare + length stored.new.items }
     ensures cause { IfErr result (λ e. WhyRefused P.sizes (append_op key.now bytes.now) e payer.old payer.new) }
     ensures paid { IsPaid P.sizes (λ (class : Class). part_row class (append_op key.now bytes.now)) (found_none result)
         payer.old payer.new }
@@ -91,6 +92,7 @@ fn add_more<P: PoolName>(
     ensures same { StandsAsBefore P.sizes kept.old.values.entries kept.old.own.holds
         kept.new.values.entries kept.new.own.holds result }
     ensures untold { OnErr result (stored.new.items ≡ stored.old.items) }
+    ensures spare { stored.old.spare + length stored.old.items ≤ stored.new.spare + length stored.new.items }
     ensures cause { IfErr result (λ e. WhyRefused P.sizes (append_op key.now bytes.now) e payer.old payer.new) }
     ensures paid { IsPaid P.sizes (λ (class : Class). part_row class (append_op key.now bytes.now)) (found_none result)
         payer.old payer.new }
@@ -133,6 +135,7 @@ pub(crate) fn add<P: PoolName>(
     ensures same { StandsAsBefore P.sizes kept.old.values.entries kept.old.own.holds
         kept.new.values.entries kept.new.own.holds result }
     ensures untold { OnErr result (stored.new.items ≡ stored.old.items) }
+    ensures spare { stored.old.spare + length stored.old.items ≤ stored.new.spare + length stored.new.items }
     ensures cause { IfErr result (λ e. WhyRefused P.sizes (append_op key.now bytes.now) e payer.old payer.new) }
     ensures paid { IsPaid P.sizes (λ (class : Class). part_row class (append_op key.now bytes.now)) (found_none result)
         payer.old payer.new }

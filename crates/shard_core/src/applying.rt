@@ -46,6 +46,7 @@ fn apply_other<P: PoolName, T: Taker<P>>(
     ensures same { StandsAsBefore P.sizes kept.old.values.entries kept.old.own.holds
         kept.new.values.entries kept.new.own.holds result }
     ensures untold { OnErr result (stored.new.items ≡ stored.old.items) }
+    ensures spare { stored.old.spare + length stored.old.items ≤ stored.new.spare + length stored.new.items }
     ensures untaken { OnErr result (T.taken taker.new ≡ T.taken taker.old) }
     ensures cause { IfErr result (λ e. WhyRefused P.sizes (operation_of part.now) e payer.old payer.new) }
     ensures paid { IsPaid P.sizes (λ (class : Class). part_row class (operation_of part.now)) (found_none result)
@@ -95,6 +96,7 @@ pub(crate) fn apply<P: PoolName, T: Taker<P>>(
     ensures same { StandsAsBefore P.sizes kept.old.values.entries kept.old.own.holds
         kept.new.values.entries kept.new.own.holds result }
     ensures untold { OnErr result (stored.new.items ≡ stored.old.items) }
+    ensures spare { stored.old.spare + length stored.old.items ≤ stored.new.spare + length stored.new.items }
     ensures untaken { OnErr result (T.taken taker.new ≡ T.taken taker.old) }
     ensures cause { IfErr result (λ e. WhyRefused P.sizes (operation_of part.now) e payer.old payer.new) }
     ensures paid { IsPaid P.sizes (λ (class : Class). part_row class (operation_of part.now)) (found_none result)

@@ -1,5 +1,5 @@
 //! A value goes from bytes to a shard.
-ghost use Rattle.std.specs.Prelude.{◌≡◌, ◌<◌, ◌≤◌, ◌++◌, None, Some, length, IfOk, IfErr, OnOk, OnErr};
+ghost use Rattle.std.specs.Prelude.{◌≡◌, ◌+◌, ◌<◌, ◌≤◌, ◌++◌, None, Some, length, IfOk, IfErr, OnOk, OnErr};
 ghost use Rattle.indexmap.specs.IndexMap.{index_of_by};
 ghost use Rattle.frag_value.specs.Fragments.{value_limit, frags_limit, fragments_of, fragments_in};
 ghost use Rattle.frag_value.specs.Changes.{WhyUnplaced, found_none};
@@ -61,6 +61,7 @@ fn place_over<P: PoolName>(
         stored.old.items stored.new.items) }
     ensures refused { OnErr result (IsAsBefore kept.old.values.entries kept.new.values.entries kept.old.own kept.new.own
         stored.old.items stored.new.items) }
+    ensures spare { stored.old.spare + length stored.old.items ≤ stored.new.spare + length stored.new.items }
     ensures cause { IfErr result (λ e. WhyUnplaced P.sizes (fragments_of bytes.now) e payer.old payer.new) }
     ensures paid { IsPaid P.sizes (λ (class : Class). fragments_in class (fragments_of bytes.now)) (found_none result)
         payer.old payer.new }
@@ -90,6 +91,7 @@ pub(crate) fn place_first<P: PoolName>(
         stored.old.items stored.new.items) }
     ensures refused { OnErr result (IsAsBefore kept.old.values.entries kept.new.values.entries kept.old.own kept.new.own
         stored.old.items stored.new.items) }
+    ensures spare { stored.old.spare + length stored.old.items ≤ stored.new.spare + length stored.new.items }
     ensures cause { IfErr result (λ e. WhyUnplaced P.sizes (fragments_of bytes.now) e payer.old payer.new) }
     ensures paid { IsPaid P.sizes (λ (class : Class). fragments_in class (fragments_of bytes.now)) (found_none result)
         payer.old payer.new }
@@ -127,6 +129,7 @@ pub(crate) fn place<P: PoolName>(
         stored.old.items stored.new.items) }
     ensures refused { OnErr result (IsAsBefore kept.old.values.entries kept.new.values.entries kept.old.own kept.new.own
         stored.old.items stored.new.items) }
+    ensures spare { stored.old.spare + length stored.old.items ≤ stored.new.spare + length stored.new.items }
     ensures cause { IfErr result (λ e. WhyUnplaced P.sizes (fragments_of bytes.now) e payer.old payer.new) }
     ensures paid { IsPaid P.sizes (λ (class : Class). fragments_in class (fragments_of bytes.now)) (found_none result)
         payer.old payer.new }

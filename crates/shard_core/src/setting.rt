@@ -56,6 +56,7 @@ fn store<P: PoolName, T: Taker<P>>(
     ensures refused { OnErr result (IsAsBefore kept.old.values.entries kept.new.values.entries kept.old.own kept.new.own
         stored.old.items stored.new.items) }
     ensures untaken { OnErr result (T.taken taker.new ≡ T.taken taker.old) }
+    ensures spare { stored.old.spare + length stored.old.items ≤ stored.new.spare + length stored.new.items }
     ensures cause { IfErr result (λ e. WhyUnplaced P.sizes (fragments_of bytes.now) e payer.old payer.new) }
     ensures paid { IsPaid P.sizes (λ (class : Class). fragments_in class (fragments_of bytes.now)) (found_none result)
         payer.old payer.new }
@@ -113,6 +114,7 @@ pub(crate) fn set<P: PoolName, T: Taker<P>>(
     ensures refused { OnErr result (IsAsBefore kept.old.values.entries kept.new.values.entries kept.old.own kept.new.own
         stored.old.items stored.new.items) }
     ensures untaken { OnErr result (T.taken taker.new ≡ T.taken taker.old) }
+    ensures spare { stored.old.spare + length stored.old.items ≤ stored.new.spare + length stored.new.items }
     ensures cause { IfErr result (λ e. WhyUnplaced P.sizes (fragments_of bytes.now) e payer.old payer.new) }
     ensures paid { IsPaid P.sizes (λ (class : Class). fragments_in class (fragments_of bytes.now)) (found_none result)
         payer.old payer.new }

@@ -78,6 +78,7 @@ impl<P: PoolName> Shelf<P> {
         ensures same { StandsAsBefore P.sizes self.old.entries self.old.seat.holds
             self.new.entries self.new.seat.holds result }
         ensures untold { OnErr result (stored.new.items ≡ stored.old.items) }
+        ensures spare { stored.old.spare + length stored.old.items ≤ stored.new.spare + length stored.new.items }
         ensures untaken { OnErr result (T.taken taker.new ≡ T.taken taker.old) }
         ensures cause { IfErr result (λ e. WhyRefused P.sizes (operation_of part.now) e payer.old payer.new) }
         ensures paid { IsPaid P.sizes (λ (class : Class). part_row class (operation_of part.now)) (found_none result)

@@ -1,1 +1,6 @@
-mod Nothing
+mod Histories
+mod Stored
+mod Reached
+mod Counted
+mod Stocked
+mod Gathering

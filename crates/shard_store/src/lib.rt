@@ -1,8 +1,13 @@
 //! The store: shards of values, each behind a lock of its own, whose histories say what was answered.
 #![tactic(auto)]
 
+mod done;
+mod locks;
+mod parts;
+mod shard;
 mod store;
 
+pub use parts::Parts;
 pub use shard_core::PartAnswer;
 pub use shard_part::{Part, PartOp, shard_of};
-pub use store::Store;
+pub use store::{Store, is_shared};

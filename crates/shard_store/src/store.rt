@@ -1,5 +1,6 @@
 //! The shards, each behind a lock of its own.
-ghost use Rattle.std.specs.Prelude.{◌≡◌, ◌+◌, ◌<◌, ◌≤◌, true, false, None, length, IfOk, IfErr, OnErr};
+ghost use Rattle.std.specs.Prelude.{◌≡◌, ◌+◌, ◌<◌, ◌≤◌, true, false, nat_lt, min, is_some, None, [], length};
+ghost use Rattle.std.specs.Prelude.{IfOk, IfErr, OnErr};
 ghost use Rattle.view_sums.specs.Total.{Each};
 ghost use Rattle.flake_model.specs.Journal.{shard_of as shard_of_key};
 ghost use Rattle.frag_value.specs.Fragments.{value_limit, frags_limit};
@@ -8,22 +9,53 @@ ghost use Rattle.shard_core.specs.Done.{is_taking, is_ranged};
 ghost use Rattle.shard_core.specs.Shelves.{IsBare};
 ghost use Rattle.shard_part.specs.Parts.{operation_of};
 ghost use Rattle.call_model.specs.Parts.{IsTold, IsUntold, KeepsSeat};
+ghost use Rattle.call_model.specs.Stock.{AreParts};
+ghost use Rattle.shard_store.specs.Journals.{histories};
 
-use flake_base::{Entry, Memory, Segs};
+use crate::locks::{open_lock, run_in};
+use crate::parts::{Parts, Room, all_taken, first_lock, take_lock};
+use crate::shard::Shard;
+use flake_base::{Entry, Memory, Segs, Sequence};
 use frag_value::Taker;
 use order_book::{Book, BookName, SessionSeat, ShardSeats};
 use pinned_pool::{Pool, PoolName, PoolSeat, PoolSeats};
 use shard_core::PartAnswer;
-use shard_part::Part;
+use shard_part::{Part, shard_of};
 use std::alloc::Global;
-use std::marker::PhantomData;
-use std::sync::Wait;
+use std::sync::{Mutex, Wait};
 
-/// The shards of a book over the buffers of a pool.
+/// The shards of a book over the buffers of a pool. The type behind each lock has the shard's number as a parameter,
+/// since all that a lock tells is its type.
 #[derive(Drop)]
 pub struct Store<N: BookName, P: PoolName> {
-    book: PhantomData<N>,
-    pool: PhantomData<P>,
+    alloc: Global,
+    shards: u16,
+    shard0: Option<Mutex<Shard<N, P, 0>>>,
+    shard1: Option<Mutex<Shard<N, P, 1>>>,
+    shard2: Option<Mutex<Shard<N, P, 2>>>,
+    shard3: Option<Mutex<Shard<N, P, 3>>>,
+    shard4: Option<Mutex<Shard<N, P, 4>>>,
+    shard5: Option<Mutex<Shard<N, P, 5>>>,
+    shard6: Option<Mutex<Shard<N, P, 6>>>,
+    shard7: Option<Mutex<Shard<N, P, 7>>>,
+    shard8: Option<Mutex<Shard<N, P, 8>>>,
+    shard9: Option<Mutex<Shard<N, P, 9>>>,
+    shard10: Option<Mutex<Shard<N, P, 10>>>,
+    shard11: Option<Mutex<Shard<N, P, 11>>>,
+    shard12: Option<Mutex<Shard<N, P, 12>>>,
+    shard13: Option<Mutex<Shard<N, P, 13>>>,
+    shard14: Option<Mutex<Shard<N, P, 14>>>,
+    shard15: Option<Mutex<Shard<N, P, 15>>>,
+    room: Mutex<Room<N>>,
+    ghost sized: { (shards ≡ N.sizes.shards) × (0 < shards) × (shards ≤ 16) },
+    ghost locks: { (is_some shard0 ≡ nat_lt 0 shards) × (is_some shard1 ≡ nat_lt 1 shards)
+        × (is_some shard2 ≡ nat_lt 2 shards) × (is_some shard3 ≡ nat_lt 3 shards)
+        × (is_some shard4 ≡ nat_lt 4 shards) × (is_some shard5 ≡ nat_lt 5 shards)
+        × (is_some shard6 ≡ nat_lt 6 shards) × (is_some shard7 ≡ nat_lt 7 shards)
+        × (is_some shard8 ≡ nat_lt 8 shards) × (is_some shard9 ≡ nat_lt 9 shards)
+        × (is_some shard10 ≡ nat_lt 10 shards) × (is_some shard11 ≡ nat_lt 11 shards)
+        × (is_some shard12 ≡ nat_lt 12 shards) × (is_some shard13 ≡ nat_lt 13 shards)
+        × (is_some shard14 ≡ nat_lt 14 shards) × (is_some shard15 ≡ nat_lt 15 shards) },
 }
 
 impl<N: BookName, P: PoolName> Store<N, P> {
@@ -39,7 +71,68 @@ impl<N: BookName, P: PoolName> Store<N, P> {
         requires seats { (length seats.items ≡ N.sizes.shards) × Each IsBare seats.items }
         ensures { IfErr result (λ e. (e.1 ≡ seats) × (e.2 ≡ books)) }
     {
-        Err((Memory, seats, books))
+        let shards = books.len();
+        let Ok(journal) = Sequence::with_room(alloc, shards) else {
+            return Err((Memory, seats, books));
+        };
+        let Ok(emptied) = ShardSeats::with_room(alloc, shards) else {
+            return Err((Memory, seats, books));
+        };
+        let room = Room {
+            journal,
+            books: emptied,
+        };
+        Ok(Store::open_in(alloc, shards as u16, seats, books, room))
+    }
+
+    fn open_in(
+        alloc: Global,
+        shards: u16,
+        mut seats: PoolSeats<P>,
+        mut books: ShardSeats<N>,
+        room: Room<N>,
+    ) -> Store<N, P>
+        requires shards { (shards ≡ N.sizes.shards) × (0 < shards) × (shards ≤ 16) }
+        requires books { books.items ≡ new_shards (min 16 shards) }
+        requires seats { (length seats.items ≡ min 16 shards) × Each IsBare seats.items }
+    {
+        let shard15 = open_lock(alloc, shards, &mut seats, &mut books);
+        let shard14 = open_lock(alloc, shards, &mut seats, &mut books);
+        let shard13 = open_lock(alloc, shards, &mut seats, &mut books);
+        let shard12 = open_lock(alloc, shards, &mut seats, &mut books);
+        let shard11 = open_lock(alloc, shards, &mut seats, &mut books);
+        let shard10 = open_lock(alloc, shards, &mut seats, &mut books);
+        let shard9 = open_lock(alloc, shards, &mut seats, &mut books);
+        let shard8 = open_lock(alloc, shards, &mut seats, &mut books);
+        let shard7 = open_lock(alloc, shards, &mut seats, &mut books);
+        let shard6 = open_lock(alloc, shards, &mut seats, &mut books);
+        let shard5 = open_lock(alloc, shards, &mut seats, &mut books);
+        let shard4 = open_lock(alloc, shards, &mut seats, &mut books);
+        let shard3 = open_lock(alloc, shards, &mut seats, &mut books);
+        let shard2 = open_lock(alloc, shards, &mut seats, &mut books);
+        let shard1 = open_lock(alloc, shards, &mut seats, &mut books);
+        let shard0 = open_lock(alloc, shards, &mut seats, &mut books);
+        Store {
+            alloc,
+            shards,
+            shard0,
+            shard1,
+            shard2,
+            shard3,
+            shard4,
+            shard5,
+            shard6,
+            shard7,
+            shard8,
+            shard9,
+            shard10,
+            shard11,
+            shard12,
+            shard13,
+            shard14,
+            shard15,
+            room: Mutex::new(room),
+        }
     }
 
     /// Does a part in the shard of its key, and enters it there and in the session's list. What it stores is claimed on
@@ -79,6 +172,269 @@ impl<N: BookName, P: PoolName> Store<N, P> {
             → T.range_room taker.old + length (T.taken taker.old)
             ≤ T.range_room taker.new + length (T.taken taker.new) }
     {
-        Err(Memory)
+        match shard_of(part.key, self.shards) {
+            0 => run_in(
+                rt,
+                self.alloc,
+                &self.shard0,
+                pool,
+                book,
+                seat,
+                mine,
+                at,
+                part,
+                taker,
+                stored,
+            ),
+            1 => run_in(
+                rt,
+                self.alloc,
+                &self.shard1,
+                pool,
+                book,
+                seat,
+                mine,
+                at,
+                part,
+                taker,
+                stored,
+            ),
+            2 => run_in(
+                rt,
+                self.alloc,
+                &self.shard2,
+                pool,
+                book,
+                seat,
+                mine,
+                at,
+                part,
+                taker,
+                stored,
+            ),
+            3 => run_in(
+                rt,
+                self.alloc,
+                &self.shard3,
+                pool,
+                book,
+                seat,
+                mine,
+                at,
+                part,
+                taker,
+                stored,
+            ),
+            4 => run_in(
+                rt,
+                self.alloc,
+                &self.shard4,
+                pool,
+                book,
+                seat,
+                mine,
+                at,
+                part,
+                taker,
+                stored,
+            ),
+            5 => run_in(
+                rt,
+                self.alloc,
+                &self.shard5,
+                pool,
+                book,
+                seat,
+                mine,
+                at,
+                part,
+                taker,
+                stored,
+            ),
+            6 => run_in(
+                rt,
+                self.alloc,
+                &self.shard6,
+                pool,
+                book,
+                seat,
+                mine,
+                at,
+                part,
+                taker,
+                stored,
+            ),
+            7 => run_in(
+                rt,
+                self.alloc,
+                &self.shard7,
+                pool,
+                book,
+                seat,
+                mine,
+                at,
+                part,
+                taker,
+                stored,
+            ),
+            8 => run_in(
+                rt,
+                self.alloc,
+                &self.shard8,
+                pool,
+                book,
+                seat,
+                mine,
+                at,
+                part,
+                taker,
+                stored,
+            ),
+            9 => run_in(
+                rt,
+                self.alloc,
+                &self.shard9,
+                pool,
+                book,
+                seat,
+                mine,
+                at,
+                part,
+                taker,
+                stored,
+            ),
+            10 => run_in(
+                rt,
+                self.alloc,
+                &self.shard10,
+                pool,
+                book,
+                seat,
+                mine,
+                at,
+                part,
+                taker,
+                stored,
+            ),
+            11 => run_in(
+                rt,
+                self.alloc,
+                &self.shard11,
+                pool,
+                book,
+                seat,
+                mine,
+                at,
+                part,
+                taker,
+                stored,
+            ),
+            12 => run_in(
+                rt,
+                self.alloc,
+                &self.shard12,
+                pool,
+                book,
+                seat,
+                mine,
+                at,
+                part,
+                taker,
+                stored,
+            ),
+            13 => run_in(
+                rt,
+                self.alloc,
+                &self.shard13,
+                pool,
+                book,
+                seat,
+                mine,
+                at,
+                part,
+                taker,
+                stored,
+            ),
+            14 => run_in(
+                rt,
+                self.alloc,
+                &self.shard14,
+                pool,
+                book,
+                seat,
+                mine,
+                at,
+                part,
+                taker,
+                stored,
+            ),
+            15 => run_in(
+                rt,
+                self.alloc,
+                &self.shard15,
+                pool,
+                book,
+                seat,
+                mine,
+                at,
+                part,
+                taker,
+                stored,
+            ),
+            _ => unreachable!(),
+        }
     }
+
+    /// What the shards have come to: their histories, which are legal, and the seat that holds their final values and
+    /// nothing else.
+    pub fn into_parts(self, pool: &Pool<P>) -> Parts<N, P>
+        ensures { AreParts P.sizes N.sizes.shards result.books.items (histories result.journal.items) result.seat }
+    {
+        let Store {
+            alloc: _,
+            shards,
+            shard0,
+            shard1,
+            shard2,
+            shard3,
+            shard4,
+            shard5,
+            shard6,
+            shard7,
+            shard8,
+            shard9,
+            shard10,
+            shard11,
+            shard12,
+            shard13,
+            shard14,
+            shard15,
+            room,
+        } = self;
+        let mut parts = first_lock(shards, shard0, room.into_inner());
+        take_lock(pool, shards, shard1, &mut parts);
+        take_lock(pool, shards, shard2, &mut parts);
+        take_lock(pool, shards, shard3, &mut parts);
+        take_lock(pool, shards, shard4, &mut parts);
+        take_lock(pool, shards, shard5, &mut parts);
+        take_lock(pool, shards, shard6, &mut parts);
+        take_lock(pool, shards, shard7, &mut parts);
+        take_lock(pool, shards, shard8, &mut parts);
+        take_lock(pool, shards, shard9, &mut parts);
+        take_lock(pool, shards, shard10, &mut parts);
+        take_lock(pool, shards, shard11, &mut parts);
+        take_lock(pool, shards, shard12, &mut parts);
+        take_lock(pool, shards, shard13, &mut parts);
+        take_lock(pool, shards, shard14, &mut parts);
+        take_lock(pool, shards, shard15, &mut parts);
+        all_taken(shards, &parts);
+        parts
+    }
+}
+
+fn shared<T: Sync>(_store: &T) {}
+
+/// Threads may share a store: this is well typed.
+pub fn is_shared<N: BookName + Send + Sync, P: PoolName + Send + Sync>(store: &Store<N, P>) {
+    shared(store);
 }

@@ -42,7 +42,7 @@ returns-in-Ok-clause-done g c = λ t s p a.
     let out : Put es es1 key [] = subst (λ x. Put es es1 key x) c.empty.ensures (put-set es es1 key i old c.empty.result c.requires.there first.old first.entries first.changed) in
     let back : Put es1 now key w = put-set es1 now key i c.exchange.result w (ap (position (is_key key)) first.keys ∙ c.requires.there) second.old second.entries second.changed in
     more_done g.P.PoolName.sizes key es es1 now c.args.kept.now.own c.extend.new.own old w c.requires.kept c.is_seat.ensures first.old out c.in-Ok.ensures.carried back
-    c.args.bytes.now c.args.stored.now.items c.show.new.stored.items c.len-length.result c.is_value.ensures c.in-Ok.ensures.longer c.len-length.ensures.size c.show.ensures s p t a
+    c.args.bytes.now c.args.stored.now.items c.show.new.stored.items c.len-length.result c.is_value.ensures c.in-Ok.ensures.longer c.len-length.ensures.size c.show.ensures.items s p t a
 
 pub returns-in-Err-clause-kept : goal.returns-in-Err-clause-kept
 returns-in-Err-clause-kept g c =

@@ -10,4 +10,4 @@ returns-clause-placed g c =
     let now = c.exchange.new.values.entries in
     let put = put-set es now c.args.key.now c.args.index c.exchange.result v c.requires.found c.exchange.ensures.old c.exchange.ensures.entries c.exchange.ensures.changed in
     placed g.P.PoolName.sizes c.args.key.now c.args.bytes.now es now v (Some c.exchange.result) c.args.kept.now.own c.bring.new.own c.args.stored.now.items c.show.new.stored.items
-    c.requires.kept c.in_ok-value.ensures.brought put (sym c.exchange.ensures.old) c.show.ensures
+    c.requires.kept c.in_ok-value.ensures.brought put (sym c.exchange.ensures.old) c.show.ensures.items
