@@ -117,6 +117,10 @@ module _ (answers : List (Entry × Answer)) (shards session : ℕ) where
   map_both f [] more = refl
   map_both f (x ∷ some) more = ap (λ rest. f x ∷ rest) (map_both f some more)
 
+  both_mapped : {A B : Type 0} (f : A → B) (some more : List A) (xs ys : List B) → map f some ≡ xs → map f more ≡ ys
+      → map f (some ++ more) ≡ xs ++ ys
+  both_mapped f some more xs ys first rest = map_both f some more ∙ (λ i. first i ++ rest i)
+
   -- the replies that the answers make, and each part with its answer, are those that were told
   pub record AreTold (call : ℕ) (commands : List Command) (calls : List Outcomes) : Type 0 where
     pub replies : replies_from answers session call (take (length calls) commands) ≡ replies_told commands calls
@@ -153,8 +157,9 @@ module _ (answers : List (Entry × Answer)) (shards session : ℕ) where
       (λ k some. earlier_differs (entry_at session call k) e (inl (omega arith))))) in
       record {
         replies = λ i. reply_of command (first i) ∷ next.replies i;
-        parts = map_both (λ (step : Step). (step.1, answer_at step.0 answers))
+        parts = both_mapped (λ (step : Step). (step.1, answer_at step.0 answers))
             (call_steps session call 0 (parts command))
             (session_steps session (call + 1) (take (length calls) commands))
-            ∙ (λ i. (paired call 0 (parts command) ∙ ap (zip (parts command)) first) i ++ next.parts i);
+            (zip (parts command) (answers_told outcomes)) (parts_told commands calls)
+            (paired call 0 (parts command) ∙ ap (zip (parts command)) first) next.parts;
       }

@@ -15,6 +15,7 @@ pub mod Counts
 pub mod Counted
 pub mod Complete
 pub mod Ran
+pub mod One
 pub mod Cuts
 pub mod Rows
 pub mod Worked

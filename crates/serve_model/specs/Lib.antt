@@ -7,6 +7,7 @@ pub mod Handed
 pub mod Lists
 pub mod Shown
 pub mod Whole
+pub mod One
 pub mod Stages
 pub mod Cuts
 pub mod Rows

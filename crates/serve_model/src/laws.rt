@@ -1,5 +1,6 @@
 //! What the clauses of parts, calls and sessions imply together, as contracts of calls that do nothing.
 ghost use Rattle.serve_model.specs.Cuts.{CutsAgree};
+ghost use Rattle.serve_model.specs.One.{OneRan};
 ghost use Rattle.serve_model.specs.Rows.{AreRows};
 ghost use Rattle.serve_model.specs.Seats.{JoinsAdd, OneSeat, AnyOrder, IdleStarts};
 ghost use Rattle.serve_model.specs.Stages.{NoStageRefused};
@@ -23,6 +24,11 @@ pub fn ran()
 /// Sessions that ran each for itself were served together.
 pub fn all_served()
     ensures { ServedTogether }
+{}
+
+/// The only session of a book, with the text that the journal gives.
+pub fn one_ran()
+    ensures { OneRan }
 {}
 
 /// Where the pool has the demand in both classes no write is missing.

@@ -1,0 +1,43 @@
+-- A run of one session alone.
+use Rattle.std.proofs.Common.{◌≡◌, ℕ, Bool, List, [], ◌∷◌, map, ap, sym, ◌∙◌}
+use Rattle.flake_base.specs.declared.journal.Entry.{Entry}
+use Rattle.flake_base.specs.declared.session.SessionEnd.{SessionEnd}
+use Rattle.flake_model.specs.Command.{Command}
+use Rattle.flake_model.specs.Journal.{wire_text}
+use Rattle.flake_model.specs.Run.{texts_from}
+use Rattle.flake_model.specs.Session.{Session}
+use Rattle.serve_model.specs.Handed.{OneRun}
+use Rattle.serve_model.specs.One.{OneRan}
+use Rattle.serve_model.proofs.Ran.{all_served, was_run}
+
+abbrev first_text : List (Bool × List ℕ) → List ℕ
+first_text [] = []
+first_text (text ∷ texts) = text.1
+
+-- the text of the only session
+only_text : (sessions : List Session) (commands : List (List Command)) (journal : List (List Entry))
+    (end : SessionEnd) (text : List ℕ) → map (λ (session : Session). session.end) sessions ≡ end ∷ []
+    → texts_from commands journal 0 sessions ≡ (end.failed, text) ∷ []
+    → text ≡ wire_text commands journal 0 end.replies
+only_text [] commands journal end text ends texts = absurd (let no : ⊥ = cc in no)
+only_text (session ∷ sessions) commands journal end text ends texts =
+    let same : session.end ≡ end = cc in
+    sym (ap first_text texts) ∙ ap (λ (e : SessionEnd). wire_text commands journal 0 e.replies) same
+
+pub one_ran : OneRan
+one_ran books z shards list journal store input left end seat text old new past spare last closed sessions parts has
+    grew is =
+    let one : OneRun = record {
+      input = input;
+      left = left;
+      end = end;
+      list = list;
+      seat = seat;
+      text = text;
+      old = old;
+      new = new;
+    } in
+    let served = all_served z books.shards (one ∷ []) past (has, grew, tt) in
+    let ran = was_run books z shards (list ∷ []) journal store (input ∷ []) (left ∷ []) (end ∷ []) (seat ∷ [])
+    (old ∷ past) (new ∷ past) closed (sym sessions) parts served.0 last spare is in
+    (ran.0, only_text ran.0.served.sessions _ journal end text ran.0.served.ends_are (ran.1.texts_are ∙ served.1))

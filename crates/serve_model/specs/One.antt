@@ -1,0 +1,28 @@
+-- A run of one session alone.
+use Rattle.std.specs.Prelude.{◌≡◌, ℕ, List, [], ◌∷◌, Option}
+use Rattle.flake_base.specs.Growth.{Grew}
+use Rattle.flake_base.specs.declared.journal.Entry.{Entry}
+use Rattle.flake_base.specs.declared.session.SessionEnd.{SessionEnd}
+use Rattle.pin_core.specs.declared.sizes.Sizes as pool_sizes
+use Rattle.pinned_pool.specs.Ends.{end_of}
+use Rattle.pinned_pool.specs.declared.view.View.{View}
+use Rattle.flake_model.specs.Journal.{wire_text}
+use Rattle.flake_model.specs.Run.{all_commands}
+use Rattle.order_book.specs.Closed.{AreClosed}
+use Rattle.order_book.specs.Pages.{ShardList, SessionList}
+use Rattle.order_book.specs.declared.rule.Sizes as book_sizes
+use Rattle.call_model.specs.Stock.{AreParts}
+use Rattle.serve_model.specs.Handed.{HasRun, IsLastSeat}
+use Rattle.serve_model.specs.Shown.{WasRun}
+
+-- The only session of a book ran, and its wire grew by its text: so it is a whole run, in which the journal gives that
+-- text.
+abbrev pub OneRan : Type 0
+OneRan = (books : book_sizes.Sizes) (z : pool_sizes.Sizes) (shards : List ShardList) (list : SessionList)
+    (journal : List (List Entry)) (store : View) (input left : Option (List ℕ)) (end : SessionEnd) (seat : View)
+    (text : List ℕ) (old new : Option (List ℕ)) (past : List (Option (List ℕ))) (spare : List View) (last : View)
+    → AreClosed books shards (list ∷ []) → books.sessions ≡ 1 → AreParts z books.shards shards journal store
+    → HasRun z books.shards 0 input left end list seat text → Grew end.failed text old new
+    → IsLastSeat store spare (seat ∷ []) last
+    → (run : WasRun z (input ∷ []) (left ∷ []) (end ∷ []) journal (old ∷ past) (new ∷ past) (end_of z last))
+    × (text ≡ wire_text (all_commands run.served.sessions) journal 0 end.replies)
