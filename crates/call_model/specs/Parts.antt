@@ -3,7 +3,7 @@ use Rattle.std.specs.Prelude.{◌≡◌, ℕ, ◌+◌, ◌*◌, ◌<◌, ◌≤�
 use Rattle.view_sums.specs.Total.{Each}
 use Rattle.flake_base.specs.declared.journal.Entry.{Entry}
 use Rattle.flake_base.specs.declared.segment.Seg.{Seg}
-use Rattle.flake_model.specs.Store.{Operation, Answer, value}
+use Rattle.flake_model.specs.Store.{Operation, Answer, value, answer_on, change_on, first_on, bytes_put}
 use Rattle.flake_model.specs.Fragments.{fragment_limit}
 use Rattle.pin_core.specs.Buffers.{buffers}
 use Rattle.pin_core.specs.declared.class.Class.{Class}
@@ -57,6 +57,17 @@ abbrev pub Reaches : Option Done → Type 0
 Reaches None = Unit {0}
 Reaches (Some done) = Reach done.answer done.first done.found
 
+-- the answer, and what goes with it, are the operation's on what its key had
+pub record IsAnswered (operation : Operation) (done : Done) : Type 0 where
+  pub had : Option (List ℕ)
+  pub answer_is : done.answer ≡ answer_on had operation
+  pub first_is : done.first ≡ first_on had operation
+  pub stored_is : bytes_put (change_on had operation) ≡ None → done.stored ≡ []
+
+abbrev pub Answered : Operation → Option Done → Type 0
+Answered operation None = Unit {0}
+Answered operation (Some done) = IsAnswered operation done
+
 -- the segment is a whole fragment in a buffer of its class
 pub record IsInBuffer (z : Sizes) (seg : Seg) : Type 0 where
   pub buffer : ℕ
@@ -76,6 +87,7 @@ pub record IsTold (z : Sizes) (shards : ℕ) (entry : Entry) (operation : Operat
   pub says : Says z operation outcome said seat after
   pub pieces : taken ≡ taken_before ++ pieces_told operation outcome
   pub reaches : Reaches outcome
+  pub answered : Answered operation outcome
   pub segs_are : segs ≡ segs_before ++ segs_told operation outcome
   pub in_buffers : Each (IsInBuffer z) (segs_told operation outcome)
 

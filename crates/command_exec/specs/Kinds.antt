@@ -1,0 +1,37 @@
+-- Commands by how they are answered.
+use Rattle.std.specs.Prelude.{ℕ, [], slice_index_or}
+use Rattle.flake_model.specs.Store as part
+use Rattle.flake_model.specs.Store.{Operation}
+use Rattle.flake_model.specs.Command.{Command, ping, ping_with, get, set, mget, del, exists, append, str_len, get_range}
+use Rattle.flake_model.specs.Command.{fault, parts}
+
+-- a command without parts
+abbrev pub HasNoParts : Command → Type 0
+HasNoParts ping = Unit {0}
+HasNoParts (ping_with bytes) = Unit {0}
+HasNoParts (fault kind) = Unit {0}
+HasNoParts command = ⊥
+
+-- one whose only part's answer is the reply
+abbrev pub HasOnePart : Command → Type 0
+HasOnePart (get key) = Unit {0}
+HasOnePart (set when asks key bytes) = Unit {0}
+HasOnePart (append key bytes) = Unit {0}
+HasOnePart (str_len key) = Unit {0}
+HasOnePart (get_range key first last) = Unit {0}
+HasOnePart command = ⊥
+
+-- one that answers the values of keys
+abbrev pub AsksValues : Command → Type 0
+AsksValues (mget keys) = Unit {0}
+AsksValues command = ⊥
+
+-- one that counts keys
+abbrev pub Counts : Command → Type 0
+Counts (del keys) = Unit {0}
+Counts (exists keys) = Unit {0}
+Counts command = ⊥
+
+-- the part of this number
+abbrev pub part_at : Command → ℕ → Operation
+part_at command j = slice_index_or (parts command) j (part.get [])

@@ -1,0 +1,13 @@
+//! Commands, run on the store: their parts in order, and one reply of what these answered.
+#![tactic(auto)]
+
+mod answering;
+mod executing;
+mod lines;
+mod parts;
+mod pass;
+mod shop;
+
+pub use executing::{ExecError, execute};
+pub use pass::Pass;
+pub use shop::Shop;

@@ -1,0 +1,13 @@
+pub mod Filters
+pub mod Weights
+pub mod Sums
+pub mod With
+pub mod Opening
+pub mod Reaping
+pub mod Rooms
+pub mod Nothing
+pub mod Posting
+pub mod Ending
+pub mod Telling
+pub mod Calling
+pub mod GivenUp

@@ -1,0 +1,36 @@
+-- Why a call posts nothing, and what making room for it does.
+use Rattle.std.specs.Prelude.{◌≡◌, ℕ, ◌<◌, nat_lt, if◌then◌else◌, List, ◌++◌, length}
+use Rattle.pin_core.specs.declared.sizes.Sizes.{Sizes}
+use Rattle.flake_model.specs.Command.{Command}
+use Rattle.reply_layout.specs.Need.{need_of}
+use Rattle.reply_layout.specs.declared.need.Need.{Need}
+use Rattle.reply_planner.specs.Parcels.{Sent}
+use Rattle.session_pass.specs.Views.{SessionView}
+use Rattle.session_pass.specs.Waiting.{waiting, Fits}
+use Rattle.session_pass.specs.Calls.{KeepsAll, FindsRingFull, FindsStageFull, CallRefused}
+use Rattle.session_pass.specs.declared.error.CallError.{CallError}
+
+abbrev pub WhyRefused : Sizes → ℕ → Command → SessionView → SessionView → CallError → Type 0
+WhyRefused z shards command old new (CallError.RingFull need room) = FindsRingFull command old new need room
+WhyRefused z shards command old new (CallError.StageFull need free) = FindsStageFull command old new need free
+WhyRefused z shards command old new CallError.Memory = CallRefused z shards command old new
+
+-- which of ring and stage has less than is needed
+abbrev pub full_of : Need → Need → CallError
+full_of need left =
+    if nat_lt left.descriptors need.descriptors then CallError.RingFull need.descriptors left.descriptors
+    else CallError.StageFull need.stage left.stage
+
+-- so many of the oldest replies were reaped
+pub record HasReaped (freed : ℕ) (old new : SessionView) : Type 0 where
+  pub gone : List Sent
+  pub freed_is : length gone ≡ freed
+  pub reaped : new.reaped ≡ old.reaped ++ gone
+  pub keeps : KeepsAll old new
+  pub misses : new.misses ≡ old.misses
+
+-- so many of them make room, and fewer don't
+pub record MakesRoom (command : Command) (freed : ℕ) (old new : SessionView) : Type 0 where
+  pub reaps : HasReaped freed old new
+  pub fits : Fits new.ring new.pass.stage (waiting new 0) (need_of command)
+  pub least : (fewer : ℕ) → fewer < freed → Fits old.ring old.pass.stage (waiting old fewer) (need_of command) → ⊥

@@ -1,0 +1,98 @@
+// Calls.
+ghost use Rattle.std.specs.Prelude.{◌≡◌, ◌-◌, ◌^◌, ◌<◌, true, length, Err, IfOk, IfErr, OnErr};
+ghost use Rattle.reply_layout.specs.Need.{need_of};
+ghost use Rattle.session_pass.specs.Calls.{CallPosts, CallRefused};
+ghost use Rattle.session_pass.specs.Refused.{WhyRefused};
+ghost use Rattle.session_pass.specs.Waiting.{waiting, Fits};
+
+use crate::error::CallError;
+use crate::run::run;
+use crate::session::Session;
+use command_exec::{ExecError, Shop};
+use command_parts::Command;
+use flake_base::Segs;
+use order_book::BookName;
+use pinned_pool::PoolName;
+use std::sync::Wait;
+
+/// A call whose reply was posted.
+#[derive(Clone, Copy, PartialEq, Eq, Debug)]
+pub struct Posted {
+    /// Its number.
+    pub call: u32,
+    /// How many replies were given back before.
+    pub reaped: u32,
+}
+
+impl<N: BookName, P: PoolName + Send> Session<N, P> {
+    /// Runs a command's parts, and posts the reply. As long as ring or stage has less than the command can need it
+    /// gives the oldest reply back. `sent` becomes the reply's segments, `stored` the fragments of the values that
+    /// were stored.
+    pub fn call<R: Wait>(
+        &mut self,
+        rt: &R,
+        shop: &Shop<'_, N, P>,
+        command: &Command,
+        sent: &mut Segs,
+        stored: &mut Segs,
+    ) -> Result<Posted, CallError>
+        requires few { length self.old.posted < 2 ^ 32 - 1 }
+        ensures posted { IfOk result (λ posted. CallPosts P.sizes N.sizes.shards command.now self.old self.new
+            posted.call posted.reaped sent.new.items stored.new.items) }
+        ensures refused { IfErr result (λ error.
+            WhyRefused P.sizes N.sizes.shards command.now self.old self.new error) }
+        ensures stopped { self.old.stopped ≡ true → (result ≡ Err CallError.Memory) × (self.new ≡ self.old) }
+    {
+        if self.stopped {
+            return Err(CallError::Memory);
+        }
+        let reaped = self.make_room(shop, command)?;
+        match self.post(rt, shop, command, sent, stored) {
+            Ok(call) => Ok(Posted { call, reaped }),
+            Err(ExecError::Memory) => Err(CallError::Memory),
+        }
+    }
+
+    // The same where ring and stage have what is needed. The answer is the call's number.
+    fn post<R: Wait>(
+        &mut self,
+        rt: &R,
+        shop: &Shop<'_, N, P>,
+        command: &Command,
+        sent: &mut Segs,
+        stored: &mut Segs,
+    ) -> Result<u32, ExecError>
+        requires few { length self.old.posted < 2 ^ 32 - 1 }
+        requires fits { Fits self.old.ring self.old.pass.stage (waiting self.old 0) (need_of command.now) }
+        ensures posted { IfOk result (λ call. CallPosts P.sizes N.sizes.shards command.now self.old self.new call 0
+            sent.new.items stored.new.items) }
+        ensures refused { OnErr result (CallRefused P.sizes N.sizes.shards command.now self.old self.new) }
+    {
+        self.pass.is_pass();
+        let (alloc, number, call) = (self.alloc, self.number, self.calls);
+        match run(
+            rt,
+            alloc,
+            shop,
+            &mut self.pass,
+            number,
+            call,
+            command,
+            sent,
+            stored,
+        ) {
+            Ok(parcel) => {
+                parcel.is_parcel();
+                self.calls += 1;
+                match self.driver.post(parcel) {
+                    Ok(()) => Ok(call),
+                    Err(_) => unreachable!(),
+                }
+            }
+            Err(error) => {
+                self.stopped = true;
+                Err(error)
+            }
+        }
+    }
+}

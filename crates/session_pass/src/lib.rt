@@ -1,0 +1,20 @@
+//! A session: its calls post replies into a ring, which are reaped once they are sent.
+#![tactic(auto)]
+
+mod call;
+mod error;
+mod finish;
+mod gate;
+pub mod laws;
+mod reap;
+mod room;
+mod run;
+mod session;
+
+pub use call::Posted;
+pub use command_pump::Pump;
+pub use error::CallError;
+pub use finish::Finish;
+pub use gate::{Gate, NoGate};
+pub use reap::Reaped;
+pub use session::Session;
