@@ -1,6 +1,7 @@
 mod Histories
 mod Stored
 mod Reached
+mod Unstored
 mod Counted
 mod Stocked
 mod Gathering

@@ -1,8 +1,9 @@
+use Rattle.std.specs.FinMap as finite
 use Rattle.std.proofs.Common.{◌++◌, ◌∷◌, [], List, Some, None, sym, refl, ap, ◌∙◌, subst, append-nil}
 use Rattle.flake_base.specs.declared.journal.Entry.{Entry}
 use Rattle.flake_model.specs.Deed.{final_store, final_places, places_at}
 use Rattle.flake_model.specs.Journal.{shard_of}
-use Rattle.flake_model.specs.Store.{key_of}
+use Rattle.flake_model.specs.Store.{key_of, change_by}
 use Rattle.order_book.specs.Pages.{ShardList, SessionList}
 use Rattle.shard_core.specs.declared.answer.PartAnswer.TheVariants as say
 use Rattle.shard_part.specs.Parts.{operation_of}
@@ -11,6 +12,7 @@ use Rattle.shard_store.specs.Shards.{IsShard, answer_after, found_after, first_a
 use Rattle.shard_store.proofs.Histories.{grows, stored_are, entered_shard, entered_session, pieces-found, stays, only_writes, key-part, refused, on_err}
 use Rattle.shard_store.proofs.Reached.{reaches}
 use Rattle.shard_store.proofs.Stored.{in_buffers}
+use Rattle.shard_store.proofs.Unstored.{unstored}
 use Rattle.shard_store.proofs.shard.Shard.run.Goals as goal
 
 pub returns-in_err-reserve-clause-untold : goal.returns-in_err-reserve-clause-untold
@@ -53,6 +55,7 @@ returns-in-Ok-clause-told g c =
       says = d.says;
       pieces = d.pieces ∙ ap (λ l. g.T.Taker.taken c.args.taker.now ++ l) (pieces-found op (answer_after list.told op) (places_at p (key_of op)) (first_after list.told op));
       reaches = reaches z inside.shelf.entries inside.shelf.seat c.is_shelf.ensures.kept s p c.self.invariant.agrees op;
+      answered = record { had = finite.get s (key_of op); answer_is = refl; first_is = refl; stored_is = unstored (change_by s op) _ _ d.stored d.stored_is };
       segs_are = d.segs_are;
       in_buffers = in_buffers z c.apply.new.self.entries c.apply.new.self.seat c.is_shelf-in-Ok.ensures.kept s p op d.stored d.agrees _ _ d.stored_is;
     }
@@ -71,6 +74,7 @@ returns-in-Err-NoBuffer-clause-told g c =
       says = (here.none, ap say.NoBuffer here.none-is, none.1);
       pieces = here.ensures.untaken ∙ sym (append-nil (g.T.Taker.taken c.args.taker.now));
       reaches = tt;
+      answered = tt;
       segs_are = here.ensures.untold ∙ sym (append-nil c.args.stored.now.items);
       in_buffers = tt;
     }
