@@ -1,5 +1,5 @@
 -- One value of an array: a part that answered it, or null.
-use Rattle.std.proofs.Common.{◌≡◌, ℕ, ◌+◌, ◌≤◌, List, [], ◌∷◌, ◌++◌, Option, None, Some, false, length, refl, ap, sym, ◌∙◌, subst, arith, append_assoc, append-nil, length-append}
+use Rattle.std.proofs.Common.{◌≡◌, ℕ, ◌+◌, ◌<◌, ◌≤◌, List, [], ◌∷◌, ◌++◌, Option, None, Some, false, length, refl, ap, sym, ◌∙◌, subst, arith, append_assoc, append-nil, length-append}
 use Rattle.view_sums.specs.Total.{total}
 use Rattle.view_sums.proofs.Sums.{total-append}
 use Rattle.pin_core.specs.declared.sizes.Sizes.{Sizes}
@@ -15,7 +15,7 @@ use Rattle.shard_core.specs.declared.answer.PartAnswer.{PartAnswer}
 use Rattle.shard_core.specs.declared.answer.PartAnswer.TheVariants as say
 use Rattle.reply_layout.specs.Pieces.{Piece, item_pieces}
 use Rattle.reply_planner.specs.Laid.{pieces_in}
-use Rattle.reply_planner.specs.Planned.{Planned, planned, paid_by, paid_begun, room_of}
+use Rattle.reply_planner.specs.Planned.{Planned, planned, paid_by, paid_begun, left_of, room_of}
 use Rattle.call_model.specs.Outcomes.{Done, answer_told}
 use Rattle.call_model.specs.Parts.{Says, Answered, pieces_told, segs_told}
 use Rattle.call_model.specs.Steps.{deed_told}
@@ -57,6 +57,16 @@ item_free t (say.NoBuffer none) = refl
 pub got_nothing : (key : List ℕ) (outcome : Option Done) → Answered (part.get key) outcome → segs_told (part.get key) outcome ≡ []
 got_nothing key None answered = refl
 got_nothing key (Some d) answered = nothing_stored (part.get key) d (answered.stored_is refl)
+
+-- and any other answer is null
+pub null_item : (said : PartAnswer) → (said ≡ say.Bulk → ⊥) → item_for said ≡ taken.copied null_text ∷ []
+null_item say.Bulk not = absurd (not refl)
+null_item say.Null not = refl
+null_item say.Done not = refl
+null_item (say.Length n) not = refl
+null_item (say.Did happened) not = refl
+null_item say.TooLong not = refl
+null_item (say.NoBuffer none) not = refl
 
 module _ (z : Sizes) (shards : ℕ) (entry : Entry) (operation : Operation) (said : PartAnswer) (old new : PassView) (segs_before segs : List Seg) (p mid : Planned)
     (ran : RunsPart z shards entry operation said old new segs_before segs p mid) where
@@ -112,12 +122,14 @@ module _ (z : Sizes) (shards : ℕ) (entry : Entry) (operation : Operation) (sai
       ap (λ o. segs_told o ran.told.outcome) is ∙ got_nothing key ran.told.outcome (subst (λ o. Answered o ran.told.outcome) is ran.told.answered) in
       omega (arith, ap (λ (l : List Seg). length l) ran.told.segs_are, ap (λ (l : List Seg). length l) none, length-append segs_before (segs_told operation ran.told.outcome))
 
--- and any other answer is null
-pub null_item : (said : PartAnswer) → (said ≡ say.Bulk → ⊥) → item_for said ≡ taken.copied null_text ∷ []
-null_item say.Bulk not = absurd (not refl)
-null_item say.Null not = refl
-null_item say.Done not = refl
-null_item (say.Length n) not = refl
-null_item (say.Did happened) not = refl
-null_item say.TooLong not = refl
-null_item (say.NoBuffer none) not = refl
+  -- null fits where there was room for a value
+  pub null_fits : (said ≡ say.Bulk → ⊥) → 0 < room_of p → is_ranged operation ≡ false → 521 ≤ left_of mid
+  null_fits not some plain =
+      let room : 0 < room_of mid = omega (arith,
+          some,
+          ran.room plain,
+          one_piece z operation ran.told.outcome said old.seat new.seat ran.told.says,
+          ap (λ (l : List taken.Piece). length l) (null_item said not),
+          ap (λ (l : List taken.Piece). length l) ran.told.pieces,
+          length-append p.taken (pieces_told operation ran.told.outcome)) in
+      omega (arith, room)
