@@ -1,0 +1,121 @@
+-- What a served session hands up.
+use Rattle.std.proofs.Common.{◌≡◌, ℕ, Bool, true, false, List, [], ◌∷◌, ◌++◌, Option, length, refl, ap, sym, ◌∙◌, subst, append-nil, arith}
+use Rattle.std.specs.Borrow.{Bor}
+use Rattle.view_sums.specs.Total.{total}
+use Rattle.pin_core.specs.Holding.{Holding}
+use Rattle.pin_core.specs.declared.sizes.Sizes.{Sizes}
+use Rattle.pinned_pool.specs.declared.view.View.{View}
+use Rattle.flake_base.specs.declared.session.End.{End}
+use Rattle.flake_base.specs.declared.session.SessionEnd.{SessionEnd}
+use Rattle.command_pump.specs.Pump.{PumpState, ended_at}
+use Rattle.order_book.specs.Pages.{SessionList}
+use Rattle.any_wire.specs.Sends.{Sends, Flushes}
+use Rattle.any_wire.proofs.Sending.{sends-none, sends-on, sends-same, sends-flush}
+use Rattle.reply_planner.specs.Owned.{bare_all, fresh_all}
+use Rattle.reply_planner.specs.Parcels.{Sent}
+use Rattle.device_model.specs.Devices.{texts_of, Forwards}
+use Rattle.call_model.specs.Outcomes.{Told}
+use Rattle.serve_model.specs.Going.{HasEnded}
+use Rattle.serve_model.specs.Handed.{HasRun}
+use Rattle.serve_model.proofs.Going.{session_ran}
+use Rattle.session_pass.specs.Kept.{paid_in}
+use Rattle.session_pass.specs.Views.{SessionView}
+use Rattle.session_serve.specs.Served.{IsServed}
+use Rattle.session_serve.specs.Wires.{SendsOut, WasFlushed}
+use Rattle.session_serve.specs.Working.{IsFresh, HasStopped, IsLeft, run_of}
+
+none-held : (holds : List Holding) → total (λ (h : Holding). 1) (bare_all holds) ≡ 0 → holds ≡ []
+none-held [] none = refl
+none-held (h ∷ holds) none = absurd (omega (arith, none))
+
+-- its seat has no hold left
+holds-none : (z : Sizes) (first session : SessionView) (pump : PumpState) (seat : View) (mine : SessionList) → IsFresh z first pump
+    → session.pass.stage ≡ first.pass.stage → session.opened ≡ first.opened → IsLeft session seat mine → seat.holds ≡ []
+holds-none z first session pump seat mine fresh stage opened left =
+    let one : Holding → ℕ = λ h. 1 in
+    none-held seat.holds (omega (
+      arith,
+      left.holds one,
+      fresh.stage one,
+      ap (λ (bs : List ℕ). total one (fresh_all bs)) stage,
+      ap (λ (v : View). total one (bare_all v.holds)) opened,
+    ))
+
+-- so it ran
+ran-so : (z : Sizes) (shards : ℕ) (first session : SessionView) (unread pump : PumpState) (how : End) (failed : Bool)
+    (seat : View) (mine : SessionList) → IsFresh z first unread
+    → HasStopped z shards first unread.left unread.faults how session pump → IsLeft session seat mine
+    → HasRun z shards first.pass.list.number unread.left pump.left
+    (ended_at how pump.taken (length session.posted) failed) mine seat (texts_of session.posted)
+ran-so z shards first session unread pump how failed seat mine fresh s left =
+    let n = first.pass.list.number in
+    let last = session.pass.seat in
+    let run = run_of s.commands s.calls s.behind session.pass.list.looks how pump.taken (length session.posted) failed in
+    let text = texts_of session.posted in
+    let pins = paid_in session.posted in
+    let number : mine.number ≡ n = ap (λ (l : SessionList). l.number) left.list ∙ s.same.number in
+    let looks : mine.looks ≡ run.looks = ap (λ (l : SessionList). l.looks) left.list in
+    let told : session.pass.list.told ≡ mine.told = ap (λ (l : SessionList). l.told) (sym left.list) in
+    let list : record { number = n; told = mine.told; looks = run.looks } ≡ mine =
+    λ i. record { number = sym number i; told = mine.told; looks = sym looks i } in
+    subst (λ (l : SessionList). HasRun z shards n unread.left pump.left run.end l seat text) list
+    (session_ran z shards n unread.left pump.left run text pins mine.told first.opened last seat fresh.claimed
+    (subst (λ (v : View). HasEnded z shards n run text pins mine.told v last) (sym fresh.opened)
+    (subst (λ (t : Told). HasEnded z shards n run text pins t first.pass.seat last) told (s.ended failed)))
+    (record {
+      holds = holds-none z first session unread seat mine fresh s.same.stage s.same.opened left;
+      claims = left.claims;
+      looks = left.looks;
+      returns = left.returns;
+    })
+    (s.is_session failed))
+
+module _ {W : Type 0} (put_may : W → Bor (List ℕ) → (W × Bool) → Type 0) (flush_may : W → (W × Bool) → Type 0) where
+  -- nothing was posted more
+  pub forwards-nothing : (failed : Bool) (before after : List Sent) (wire : W) → after ≡ before → Forwards put_may flush_may failed failed before after wire wire
+  forwards-nothing failed before after wire same = record {
+    taken = [];
+    in_order = same ∙ sym (append-nil before);
+    sends = sends-none put_may flush_may failed wire;
+  }
+
+  pub forwards-as : (failed other now then : Bool) (before front after whole : List Sent) (old new : W) → failed ≡ other → now ≡ then → before ≡ front → after ≡ whole
+      → Forwards put_may flush_may failed now before after old new → Forwards put_may flush_may other then front whole old new
+  forwards-as failed other now then before front after whole old new f n b a forwards =
+      subst (λ (x : Bool). Forwards put_may flush_may x then front whole old new) f
+      (subst (λ (x : Bool). Forwards put_may flush_may failed x front whole old new) n
+      (subst (λ (xs : List Sent). Forwards put_may flush_may failed now xs whole old new) b
+      (subst (λ (xs : List Sent). Forwards put_may flush_may failed now before xs old new) a forwards)))
+
+  -- all that was forwarded is all that was posted
+  pub forwards-all : (failed now : Bool) (posted : List Sent) (old new : W) → Forwards put_may flush_may failed now [] posted old new
+      → Sends put_may flush_may failed now (texts_of posted) old new
+  forwards-all failed now posted old new f = sends-same put_may flush_may failed now (texts_of f.taken) (texts_of posted) old new (ap texts_of (sym f.in_order)) f.sends
+
+  pub sends-out : (failed now : Bool) (text : List ℕ) (old new : W) → SendsOut put_may flush_may failed now text old new → Sends put_may flush_may failed now text old new
+  sends-out failed now text old new s = sends-same put_may flush_may failed now (text ++ []) text old new (append-nil text)
+      (sends-on put_may flush_may failed s.between now text [] old s.middle new s.sends (sends-flush put_may flush_may s.between now s.middle new s.flushed))
+
+  flushed-so : (between now : Bool) (old middle new : W) → Flushes flush_may between now middle new → now ≡ false → WasFlushed put_may flush_may old new
+  flushed-so true now old middle new flush none = cc (flush.1)
+  flushed-so false now old middle new flush none = record { middle = middle; flushed = subst (λ (b : Bool). flush_may middle (new, b)) none flush }
+
+  pub flushed-last : (failed now : Bool) (text : List ℕ) (old new : W) → SendsOut put_may flush_may failed now text old new → now ≡ false → WasFlushed put_may flush_may old new
+  flushed-last failed now text old new s none = flushed-so s.between now old s.middle new s.flushed none
+
+  pub served-so : (z : Sizes) (shards : ℕ) (first session : SessionView) (unread pump : PumpState) (how : End) (end : SessionEnd) (between : Bool)
+      (seat : View) (mine : SessionList) (left : Option (List ℕ)) (old middle new : W) → IsFresh z first unread
+      → HasStopped z shards first unread.left unread.faults how session pump → IsLeft session seat mine
+      → end ≡ ended_at how pump.taken (length session.posted) end.failed → left ≡ pump.left
+      → Forwards put_may flush_may false between [] session.posted old middle → Flushes flush_may between end.failed middle new
+      → IsServed put_may flush_may z shards first unread.left left end mine seat old new
+  served-so z shards first session unread pump how end between seat mine left old middle new fresh stopped is_left end_is left_is forwards flushed =
+      let n = first.pass.list.number in
+      let text = texts_of session.posted in
+      record {
+        text = text;
+        ran = subst (λ (e : SessionEnd). HasRun z shards n unread.left left e mine seat text) (sym end_is)
+            (subst (λ (l : Option (List ℕ)). HasRun z shards n unread.left l (ended_at how pump.taken (length session.posted) end.failed) mine seat text) (sym left_is)
+            (ran-so z shards first session unread pump how end.failed seat mine fresh stopped is_left));
+        sends = record { between = between; middle = middle; sends = forwards-all false between session.posted old middle forwards; flushed = flushed };
+      }

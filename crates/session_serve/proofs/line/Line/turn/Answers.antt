@@ -1,0 +1,29 @@
+use Rattle.std.proofs.Common.{refl, ◌∙◌}
+use Rattle.session_serve.proofs.Calling.{work-ends, work-breaks, work-goes-on, more-told}
+use Rattle.session_serve.proofs.Serving.{forwards-nothing}
+use Rattle.session_serve.proofs.line.Line.turn.Goals as goal
+
+pub returns-in-Err-clause-forwards : goal.returns-in-Err-clause-forwards
+returns-in-Err-clause-forwards g c = forwards-nothing _ _ _ _ _ _ refl
+
+pub returns-in-Err-clause-end : goal.returns-in-Err-clause-end
+returns-in-Err-clause-end g c first input before given calls w =
+    work-ends _ _ first input before given calls c.in-Err.end c.args.self.now.session c.args.self.now.pump c.next.new.self w
+    (c.in-Err.ensures.end input before given w.pump_is)
+
+pub returns-in-Err-Memory-clause-forwards : goal.returns-in-Err-Memory-clause-forwards
+returns-in-Err-Memory-clause-forwards g c =
+    let r = rw c.in-Err-Memory.field-0-is at c.in-Err-Memory.ensures.refused in
+    forwards-nothing _ _ _ _ _ _ r.posted
+
+pub returns-in-Err-Memory-clause-end : goal.returns-in-Err-Memory-clause-end
+returns-in-Err-Memory-clause-end g c first input before given calls w =
+    let r = rw c.in-Err-Memory.field-0-is at c.in-Err-Memory.ensures.refused in
+    work-breaks _ _ first input before given calls c.in-Ok.command c.args.self.now.session c.call.new.self c.args.self.now.pump c.next.new.self w
+    (c.in-Ok.ensures.command input before given w.pump_is) r
+
+pub returns-clause-call : goal.returns-clause-call
+returns-clause-call g c first input before given calls w =
+    more-told _ _ first input before given calls c.call.new.self _ _ c.next.new.self _ c.forward-wire.ensures.session (c.forward-wire.ensures.pump ∙ c.give_back.ensures)
+    (work-goes-on _ _ first input before given calls c.in-Ok.command c.args.self.now.session c.call.new.self c.args.self.now.pump c.next.new.self _ _ _ _ w
+    (c.in-Ok.ensures.command input before given w.pump_is).0 c.in-Ok-call.ensures.posted)

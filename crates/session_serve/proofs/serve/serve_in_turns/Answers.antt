@@ -1,0 +1,93 @@
+use Rattle.std.proofs.Common.{◌++◌, ◌∷◌, [], refl, ap, sym, ◌∙◌, subst, arith}
+use Rattle.device_model.proofs.Forwarding.{forwards-on}
+use Rattle.session_serve.proofs.Gathering.{gathered-starts}
+use Rattle.session_serve.proofs.Calling.{work-starts, work-told, work-bounded, work-longer}
+use Rattle.session_serve.proofs.Serving.{forwards-nothing, forwards-as, served-so}
+use Rattle.session_serve.specs.Working.{IsWorking}
+use Rattle.session_serve.proofs.serve.serve_in_turns.Goals as goal
+
+pub turns-init : goal.turns-init
+turns-init g c =
+    let first = c.args.line.session in
+    let ends = c.both_ends.ensures in
+    let fresh = c.requires.fresh in
+    record {
+      gathered = gathered-starts first c.both_ends.new.session c.args.line.device.end c.both_ends.new.device.end fresh.none_posted ends.order.1 c.requires.ring ends.ring
+          (ap (λ v. v.completed) ends.device) ends.session;
+      unstopped = ap (λ s. s.stopped) ends.session ∙ fresh.unstopped;
+      working = (
+        [],
+        [],
+        subst (λ s. IsWorking _ _ first c.args.line.pump.left c.args.line.pump.faults [] [] s c.args.line.pump) (sym ends.session)
+            (work-told _ _ first _ _ [] [] first _ c.args.line.pump (work-starts _ _ first c.args.line.pump fresh)),
+      );
+      forwards = forwards-as _ _ _ _ _ _ _ _ _ _ _ _ refl (sym (ends.failed ∙ c.requires.unfailed)) refl refl
+          (forwards-nothing _ _ _ [] c.both_ends.new.session.posted c.args.wire (ap (λ s. s.posted) ends.session ∙ fresh.none_posted));
+    }
+
+pub turn-after-requires-clause-ready : goal.turn-after-requires-clause-ready
+turn-after-requires-clause-ready g c κs within =
+    let before = c.turns.invariant in
+    let w = before.working in
+    record { unstopped = before.unstopped; few = work-bounded _ _ _ _ _ w.0 w.1 c.turns.line.session c.turns.line.pump w.2 }
+
+pub turns-smaller : goal.turns-smaller
+turns-smaller g c =
+    let w = c.turns.invariant.working in
+    let call = rw c.in_default.is at c.turn-after.ensures.call in
+    let more = work-longer _ _ c.args.line.session _ _ w.0 w.1 c.turns.line.session c.turn-after.new.self.session c.turns.line.pump c.turn-after.new.self.pump w.2
+    (call c.args.line.session _ _ w.0 w.1 w.2) in
+    omega (arith, more.0, more.1)
+
+pub turns-preserved : goal.turns-preserved
+turns-preserved g c =
+    let before = c.turns.invariant in
+    let w = before.working in
+    let call = rw c.in_default.is at c.turn-after.ensures.call in
+    let unstopped = rw c.in_default.is at c.turn-after.ensures.unstopped in
+    let more = call c.args.line.session _ _ w.0 w.1 w.2 in
+    record {
+      gathered = c.turn-after.ensures.gathered;
+      unstopped = unstopped ∙ before.unstopped;
+      working = (w.0 ++ more.command ∷ [], w.1 ++ more.outcomes ∷ [], more.working);
+      forwards = forwards-on _ _ _ _ _ _ _ _ _ _ _ before.forwards c.turn-after.ensures.forwards;
+    }
+
+pub returns-clause-served : goal.returns-clause-served
+returns-clause-served g c =
+    let before = c.turns.invariant in
+    let w = before.working in
+    let first = c.args.line.session in
+    let end = rw c.in-Err.is at c.turn-after.ensures.end in
+    let stopped = end first _ _ w.0 w.1 w.2 in
+    served-so _ _ _ _ first c.turn-after.new.self.session c.args.line.pump c.turn-after.new.self.pump c.in-Err.end c.close.result.1.end c.turn-after.new.self.device.failed
+    c.close.result.1.seat c.close.result.1.mine _ c.args.wire c.turn-after.result.0 c.close.result.0 c.requires.fresh stopped c.close.ensures.left c.close.ensures.end
+    (ap (λ p. p.left) c.close.ensures.pump) (forwards-on _ _ _ _ _ _ _ _ _ _ _ before.forwards c.turn-after.ensures.forwards) c.close.ensures.flushed
+
+pub returns-clause-reads : goal.returns-clause-reads
+returns-clause-reads g c =
+    let w = c.turns.invariant.working in
+    let end = rw c.in-Err.is at c.turn-after.ensures.end in
+    let stopped = end c.args.line.session _ _ w.0 w.1 w.2 in
+    rw (ap (λ e. e.end) c.close.ensures.end, ap (λ p. p.faults) c.close.ensures.pump) stopped.faults_are
+
+pub returns-clause-to_the_end : goal.returns-clause-to_the_end
+returns-clause-to_the_end g c =
+    let w = c.turns.invariant.working in
+    let end = rw c.in-Err.is at c.turn-after.ensures.end in
+    let stopped = end c.args.line.session _ _ w.0 w.1 w.2 in
+    rw (ap (λ e. e.end) c.close.ensures.end) stopped.to_the_end
+
+pub returns-clause-credits : goal.returns-clause-credits
+returns-clause-credits g c =
+    let w = c.turns.invariant.working in
+    let end = rw c.in-Err.is at c.turn-after.ensures.end in
+    let stopped = end c.args.line.session _ _ w.0 w.1 w.2 in
+    c.close.ensures.left.credits ∙ ap (λ v. v.credits) stopped.same.opened
+
+pub returns-clause-looks : goal.returns-clause-looks
+returns-clause-looks g c =
+    let w = c.turns.invariant.working in
+    let end = rw c.in-Err.is at c.turn-after.ensures.end in
+    let stopped = end c.args.line.session _ _ w.0 w.1 w.2 in
+    ap (λ l. l.looks) c.close.ensures.left.list ∙ stopped.same.looks

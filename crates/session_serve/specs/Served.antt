@@ -1,0 +1,18 @@
+-- What serving a session gives.
+use Rattle.std.specs.Prelude.{ℕ, Bool, false, List, Option}
+use Rattle.std.specs.Borrow.{Bor}
+use Rattle.flake_base.specs.declared.session.SessionEnd.{SessionEnd}
+use Rattle.pin_core.specs.declared.sizes.Sizes.{Sizes}
+use Rattle.pinned_pool.specs.declared.view.View.{View}
+use Rattle.order_book.specs.Pages.{SessionList}
+use Rattle.serve_model.specs.Handed.{HasRun}
+use Rattle.session_serve.specs.Wires.{SendsOut}
+use Rattle.session_pass.specs.Views.{SessionView}
+
+module _ {W : Type 0} (put_may : W → Bor (List ℕ) → (W × Bool) → Type 0) (flush_may : W → (W × Bool) → Type 0) where
+  -- The session ran, and its text, which is that of its replies, was put on its wire.
+  pub record IsServed (z : Sizes) (shards : ℕ) (session : SessionView) (input left : Option (List ℕ)) (end : SessionEnd)
+      (list : SessionList) (last : View) (old new : W) : Type 0 where
+    pub text : List ℕ
+    pub ran : HasRun z shards session.pass.list.number input left end list last text
+    pub sends : SendsOut put_may flush_may false end.failed text old new

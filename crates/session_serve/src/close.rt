@@ -1,0 +1,63 @@
+// The end of a served session.
+ghost use Rattle.std.specs.Prelude.{◌≡◌, length};
+ghost use Rattle.command_pump.specs.Pump.{ended_at};
+ghost use Rattle.any_wire.specs.Sends.{Flushes};
+ghost use Rattle.session_serve.specs.Working.{IsGathered, IsLeft};
+
+use crate::line::{Account, Line};
+use command_exec::Shop;
+use flake_base::{End, SessionEnd, Source};
+use order_book::BookName;
+use pinned_pool::PoolName;
+use session_pass::Finish;
+
+impl<N: BookName, P: PoolName + Send, S: Source> Line<N, P, S> {
+    /// Gives all replies back, closes ring and pass, and flushes the wire.
+    pub(crate) fn close<W: Drop, PUT: Fn(W, &[u8]) -> (W, bool), FLUSH: Fn(W) -> (W, bool)>(
+        self,
+        shop: &Shop<'_, N, P>,
+        end: End,
+        wire: W,
+        put: &PUT,
+        flush: &FLUSH,
+    ) -> (W, Account<N, P, S>)
+        requires calls { PUT.IsAlwaysCallable put.now × FLUSH.IsAlwaysCallable flush.now }
+        requires gathered { IsGathered self.session self.device.end }
+        ensures left { IsLeft self.session result.1.seat result.1.mine }
+        ensures end { result.1.end ≡ ended_at end self.pump.taken (length self.session.posted) result.1.end.failed }
+        ensures pump { result.1.pump ≡ self.pump }
+        ensures flushed { Flushes (λ w r. FLUSH.post flush.now w r) self.device.failed result.1.end.failed wire
+            result.0 }
+    {
+        let Line {
+            session,
+            pump,
+            mut device,
+        } = self;
+        let replies = session.calls();
+        match session.finish(shop) {
+            Finish::Done {
+                seat,
+                mine,
+                mut closed,
+            } => {
+                let (wire, _) = device.gather(shop.pool, wire, put, flush);
+                device.settle(&mut closed);
+                let end = SessionEnd {
+                    end,
+                    taken: pump.taken(),
+                    replies,
+                    failed: device.failed(),
+                };
+                let account = Account {
+                    end,
+                    seat,
+                    mine,
+                    pump,
+                };
+                (wire, account)
+            }
+            Finish::NotYet(_) => unreachable!(),
+        }
+    }
+}

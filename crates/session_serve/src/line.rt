@@ -1,0 +1,30 @@
+// A session between its source and its wire.
+use command_pump::Pump;
+use device_model::Device;
+use flake_base::{SessionEnd, Source};
+use order_book::{BookName, SessionSeat};
+use pinned_pool::{PoolName, PoolSeat};
+use reply_planner::Parcel;
+use session_pass::Session;
+use tx_descriptor::Framed;
+
+/// A session, where its commands come from, and who gathers its replies.
+#[derive(Drop)]
+pub struct Line<N: BookName, P: PoolName + Send, S: Source>
+where
+    Parcel<P>: Framed,
+{
+    pub session: Session<N, P>,
+    pub pump: Pump<S>,
+    pub device: Device<P>,
+}
+
+/// What a served session leaves.
+#[derive(Drop)]
+pub struct Account<N: BookName, P: PoolName, S: Source> {
+    pub end: SessionEnd,
+    pub seat: PoolSeat<P>,
+    pub mine: SessionSeat<N>,
+    /// With its source, and what that has left.
+    pub pump: Pump<S>,
+}

@@ -1,0 +1,63 @@
+// A session from its source to its wire.
+ghost use Rattle.std.specs.Prelude.{◌≡◌, ◌≢◌, false};
+ghost use Rattle.command_pump.specs.Pump.{EndFaults};
+ghost use Rattle.tx_ring.specs.Shown.{device_ring};
+ghost use Rattle.session_serve.specs.Served.{IsServed};
+ghost use Rattle.session_serve.specs.Working.{IsFresh};
+
+use crate::line::{Account, Line};
+use crate::room::Room;
+use command_exec::Shop;
+use flake_base::{End, Source};
+use order_book::BookName;
+use pinned_pool::PoolName;
+use session_pass::{Gate, laws};
+use std::sync::Wait;
+
+/// Runs the commands of a source in order, each behind the gate, and puts each reply before the next command is read,
+/// to the source's end or until memory is wanting; then the wire is flushed. After a failed put or flush nothing more is
+/// put, and all commands are still run.
+pub fn serve_in_turns<
+    R: Wait,
+    N: BookName,
+    P: PoolName + Send,
+    S: Source,
+    G: Gate,
+    W: Drop,
+    PUT: Fn(W, &[u8]) -> (W, bool),
+    FLUSH: Fn(W) -> (W, bool),
+>(
+    rt: &R,
+    shop: &Shop<'_, N, P>,
+    line: Line<N, P, S>,
+    room: Room,
+    gate: &G,
+    wire: W,
+    put: &PUT,
+    flush: &FLUSH,
+) -> (W, Account<N, P, S>)
+    requires calls { PUT.IsAlwaysCallable put.now × FLUSH.IsAlwaysCallable flush.now }
+    requires fresh { IsFresh P.sizes line.session line.pump }
+    requires ring { device_ring line.device.end ≡ line.session.ring }
+    requires unfailed { line.device.failed ≡ false }
+    ensures served { IsServed (λ w p r. PUT.post put.now w p r) (λ w r. FLUSH.post flush.now w r) P.sizes
+        N.sizes.shards line.session line.pump.left result.1.pump.left result.1.end result.1.mine result.1.seat wire
+        result.0 }
+    ensures reads { EndFaults result.1.end.end line.pump.faults result.1.pump.faults }
+    ensures to_the_end { result.1.end.end ≢ End.Left }
+    ensures credits { result.1.seat.credits ≡ line.session.opened.credits }
+    ensures looks { result.1.mine.looks ≡ line.session.pass.list.looks }
+{
+    let mut line = line;
+    let mut room = room;
+    let mut wire = wire;
+    laws::both_ends(&mut line.session, &mut line.device);
+    let end = 'turns: loop {
+        let (after, turned) = line.turn(rt, shop, gate, &mut room, wire, put, flush);
+        wire = after;
+        if let Err(end) = turned {
+            break end;
+        }
+    };
+    line.close(shop, end, wire, put, flush)
+}

@@ -1,0 +1,96 @@
+// One command after another.
+ghost use Rattle.std.specs.Prelude.{◌≡◌, ℕ, List, Option, length, OnOk, IfErr};
+ghost use Rattle.flake_model.specs.Command.{Command as Meaning};
+ghost use Rattle.call_model.specs.Outcomes.{Outcomes};
+ghost use Rattle.tx_ring.specs.Shown.{completed};
+ghost use Rattle.device_model.specs.Devices.{Forwards};
+ghost use Rattle.session_pass.specs.Views.{SessionView};
+ghost use Rattle.session_serve.specs.Working.{IsGathered, IsReady, IsWorking, CallsMore, HasStopped, HasOneMore};
+
+use crate::line::Line;
+use crate::room::Room;
+use command_exec::Shop;
+use flake_base::{End, Source};
+use order_book::BookName;
+use pinned_pool::PoolName;
+use session_pass::{CallError, Gate, laws};
+use std::sync::Wait;
+
+impl<N: BookName, P: PoolName + Send, S: Source> Line<N, P, S> {
+    /// Runs the next command and puts its reply; or says how the session ends.
+    pub(crate) fn turn<
+        R: Wait,
+        G: Gate,
+        W: Drop,
+        PUT: Fn(W, &[u8]) -> (W, bool),
+        FLUSH: Fn(W) -> (W, bool),
+    >(
+        &mut self,
+        rt: &R,
+        shop: &Shop<'_, N, P>,
+        gate: &G,
+        room: &mut Room,
+        wire: W,
+        put: &PUT,
+        flush: &FLUSH,
+    ) -> (W, Result<(), End>)
+        requires calls { PUT.IsAlwaysCallable put.now × FLUSH.IsAlwaysCallable flush.now }
+        requires gathered { IsGathered self.old.session self.old.device.end }
+        requires ready { IsReady self.old.session }
+        ensures gathered { IsGathered self.new.session self.new.device.end }
+        ensures forwards { Forwards (λ w p r. PUT.post put.now w p r) (λ w r. FLUSH.post flush.now w r)
+            self.old.device.failed self.new.device.failed self.old.session.posted self.new.session.posted wire
+            result.0 }
+        ensures unstopped { OnOk result.1 (self.new.session.stopped ≡ self.old.session.stopped) }
+        ensures call { OnOk result.1 ((first : SessionView) (input : Option (List ℕ)) (before : ℕ)
+            (given : List Meaning) (calls : List Outcomes)
+            → IsWorking P.sizes N.sizes.shards first input before given calls self.old.session self.old.pump
+            → CallsMore P.sizes N.sizes.shards first input before given calls self.new.session self.new.pump) }
+        ensures end { IfErr result.1 (λ end. (first : SessionView) (input : Option (List ℕ)) (before : ℕ)
+            (given : List Meaning) (calls : List Outcomes)
+            → IsWorking P.sizes N.sizes.shards first input before given calls self.old.session self.old.pump
+            → HasStopped P.sizes N.sizes.shards first input before end self.new.session self.new.pump) }
+    {
+        let command = match self.pump.next() {
+            Ok(command) => command,
+            Err(end) => return (wire, Err(end)),
+        };
+        gate.before(rt, self.session.number(), self.session.calls());
+        match self
+            .session
+            .call(rt, shop, &command, &mut room.sent, &mut room.stored)
+        {
+            Ok(_) => {}
+            Err(CallError::Memory) => return (wire, Err(End::Memory)),
+            Err(_) => unreachable!(),
+        }
+        self.pump.give_back(command);
+        let wire = self.forward(shop, wire, put, flush);
+        (wire, Ok(()))
+    }
+
+    // Puts the reply that was posted last.
+    fn forward<W: Drop, PUT: Fn(W, &[u8]) -> (W, bool), FLUSH: Fn(W) -> (W, bool)>(
+        &mut self,
+        shop: &Shop<'_, N, P>,
+        wire: W,
+        put: &PUT,
+        flush: &FLUSH,
+    ) -> W
+        requires calls { PUT.IsAlwaysCallable put.now × FLUSH.IsAlwaysCallable flush.now }
+        requires one { HasOneMore self.old.session self.old.device.end }
+        ensures gathered { IsGathered self.new.session self.new.device.end }
+        ensures session { self.new.session
+            ≡ record self.old.session { told = length self.old.session.posted } }
+        ensures pump { self.new.pump ≡ self.old.pump }
+        ensures forwards { Forwards (λ w p r. PUT.post put.now w p r) (λ w r. FLUSH.post flush.now w r)
+            self.old.device.failed self.new.device.failed (completed self.old.device.end) self.old.session.posted wire
+            result }
+    {
+        // The device is told what was posted, and then the session what was gathered.
+        laws::both_ends(&mut self.session, &mut self.device);
+        let (wire, _) = self.device.gather(shop.pool, wire, put, flush);
+        laws::both_ends(&mut self.session, &mut self.device);
+        wire
+    }
+}
