@@ -6,7 +6,7 @@ use Rattle.flake_program.proofs.session.serve.Goals as goal
 
 pub loop-wire-init : goal.loop-wire-init
 loop-wire-init g c = record {
-  serving = ([], record { pump_is = c.new-pump.ensures; count = refl; store_is = c.requires.store; sharded = c.requires.histories }, nothing_sent _);
+  serving = ([], record { pump_is = c.new-pump.ensures.pump; count = refl; store_is = c.requires.store; sharded = c.requires.histories }, nothing_sent _);
   shards = refl;
 }
 
