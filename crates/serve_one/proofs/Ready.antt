@@ -93,21 +93,20 @@ module _ {g : Ghosts Sent} where
 -- so the run is shown
 module _ {W : Type 0} (put_may : W → Bor (List ℕ) → (W × Bool) → Type 0) (flush_may : W → (W × Bool) → Type 0)
     {g : Ghosts Sent} where
-  pub ran_one : (sizes : Sizes) (z : pool.Sizes) (main : View) (list : Roomy SessionList) (session : SessionView)
+  pub ran_one : (sizes : Sizes) (z all : pool.Sizes) (main : View) (list : Roomy SessionList) (session : SessionView)
       (device : DeviceEnd Sent g) (failed : Bool) (shards : ℕ) (given rest input left : Option (List ℕ))
       (end : SessionEnd) (mine : SessionList) (last : View) (journal : List (List Entry)) (closed : End) (old new : W)
-      → IsReady sizes z main list session device failed
+      → z ≡ all → IsReady sizes z main list session device failed
       → IsServed put_may flush_may z shards session input left end mine last old new
       → ((input left : Option (List ℕ)) (end : SessionEnd) (text : List ℕ)
       → HasRun z shards 0 input left end mine last text → HasShown z input left end text journal closed)
-      → input ≡ given → rest ≡ left → RanOne put_may flush_may z given rest end journal closed old new
-  ran_one sizes z main list session device failed shards given rest input left end mine last journal closed old new is
-      served shown given_is rest_is = record {
-    text = served.text;
-    shown = subst (λ (y : Option (List ℕ) × Option (List ℕ)). HasShown z y.0 y.1 end served.text journal closed)
-        (λ i. (given_is i, sym rest_is i))
-        (shown input left end served.text
-        (subst (λ (n : ℕ). HasRun z shards n input left end mine last served.text)
-        (ap (λ (p : PassView). p.list.number) is.pass.pass_is) served.ran));
-    sends = served.sends;
-  }
+      → input ≡ given → rest ≡ left → RanOne put_may flush_may all given rest end journal closed old new
+  ran_one sizes z all main list session device failed shards given rest input left end mine last journal closed old new
+      same is served shown given_is rest_is =
+      let ran : HasRun z shards 0 input left end mine last served.text =
+      subst (λ (n : ℕ). HasRun z shards n input left end mine last served.text)
+      (ap (λ (p : PassView). p.list.number) is.pass.pass_is) served.ran in
+      let own : HasShown all given rest end served.text journal closed =
+      subst (λ (y : pool.Sizes × Option (List ℕ) × Option (List ℕ)). HasShown y.0 y.1 y.2 end served.text journal closed)
+      (λ i. (same i, given_is i, sym rest_is i)) (shown input left end served.text ran) in
+      record { ran = own.ran; text = served.text; text_is = own.text_is; sends = served.sends }

@@ -17,9 +17,11 @@ pub record HasShown (z : Sizes) (input left : Option (List ℕ)) (end : SessionE
   pub text_is : text ≡ wire_text (all_commands ran.served.sessions) journal 0 end.replies
 
 module _ {W : Type 0} (put_may : W → Bor (List ℕ) → (W × Bool) → Type 0) (flush_may : W → (W × Bool) → Type 0) where
-  -- The input was served, and the text of its replies was put on the wire, which was then flushed.
+  -- The input was served; the returned journal gives the text of its replies, which was put on the wire, and last of
+  -- all the wire was flushed.
   pub record RanOne (z : Sizes) (input left : Option (List ℕ)) (end : SessionEnd) (journal : List (List Entry))
       (closed : End) (old new : W) : Type 0 where
+    pub ran : WasRun z (input ∷ []) (left ∷ []) (end ∷ []) journal (None ∷ []) (None ∷ []) closed
     pub text : List ℕ
-    pub shown : HasShown z input left end text journal closed
+    pub text_is : text ≡ wire_text (all_commands ran.served.sessions) journal 0 end.replies
     pub sends : SendsOut put_may flush_may false end.failed text old new

@@ -78,7 +78,11 @@ pub(crate) fn open_house<N: BookName, P: PoolName + Send>(
         return Err(Memory);
     };
     let list = SessionSeats::with_room(alloc, 1)?;
-    let Passed { pool, mut main, pass } = open_pass(alloc, pool, main, mine, sizes.threshold)?;
+    let Passed {
+        pool,
+        mut main,
+        pass,
+    } = open_pass(alloc, pool, main, mine, sizes.threshold)?;
     let store = open_store(alloc, &pool, &mut main, sizes.shards, shard_seats)?;
     let Ok((driver, end)) = ring::<Parcel<P>>(alloc, sizes.ring) else {
         return Err(Memory);

@@ -43,7 +43,8 @@ fn serve_named<
     requires pool { (P.table ≡ pool.table) × (P.sizes ≡ pool.sizes) × IsPool sizes.now P.sizes }
     requires book { (N.table ≡ book.table) × (N.sizes ≡ book.sizes) × IsBook sizes.now N.sizes }
     ensures ran { IfOk result (λ run. RanOne (λ w p r. PUT.post put.now w p r) (λ w r. FLUSH.post flush.now w r)
-        P.sizes (S.left source) (S.left run.source) run.end (histories run.journal.items) run.pool wire run.wire) }
+        (pool_sizes sizes.now) (S.left source) (S.left run.source) run.end (histories run.journal.items) run.pool wire
+        run.wire) }
     ensures shards { IfOk result (λ run. length run.journal.items ≡ sizes.now.shards) }
     ensures reads { IfOk result (λ run. EndFaults run.end.end (S.read_faults source) (S.read_faults run.source)) }
     ensures to_the_end { IfOk result (λ run. run.end.end ≢ End.Left) }

@@ -2,7 +2,7 @@
 ghost use Rattle.std.specs.Prelude.{◌≡◌, ◌≢◌, length};
 ghost use Rattle.command_pump.specs.Pump.{EndFaults};
 ghost use Rattle.shard_store.specs.Journals.{histories};
-ghost use Rattle.serve_one.specs.Opened.{IsSized, IsPool, IsBook, IsReady};
+ghost use Rattle.serve_one.specs.Opened.{IsSized, IsPool, IsBook, IsReady, pool_sizes};
 ghost use Rattle.serve_one.specs.Ran.{RanOne};
 
 use crate::closing::{Closed, close_all};
@@ -53,8 +53,9 @@ pub(crate) fn serve_house<
     requires pool { IsPool sizes.now P.sizes }
     requires book { IsBook sizes.now N.sizes }
     requires ready { IsReady sizes.now P.sizes house.main house.list house.session house.device.end house.device.failed }
-    ensures ran { RanOne (λ w p r. PUT.post put.now w p r) (λ w r. FLUSH.post flush.now w r) P.sizes (S.left source)
-        (S.left result.source) result.end (histories result.journal.items) result.pool wire result.wire }
+    ensures ran { RanOne (λ w p r. PUT.post put.now w p r) (λ w r. FLUSH.post flush.now w r)
+        (pool_sizes sizes.now) (S.left source) (S.left result.source) result.end
+        (histories result.journal.items) result.pool wire result.wire }
     ensures shards { length result.journal.items ≡ sizes.now.shards }
     ensures reads { EndFaults result.end.end (S.read_faults source) (S.read_faults result.source) }
     ensures to_the_end { result.end.end ≢ End.Left }
