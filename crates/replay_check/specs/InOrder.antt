@@ -1,5 +1,5 @@
 -- Which entries of a history are in order, and the first place of a journal that isn't.
-use Rattle.std.specs.Prelude.{◌≡◌, ℕ, ◌<◌, ◌≤◌, if◌then◌else◌, List, [], ◌∷◌, ◌++◌, Option, Some, None}
+use Rattle.std.specs.Prelude.{◌≡◌, ℕ, ◌<◌, ◌≤◌, if◌then◌else◌, List, [], ◌∷◌, ◌++◌, Some, MatchOption}
 use Rattle.std.specs.Prelude.{length, take, slice_get}
 use Rattle.std.specs.List.{AllByRecursion}
 use Rattle.flake_base.specs.declared.journal.Entry.{Entry}
@@ -39,10 +39,9 @@ left_behind sessions shards shard earlier session =
 -- entry before it, and each part between the two is a write. A history's end is in order where each part of each
 -- session behind its last entry is a write.
 abbrev pub IsInOrder : List (List Command) → ℕ → ℕ → List Entry → ℕ → Type 0
-IsInOrder sessions shards shard history place = at (slice_get history place) where
-  at : Option Entry → Type 0
-  at (Some entry) = IsNext (left_behind sessions shards shard (take place history) entry.session) entry
-  at None = (session : ℕ) → AreWrites (left_behind sessions shards shard history session)
+IsInOrder sessions shards shard history place = MatchOption (slice_get history place)
+    ((session : ℕ) → AreWrites (left_behind sessions shards shard history session))
+    (λ entry. IsNext (left_behind sessions shards shard (take place history) entry.session) entry)
 
 -- each place of a history is in order, its end too
 abbrev pub AreInOrder : List (List Command) → ℕ → ℕ → List Entry → Type 0

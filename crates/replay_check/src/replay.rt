@@ -62,8 +62,8 @@ fn replay_shard(
     let mut store = Store::new(alloc)?;
     let mut cursors = starts(alloc, sessions)?;
     for (place, entry) in history.iter().enumerate() {
-        let place = place as u64;
         let Some(part) = take_part(sessions, &mut cursors, shard, *entry) else {
+            let place = place as u64;
             return Err(AnswerError::BadJournal { shard, place });
         };
         let number = entry.session as usize;
