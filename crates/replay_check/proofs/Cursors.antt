@@ -81,14 +81,14 @@ is_taken sessions shards shard earlier cursors entry at place were is found =
     record {
       next = subst (λ steps. IsNext steps entry) left found.next;
       at = record {
-          count = length-set cursors entry.session (place + 1) ∙ were.count;
-          each = λ session now there. ⊎_elim
-              (λ here.
-              let moved : from_place shards shard (parts_of sessions entry.session) now ≡ left_behind sessions shards shard (earlier ++ entry ∷ []) entry.session =
-              ap (from_place shards shard (parts_of sessions entry.session)) here.1 ∙ found.left ∙ ap (behind entry) left ∙ sym (left_own sessions shards shard earlier entry) in
-              subst (λ n. from_place shards shard (parts_of sessions n) now ≡ left_behind sessions shards shard (earlier ++ entry ∷ []) n) (sym here.0) moved)
-              (λ others. were.each session now others.1 ∙ sym (left_other sessions shards shard earlier entry session others.0))
-              (read_set cursors entry.session session (place + 1) now there);
+        count = length-set cursors entry.session (place + 1) ∙ were.count;
+        each = λ session now there. ⊎_elim
+            (λ here.
+            let moved : from_place shards shard (parts_of sessions entry.session) now ≡ left_behind sessions shards shard (earlier ++ entry ∷ []) entry.session =
+            ap (from_place shards shard (parts_of sessions entry.session)) here.1 ∙ found.left ∙ ap (behind entry) left ∙ sym (left_own sessions shards shard earlier entry) in
+            subst (λ n. from_place shards shard (parts_of sessions n) now ≡ left_behind sessions shards shard (earlier ++ entry ∷ []) n) (sym here.0) moved)
+            (λ others. were.each session now others.1 ∙ sym (left_other sessions shards shard earlier entry session others.0))
+            (read_set cursors entry.session session (place + 1) now there);
       };
       operation = found.operation;
       step_is = found.step_is;

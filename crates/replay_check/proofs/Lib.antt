@@ -7,3 +7,6 @@ pub mod InputCommands
 pub mod Noting
 pub mod Whole
 pub mod Texts
+pub mod Replayed
+pub mod Lists
+pub mod Grown

@@ -1,7 +1,7 @@
 -- Answers that are noted, one after another.
-use Rattle.std.proofs.Common.{◌≡◌, ℕ, ◌+◌, ◌<◌, ◌≤◌, ◌⊎◌, ⊎_elim, inl, inr, zero, suc, Bool, true, false, cond, ◌==◌, ◌&&◌, List, [], ◌∷◌, ◌++◌, Option, Some, None, is_none, unwrap_or, length, map, set, take, replicate, slice_get, get_or, arith, refl, ap, sym, ◌∙◌, subst}
+use Rattle.std.proofs.Common.{◌≡◌, ℕ, ◌+◌, ◌<◌, ◌≤◌, ◌⊎◌, ⊎_elim, inl, inr, zero, suc, Bool, true, false, cond, ◌==◌, ◌&&◌, List, [], ◌∷◌, ◌++◌, Option, Some, None, is_some, unwrap_or, length, map, set, take, replicate, slice_get, get_or, arith, refl, ap, sym, ◌∙◌, subst}
 use Rattle.std.proofs.lemmas.Bool.{eq-eqb, eqb-true, cases_Bool}
-use Rattle.std.proofs.lemmas.List.{length-map, length-set}
+use Rattle.std.proofs.lemmas.List.{length-set, get_or_read}
 use Rattle.std.specs.Global.{Vec}
 use Rattle.std.specs.List.{AllByRecursion, flat_map}
 use Rattle.flake_base.specs.declared.journal.Entry.{Entry}
@@ -18,19 +18,25 @@ use Rattle.replay_check.specs.Noted.{slot_meant, slots_meant, first_of, noted, a
 use Rattle.replay_check.proofs.Rising.{Later, AreRising, rising, not_before, not_behind, all_own, has_part, at_place}
 
 -- a slot that is written, or kept
-pub noted_set : (slots : List (Option PartAnswer)) (k : ℕ) (found : PartAnswer) → k < length slots → is_none (get_or slots k None) ≡ true
-    → slots_meant (set slots k (Some found)) ≡ noted k (answer_meant found) (slots_meant slots)
-noted_set [] k found within is = absurd (omega arith)
-noted_set (None ∷ slots) zero found within is = refl
-noted_set (Some first ∷ slots) zero found within is = absurd (cc (is))
-noted_set (slot ∷ slots) (suc k) found within is = ap (λ rest. slot_meant slot ∷ rest) (noted_set slots k found (omega arith) is)
+set_there : (slots : List (Option PartAnswer)) (k : ℕ) (found : PartAnswer) → k < length slots → is_some (get_or slots k None) ≡ false → slots_meant (set slots k (Some found)) ≡ noted k (answer_meant found) (slots_meant slots)
+set_there [] k found within is = absurd (omega arith)
+set_there (None ∷ slots) zero found within is = refl
+set_there (Some first ∷ slots) zero found within is = absurd (cc (is))
+set_there (slot ∷ slots) (suc k) found within is = ap (λ rest. slot_meant slot ∷ rest) (set_there slots k found (omega arith) is)
 
-pub noted_kept : (slots : List (Option PartAnswer)) (k : ℕ) (found : PartAnswer) → k < length slots → is_none (get_or slots k None) ≡ false
+kept_there : (slots : List (Option PartAnswer)) (k : ℕ) (found : PartAnswer) → k < length slots → is_some (get_or slots k None) ≡ true → slots_meant slots ≡ noted k (answer_meant found) (slots_meant slots)
+kept_there [] k found within is = absurd (omega arith)
+kept_there (None ∷ slots) zero found within is = absurd (cc (is))
+kept_there (Some first ∷ slots) zero found within is = refl
+kept_there (slot ∷ slots) (suc k) found within is = ap (λ rest. slot_meant slot ∷ rest) (kept_there slots k found (omega arith) is)
+
+pub noted_set : (slots : List (Option PartAnswer)) (k : ℕ) (found : PartAnswer) (was : Option PartAnswer) → k < length slots → was ≡ get_or slots k was → is_some was ≡ false
+    → slots_meant (set slots k (Some found)) ≡ noted k (answer_meant found) (slots_meant slots)
+noted_set slots k found was within at is = set_there slots k found within (ap (λ (o : Option PartAnswer). is_some o) (sym (get_or_read slots k was within at None)) ∙ is)
+
+pub noted_kept : (slots : List (Option PartAnswer)) (k : ℕ) (found : PartAnswer) (was : Option PartAnswer) → k < length slots → was ≡ get_or slots k was → is_some was ≡ true
     → slots_meant slots ≡ noted k (answer_meant found) (slots_meant slots)
-noted_kept [] k found within is = absurd (omega arith)
-noted_kept (None ∷ slots) zero found within is = absurd (cc (is))
-noted_kept (Some first ∷ slots) zero found within is = refl
-noted_kept (slot ∷ slots) (suc k) found within is = ap (λ rest. slot_meant slot ∷ rest) (noted_kept slots k found (omega arith) is)
+noted_kept slots k found was within at is = kept_there slots k found within (ap (λ (o : Option PartAnswer). is_some o) (sym (get_or_read slots k was within at None)) ∙ is)
 
 -- the answer at an entry, with one answer more
 at_more : (entry other : Entry) (told : Answer) (answers : List (Entry × Answer)) → is_entry entry other ≡ false → answer_at entry (answers ++ (other, told) ∷ []) ≡ answer_at entry answers

@@ -1,5 +1,5 @@
 // The commands of an input, by the grammar of the whole.
-ghost use Rattle.std.specs.Prelude.{◌≡◌, IfOk, map};
+ghost use Rattle.std.specs.Prelude.{◌≡◌, ◌≢◌, IfOk, map};
 ghost use Rattle.flake_model.specs.Command.{command_of};
 ghost use Rattle.replay_check.specs.Inputs.{AreCommands};
 ghost use Rattle.replay_check.specs.Refused.{refusal_of};
@@ -15,8 +15,7 @@ pub fn commands_of(alloc: Global, input: &[u8]) -> Result<Vec<Command>, Memory>
     let mut reader = Reader::new(alloc);
     let refused = match reader.feed(input) {
         Ok(()) => None,
-        Err(ReadError::Memory) => return Err(Memory),
-        Err(error) => refusal(error),
+        Err(error) => refusal(error)?,
     };
     let mut commands = requested(alloc, reader)?;
     if let Some(kind) = refused {
@@ -37,15 +36,17 @@ fn requested(alloc: Global, reader: Reader) -> Result<Vec<Command>, Memory>
     Ok(commands)
 }
 
-// What a protocol error is answered by.
-fn refusal(error: ReadError) -> Option<ErrorKind>
-    ensures { result ≡ refusal_of error }
+// What an error of the reader is answered by, unless memory was wanting; nothing, where the input is too long.
+fn refusal(error: ReadError) -> Result<Option<ErrorKind>, Memory>
+    ensures kind { IfOk result (λ kind. kind ≡ refusal_of error) }
+    ensures other { IfOk result (λ kind. error ≢ ReadError.Memory) }
 {
     match error {
-        ReadError::BadCount { .. } => Some(ErrorKind::ProtocolCount),
-        ReadError::ExpectedBulk { .. } => Some(ErrorKind::ProtocolBulk),
-        ReadError::BadLength { .. } => Some(ErrorKind::ProtocolLength),
-        ReadError::Inline { .. } => Some(ErrorKind::ProtocolInline),
-        ReadError::TooLong { .. } | ReadError::Memory => None,
+        ReadError::BadCount { .. } => Ok(Some(ErrorKind::ProtocolCount)),
+        ReadError::ExpectedBulk { .. } => Ok(Some(ErrorKind::ProtocolBulk)),
+        ReadError::BadLength { .. } => Ok(Some(ErrorKind::ProtocolLength)),
+        ReadError::Inline { .. } => Ok(Some(ErrorKind::ProtocolInline)),
+        ReadError::TooLong { .. } => Ok(None),
+        ReadError::Memory => Err(Memory),
     }
 }
