@@ -1,7 +1,8 @@
 -- Answers that are noted, one after another.
 use Rattle.std.proofs.Common.{◌≡◌, ℕ, ◌+◌, ◌<◌, ◌≤◌, ◌⊎◌, ⊎_elim, inl, inr, zero, suc, Bool, true, false, cond, ◌==◌, ◌&&◌, List, [], ◌∷◌, ◌++◌, Option, Some, None, is_some, unwrap_or, length, map, set, take, replicate, slice_get, get_or, arith, refl, ap, sym, ◌∙◌, subst}
 use Rattle.std.proofs.lemmas.Bool.{eq-eqb, eqb-true, cases_Bool}
-use Rattle.std.proofs.lemmas.List.{length-set, get_or_read}
+use Rattle.std.proofs.lemmas.List.{length-map, length-set, get_or_read}
+use Rattle.std.proofs.lemmas.Option.{slice_get_within}
 use Rattle.std.specs.Global.{Vec}
 use Rattle.std.specs.List.{AllByRecursion, flat_map}
 use Rattle.flake_base.specs.declared.journal.Entry.{Entry}
@@ -114,3 +115,15 @@ answers_more store (first ∷ steps) step = ap (λ rest. (first.0, answer store 
 pub store_more : (store : Store) (steps : List Step) (step : Step) → store_after store (steps ++ step ∷ []) ≡ after (store_after store steps) step.1
 store_more store [] step = refl
 store_more store (first ∷ steps) step = store_more (after store first.1) steps step
+
+-- a session has a slot for each of its parts
+pub has_slot : (sessions : List (List Command)) (answers : List (Entry × Answer)) (slots : List (Vec (Option PartAnswer))) (session k : ℕ) (commands : List Command) (own : Vec (Option PartAnswer)) (step : Step) → AreNoted sessions answers slots
+    → slice_get sessions session ≡ Some commands → slice_get slots session ≡ Some own → slice_get (session_steps session 0 commands) k ≡ Some step → k < length own.items
+has_slot sessions answers slots session k commands own step were there has is =
+    omega (
+      arith,
+      slice_get_within (session_steps session 0 commands) k step is,
+      ap length (were.each session commands own there has),
+      length-map own.items slot_meant,
+      length-map (session_steps session 0 commands) (λ (s : Step). answer_at s.0 answers),
+    )

@@ -6,12 +6,16 @@ use Rattle.std.specs.FinMap as finite
 use Rattle.flake_base.specs.declared.journal.Entry.{Entry}
 use Rattle.flake_model.specs.Store.{Store, Operation, Answer, answer, after}
 use Rattle.flake_model.specs.Command.{Command, parts}
-use Rattle.flake_model.specs.Journal.{Step, operation_at, step_of, answers_from, store_after, commands_of}
+use Rattle.flake_model.specs.Journal.{Step, operation_at, step_of, answers_from, answers_of, store_after, commands_of}
 use Rattle.byte_store.specs.Store.{Tables, Holds}
 use Rattle.byte_store.specs.declared.store.PartAnswer.{PartAnswer}
 use Rattle.std.specs.Global.{Vec}
-use Rattle.replay_check.specs.InOrder.{AreWrites, IsNext, left_behind, IsInOrder}
+use Rattle.replay_check.specs.InOrder.{AreWrites, IsNext, left_behind, IsInOrder, AreInOrder, IsFirstFault}
+use Rattle.replay_check.specs.Faults.{IsFaultIn, IsFaultOf}
+use Rattle.replay_check.specs.declared.error.AnswerError.{AnswerError}
+use Rattle.replay_check.specs.declared.error.AnswerError.TheVariants.{BadJournal, Memory}
 use Rattle.replay_check.specs.Noted.{AreNoted, HasPart}
+use Rattle.replay_check.proofs.Lists.{take_next}
 use Rattle.replay_check.proofs.Noting.{answers_more, store_more}
 
 -- an entry has one operation
@@ -94,3 +98,24 @@ pub not_in_order_end : (sessions : List (List Command)) (shards shard : ℕ) (hi
 not_in_order_end sessions shards shard history place is refused in_order = refused
     (subst (λ (found : Option Entry). MatchOption found ((session : ℕ) → AreWrites (left_behind sessions shards shard history session))
     (λ entry. IsNext (left_behind sessions shards shard (take place history) entry.session) entry)) is in_order)
+
+-- the answers of the first shards with those of the next
+pub answers_of_more : (sessions : List (List Command)) (journal : List (List Entry)) (shard : ℕ) (history : List Entry) → slice_get journal shard ≡ Some history
+    → answers_of sessions (take shard journal) ++ answers_from finite.empty (flat_map (step_of sessions) history) ≡ answers_of sessions (take (shard + 1) journal)
+answers_of_more sessions journal shard history is =
+    let f : List Entry → List (Entry × Answer) = λ h. answers_from finite.empty (flat_map (step_of sessions) h) in
+    sym (ap (flat_map f) (take_next journal shard history is) ∙ flat_append f (take shard journal) (history ∷ []) ∙ ap (λ last. flat_map f (take shard journal) ++ last) (append-nil (f history)))
+
+-- the first fault of a shard, where those before it have none
+pub fault_of : (sessions : List (List Command)) (journal : List (List Entry)) (shard : ℕ) (history : List Entry) (error : AnswerError) → slice_get journal shard ≡ Some history
+    → ((other : ℕ) (before : List Entry) → other < shard → slice_get journal other ≡ Some before → AreInOrder sessions (length journal) other before) → IsFaultIn sessions (length journal) shard history error
+    → IsFaultOf sessions journal error
+fault_of sessions journal shard history (BadJournal other place) is all fault = subst (λ s. IsFirstFault sessions journal s place) (sym fault.0) (record {
+  history = history;
+  is_there = is;
+  within = fault.1.within;
+  at_fault = fault.1.at_fault;
+  places_before = fault.1.before;
+  shards_before = all;
+})
+fault_of sessions journal shard history Memory is all fault = tt

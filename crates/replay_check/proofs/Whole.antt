@@ -1,17 +1,22 @@
 -- A journal is orderly for all commands exactly where each place is in order.
 use Rattle.std.proofs.Common.{◌≡◌, ℕ, ◌+◌, ◌<◌, ◌≤◌, ◌⊎◌, ⊎_elim, zero, suc, true, false, ◌==◌, List, [], ◌∷◌, ◌++◌, Option, Some, None, unwrap_or, length, map, take, drop, slice_get, arith, refl, ap, sym, ◌∙◌, subst, append_assoc, append-nil, length-append}
 use Rattle.std.specs.Prelude.{slice_index, MatchOption}
+use Rattle.std.specs.List.{flat_map}
 use Rattle.std.proofs.lemmas.Bool.{eq-eqb, eqb-true, cases_Bool}
 use Rattle.std.proofs.lemmas.List.{take_all}
 use Rattle.std.proofs.lemmas.List.Elements.{filter-append}
 use Rattle.flake_base.specs.declared.journal.Entry.{Entry}
 use Rattle.flake_model.specs.Command.{Command}
-use Rattle.flake_model.specs.Journal.{Step, IsServed, of_session, in_shard, shard_of, commands_of, session_steps, HasInOrder}
+use Rattle.flake_model.specs.Reply.{reply_text}
+use Rattle.flake_model.specs.Journal.{IsServed, of_session, in_shard, shard_of, commands_of, session_steps, answers_of, replies_from, wire_text}
 use Rattle.flake_model.specs.Store.{key_of}
-use Rattle.replay_check.specs.Inputs.{parts_in, parts_of}
-use Rattle.replay_check.specs.InOrder.{behind, left_by, AreWrites, IsNext, left_behind, IsInOrder, AreInOrder, IsFirstFault}
-use Rattle.replay_check.specs.Faults.{AllInOrder}
-use Rattle.replay_check.specs.Answered.{IsWhole}
+use Rattle.replay_check.specs.Inputs.{parts_in, parts_of, AreInputs}
+use Rattle.replay_check.specs.InOrder.{AreWrites, IsNext, left_behind, IsInOrder, AreInOrder, IsFirstFault}
+use Rattle.replay_check.specs.Faults.{AllInOrder, IsFaultOf}
+use Rattle.replay_check.specs.Noted.{AreTexts}
+use Rattle.replay_check.specs.Answered.{IsWhole, AreAnswers, IsRefusal}
+use Rattle.replay_check.specs.declared.error.AnswerError.{AnswerError}
+use Rattle.replay_check.specs.declared.error.AnswerError.TheVariants.{BadJournal, Memory}
 use Rattle.replay_check.proofs.Rising.{AreRising, rising, rising_filter}
 use Rattle.replay_check.proofs.Orders.{unserved, only_writes, first_is_next, served_by, served_left}
 use Rattle.replay_check.proofs.Cursors.{own_entry, other_entry, left_own, left_other}
@@ -133,3 +138,26 @@ pub not_whole : (sessions : List (List Command)) (journal : List (List Entry)) (
 not_whole sessions journal shard place fault orderly = fault.at_fault (served_in_order sessions (length journal) shard fault.history
     (λ session. subst (λ commands. IsServed (in_shard (length journal) shard (session_steps session 0 commands)) (of_session session fault.history)) (all_taken sessions session) (orderly session shard fault.history fault.is_there))
     place)
+
+-- the text of a session's wire, by the answers at entries
+pub wire_is : (sessions : List (List Command)) (journal : List (List Entry)) (session : ℕ) (commands : List Command) → slice_get sessions session ≡ Some commands
+    → flat_map reply_text (replies_from (answers_of sessions journal) session 0 commands) ≡ wire_text sessions journal session (length commands)
+wire_is sessions journal session commands is =
+    let own : commands_of sessions session ≡ commands = ap (λ (found : Option (List Command)). unwrap_or found []) is in
+    ap (λ c. flat_map reply_text (replies_from (answers_of sessions journal) session 0 c)) (sym (ap (take (length commands)) own ∙ all_of commands))
+
+-- an error of a journal, by the inputs
+pub refusal_by : (inputs : List (List ℕ)) (journal : List (List Entry)) (sessions : List (List Command)) (error : AnswerError) → AreInputs inputs sessions → IsFaultOf sessions journal error → IsRefusal inputs journal error
+refusal_by inputs journal sessions (BadJournal shard place) are fault = record { sessions = sessions; inputs_are = are; first = fault; not_orderly = not_whole sessions journal shard place fault }
+refusal_by inputs journal sessions Memory are fault = tt
+
+-- the texts of the replies that a journal in order gives
+pub are_answers : (inputs : List (List ℕ)) (journal : List (List Entry)) (sessions : List (List Command)) (texts : List (List ℕ)) → AreInputs inputs sessions → AllInOrder sessions journal
+    → AreTexts (answers_of sessions journal) sessions texts → AreAnswers inputs journal texts
+are_answers inputs journal sessions texts are all said = record {
+  sessions = sessions;
+  inputs_are = are;
+  orderly = whole sessions journal all;
+  count = said.count ∙ are.count;
+  each = λ session commands is. said.each session commands is ∙ ap Some (wire_is sessions journal session commands is);
+}

@@ -22,8 +22,9 @@ pub fn answers(alloc: Global, inputs: &Inputs, journal: &Journal) -> Result<Text
 {
     let shards = journal.len() as u16;
     let sessions = sessions_of(alloc, inputs, shards)?;
-    let mut slots = all_slots(alloc, sessions.as_slice(), shards)?;
-    replay(alloc, sessions.as_slice(), journal, &mut slots)?;
-    let texts = texts_of(alloc, sessions.as_slice(), slots.as_slice())?;
+    let sessions = sessions.as_slice();
+    let mut slots = all_slots(alloc, sessions, shards)?;
+    replay(alloc, sessions, journal, &mut slots)?;
+    let texts = texts_of(alloc, sessions, slots.as_slice())?;
     Ok(texts)
 }
