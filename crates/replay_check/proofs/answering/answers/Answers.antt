@@ -1,10 +1,9 @@
-use Rattle.std.proofs.Common.{◌≡◌, sym, subst, length}
-use Rattle.std.proofs.lemmas.List.{length-map}
+use Rattle.std.proofs.Common.{sym, subst}
 use Rattle.std.proofs.lemmas.Result.{err_from_is_err_and}
-use Rattle.flake_base.specs.Roomy.{Roomy}
 use Rattle.journal_text.specs.Histories.{histories}
 use Rattle.flake_model.specs.Journal.{answers_of}
 use Rattle.replay_check.specs.Inputs.{contents, AreInputs}
+use Rattle.replay_check.specs.Noted.{AreNoted}
 use Rattle.replay_check.specs.Places.{told}
 use Rattle.replay_check.proofs.Whole.{refusal_by, are_answers}
 use Rattle.replay_check.proofs.answering.answers.Goals as goal
@@ -24,4 +23,5 @@ returns-clause-ok c =
     let journal = histories c.args.journal.now.items in
     let sessions = told c.as_slice-sessions.result.now in
     let are = subst (λ s. AreInputs inputs (told s)) (sym c.as_slice-sessions.ensures.value) c.in_ok-sessions.ensures.inputs in
-    are_answers inputs journal sessions (contents c.in_ok-texts.texts.items) are c.in_ok-replay.ensures.in_order ?
+    are_answers inputs journal sessions (contents c.in_ok-texts.texts.items) are c.in_ok-replay.ensures.in_order
+    (c.in_ok-texts.ensures (answers_of sessions journal) (subst (AreNoted sessions (answers_of sessions journal)) (sym c.as_slice.ensures.value) c.in_ok-replay.ensures.noted))
