@@ -14,7 +14,7 @@ returns-in_err-replay-clause-err c =
     let journal = histories c.args.journal.now.items in
     let sessions = told c.as_slice-sessions.result.now in
     let are = subst (λ s. AreInputs inputs (told s)) (sym c.as_slice-sessions.ensures.value) c.in_ok-sessions.ensures.inputs in
-    let p = err_from_is_err_and c.from_residual.result c.from_residual.ensures.1 in
+    let p = err_from_is_err_and c.from_residual-in_err-replay.result c.from_residual-in_err-replay.ensures.1 in
     rw (p.1, p.2) (refusal_by inputs journal sessions c.in_err-replay.field-0.0 are c.in_err-replay.ensures.fault)
 
 pub returns-clause-ok : goal.returns-clause-ok
