@@ -1,6 +1,6 @@
 // Where each session stands in a shard's history.
-ghost use Rattle.std.specs.Prelude.{◌≡◌, ◌<◌, ◌+◌, ◌++◌, ◌∷◌, [], ℕ, List, IsTrue, ◌↔◌, IfOk, IfSome, IsNone, length, map};
-ghost use Rattle.std.specs.Prelude.{drop, vec_len};
+ghost use Rattle.std.specs.Prelude.{◌≡◌, ◌<◌, ◌↔◌, [], ℕ, List, length, map, drop, vec_len};
+ghost use Rattle.std.specs.Prelude.{IsTrue, IfOk, IfSome, IsNone};
 ghost use Rattle.flake_base.specs.declared.journal.Entry.{Entry};
 ghost use Rattle.flake_model.specs.Journal.{Step, in_shard};
 ghost use Rattle.replay_check.specs.InOrder.{AreWrites, IsNext, left_behind};

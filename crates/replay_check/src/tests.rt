@@ -278,25 +278,36 @@ fn other_ends_of_inputs(rt: HostRuntime) -> Result<(), Fail> {
     Ok(())
 }
 
-// The history of each shard of 8, empty.
-fn histories(alloc: Global) -> Result<Vec<Sequence<Entry>>, Fail> {
-    let mut histories = Vec::new(alloc);
-    for _shard in 0..8 {
-        histories.push(Sequence::new(alloc))?;
-    }
-    Ok(histories)
+/// An input, the replies to it, and the history of each shard, as a session of its own makes them.
+#[derive(Drop)]
+struct Script {
+    input: Bytes,
+    texts: Bytes,
+    lists: Vec<Sequence<Entry>>,
 }
 
-// Enters a part of session 0 in its shard.
-fn enter(histories: &mut [Sequence<Entry>], key: &[u8], call: u32, part: u16) -> Result<(), Fail> {
+fn empty_script(alloc: Global) -> Result<Script, Fail> {
+    let mut lists = Vec::new(alloc);
+    for _shard in 0..8 {
+        lists.push(Sequence::new(alloc))?;
+    }
+    Ok(Script {
+        input: Bytes::new(alloc),
+        texts: Bytes::new(alloc),
+        lists,
+    })
+}
+
+// Enters a part of the session in the history of its key's shard.
+fn enter(lists: &mut [Sequence<Entry>], key: &[u8], call: u32, part: u16) -> Result<(), Fail> {
     let entry = Entry {
         session: 0,
         call,
         part,
     };
     let shard = shard_of(key, 8) as usize;
-    if shard < histories.len() {
-        histories[shard].push(entry)?;
+    if shard < lists.len() {
+        lists[shard].push(entry)?;
     }
     Ok(())
 }
@@ -309,35 +320,64 @@ fn put_bytes(text: &mut Bytes, letter: u8, count: usize) -> Result<(), Fail> {
     Ok(())
 }
 
+fn length_of(n: u32) -> usize {
+    100 + 44 * n as usize
+}
+
+// The call of number n sets key n.
+fn put_set(alloc: Global, script: &mut Script, n: u32) -> Result<(), Fail> {
+    let key = format!(in alloc; "k{n}")?;
+    let mut value = Bytes::new(alloc);
+    put_bytes(&mut value, b'v', length_of(n))?;
+    let words: [&[u8]; 3] = [b"SET", key.as_bytes(), value.as_slice()];
+    put_request(alloc, &mut script.input, &words)?;
+    script.texts.append(b"+OK\r\n")?;
+    enter(script.lists.as_mut_slice(), key.as_bytes(), n, 0)
+}
+
+// A part of an MGET finds the value of key n.
+fn put_item(alloc: Global, script: &mut Script, n: u32, call: u32, part: u16) -> Result<(), Fail> {
+    let key = format!(in alloc; "k{n}")?;
+    let word = format!(in alloc; "${}\r\n{key}\r\n", key.len())?;
+    script.input.append(word.as_bytes())?;
+    let head = format!(in alloc; "${}\r\n", length_of(n))?;
+    script.texts.append(head.as_bytes())?;
+    put_bytes(&mut script.texts, b'v', length_of(n))?;
+    script.texts.append(b"\r\n")?;
+    enter(script.lists.as_mut_slice(), key.as_bytes(), call, part)
+}
+
+// A call asks for twenty keys.
+fn put_mget(alloc: Global, script: &mut Script, call: u32, first: u32) -> Result<(), Fail> {
+    script.input.append(b"*21\r\n$4\r\nMGET\r\n")?;
+    script.texts.append(b"*20\r\n")?;
+    for part in 0..20u16 {
+        put_item(
+            alloc,
+            script,
+            first.saturating_add(u32::from(part)),
+            call,
+            part,
+        )?;
+    }
+    Ok(())
+}
+
 #[test]
 fn two_hundred_keys(rt: HostRuntime) -> Result<(), Fail> {
     let alloc = rt.alloc();
-    let mut input = Bytes::new(alloc);
-    let mut texts = Bytes::new(alloc);
-    let mut lists = histories(alloc)?;
-    for n in 0..200u32 {
-        let key = format!(in alloc; "k{n}")?;
-        let mut value = Bytes::new(alloc);
-        put_bytes(&mut value, b'v', 100 + 44 * n as usize)?;
-        let words: [&[u8]; 3] = [b"SET", key.as_bytes(), value.as_slice()];
-        put_request(alloc, &mut input, &words)?;
-        texts.append(b"+OK\r\n")?;
-        enter(lists.as_mut_slice(), key.as_bytes(), n, 0)?;
+    let mut script = empty_script(alloc)?;
+    for n in 0..200 {
+        put_set(alloc, &mut script, n)?;
     }
-    for tens in 0..10u32 {
-        input.append(b"*21\r\n$4\r\nMGET\r\n")?;
-        texts.append(b"*20\r\n")?;
-        for part in 0..20u16 {
-            let n = 20 * tens + u32::from(part);
-            let key = format!(in alloc; "k{n}")?;
-            input.append(format!(in alloc; "${}\r\n{key}\r\n", key.len())?.as_bytes())?;
-            let length = 100 + 44 * n as usize;
-            texts.append(format!(in alloc; "${length}\r\n")?.as_bytes())?;
-            put_bytes(&mut texts, b'v', length)?;
-            texts.append(b"\r\n")?;
-            enter(lists.as_mut_slice(), key.as_bytes(), 200 + tens, part)?;
-        }
+    for tens in 0..10 {
+        put_mget(alloc, &mut script, 200 + tens, 20 * tens)?;
     }
+    let Script {
+        input,
+        texts,
+        lists,
+    } = script;
     assert_eq!(rt; texts.len(), 898_429);
     let journal = Sequence::from_vec(lists);
     let inputs = one(alloc, input.as_slice())?;
