@@ -1,0 +1,51 @@
+-- What the words of the command line ask for.
+use Rattle.std.specs.Prelude.{ℕ, Bool, List, [], ◌∷◌, Option, Some, None, codes, if◌then◌else◌, map, length, unwrap_or}
+use Rattle.std.specs.Prelude.{◌≤◌, ◌*◌, ◌&&◌, false, nat_le, String, string_bytes}
+use Rattle.std.specs.Global.{Global}
+use Rattle.std.specs.Option.{option_and_then}
+use Rattle.std.specs.Str.{bytes_eq}
+use Rattle.clap.specs.Walk.{Row, all_of}
+use Rattle.serve_words.specs.Command.{rows_in}
+use Rattle.serve_words.specs.Sizes.{AreAllowed, sizes_in}
+use Rattle.serve_words.specs.declared.sizes.Sizes.{Sizes}
+use Rattle.serve_words.specs.declared.task.ServeTask.{ServeTask}
+
+-- the names of the files that are to be served, in order, and the sizes to serve them with
+pub record Task : Type 0 where
+  pub files : List (List ℕ)
+  pub sizes : Sizes
+
+-- there are 1 to 16 files, and 128 small buffers for each
+abbrev pub fits : List (List ℕ) → Sizes → Bool
+fits files sizes = nat_le 1 (length files) && nat_le (length files) 16 && nat_le (128 * length files) sizes.small
+
+abbrev pub task_for : List (List ℕ) → Sizes → Option Task
+task_for files sizes = if fits files sizes then Some (record { files = files; sizes = sizes }) else None
+
+abbrev pub files_in : List Row → List (List ℕ)
+files_in rows = unwrap_or (all_of (codes "file") rows) []
+
+abbrev pub task_in : List Row → Option Task
+task_in rows = option_and_then (task_for (files_in rows)) (sizes_in rows)
+
+-- the first word is `serve`
+abbrev pub is_serve : List (List ℕ) → Bool
+is_serve [] = false
+is_serve (command ∷ words) = bytes_eq command (codes "serve")
+
+-- the task that the words ask for; none where they are bad words
+abbrev pub task_of : List (List ℕ) → Option Task
+task_of words = if is_serve words then option_and_then task_in (rows_in words) else None
+
+abbrev pub texts_of : List (String Global) → List (List ℕ)
+texts_of words = map (λ word. string_bytes word) words
+
+-- the task, as the code holds it
+abbrev pub shown : ServeTask → Task
+shown task = record { files = map (λ file. file.now) task.files.items; sizes = task.sizes }
+
+-- a task that a run can be given
+pub record IsAllowed (task : Task) : Type 0 where
+  pub sizes : AreAllowed task.sizes
+  pub files : (1 ≤ length task.files) × (length task.files ≤ 16)
+  pub small : 128 * length task.files ≤ task.sizes.small

@@ -1,0 +1,107 @@
+ghost use Rattle.std.specs.Prelude.{◌≡◌, ◌≤◌, IfSome, Some, None};
+ghost use Rattle.clap.specs.Matches.{found_of};
+ghost use Rattle.clap.specs.Walk.{rows_of};
+ghost use Rattle.flake_model.specs.Range.{signed_of};
+ghost use Rattle.serve_words.specs.Sizes.{AreAllowed, size_in, sizes_in, within};
+
+use clap::ArgMatches;
+use range_pick::read_signed;
+
+/// How much of everything a run is given.
+#[derive(Clone, Copy, Debug, PartialEq, Eq)]
+pub struct Sizes {
+    pub shards: u16,
+    /// How many buffers of each class the pool has.
+    pub small: u32,
+    pub large: u32,
+    /// How many descriptors the ring has.
+    pub ring: u32,
+    /// A run of a stored fragment with at least so many bytes stays where it lies.
+    pub threshold: u32,
+}
+
+/// What an option may say, and what holds without it.
+#[derive(Clone, Copy)]
+struct Limits {
+    least: u32,
+    most: u32,
+    usual: u32,
+}
+
+const SHARDS: Limits = Limits {
+    least: 1,
+    most: 16,
+    usual: 8,
+};
+
+const SMALL: Limits = Limits {
+    least: 128,
+    most: 65_536,
+    usual: 4096,
+};
+
+const LARGE: Limits = Limits {
+    least: 1,
+    most: 16_384,
+    usual: 1024,
+};
+
+const RING: Limits = Limits {
+    least: 1160,
+    most: 4096,
+    usual: 1160,
+};
+
+const THRESHOLD: Limits = Limits {
+    least: 1,
+    most: 512,
+    usual: 512,
+};
+
+/// The sizes that the options ask for.
+pub(crate) fn sizes_in(matches: &ArgMatches<'_>) -> Option<Sizes>
+    ensures value { result ≡ sizes_in (rows_of (found_of matches.now)) }
+    ensures allowed { IfSome result AreAllowed }
+{
+    let shards = size_in(matches, "shards", SHARDS)?;
+    let small = size_in(matches, "small", SMALL)?;
+    let large = size_in(matches, "large", LARGE)?;
+    let ring = size_in(matches, "ring", RING)?;
+    let threshold = size_in(matches, "threshold", THRESHOLD)?;
+    if !ring.is_multiple_of(8) {
+        return None;
+    }
+    Some(Sizes {
+        shards: shards as u16,
+        small,
+        large,
+        ring,
+        threshold,
+    })
+}
+
+// The size that an option gives.
+fn size_in(matches: &ArgMatches<'_>, name: &str, limits: Limits) -> Option<u32>
+    requires { (limits.least ≤ limits.usual) × (limits.usual ≤ limits.most) }
+    ensures value { result ≡ size_in name.now limits (rows_of (found_of matches.now)) }
+    ensures within { IfSome result (λ size. (limits.least ≤ size) × (size ≤ limits.most)) }
+{
+    match matches.get_str(name) {
+        Some(text) => within(limits, text),
+        None => Some(limits.usual),
+    }
+}
+
+// The number within its limits.
+fn within(limits: Limits, text: &str) -> Option<u32>
+    ensures value { result ≡ within limits (signed_of text.now) }
+    ensures within { IfSome result (λ size. (limits.least ≤ size) × (size ≤ limits.most)) }
+{
+    let number = read_signed(text.as_bytes()).ok()?;
+    let size = u32::try_from(number).ok()?;
+    if limits.least <= size && size <= limits.most {
+        Some(size)
+    } else {
+        None
+    }
+}

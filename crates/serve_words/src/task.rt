@@ -1,0 +1,55 @@
+ghost use Rattle.std.specs.Prelude.{◌≡◌, IfOk, IfSome, map, option_map};
+ghost use Rattle.clap.specs.Matches.{found_of};
+ghost use Rattle.clap.specs.Walk.{rows_of};
+ghost use Rattle.serve_words.specs.Task.{IsAllowed, files_in, fits, shown, task_in};
+
+use crate::sizes::{Sizes, sizes_in};
+use clap::ArgMatches;
+use flake_base::Memory;
+use std::alloc::{AllocError, Global};
+
+/// The files that are to be served, and the sizes to serve them with.
+#[derive(Debug, Drop)]
+pub struct ServeTask<'a> {
+    /// Their names, in the order of the words.
+    pub files: Vec<&'a str>,
+    pub sizes: Sizes,
+}
+
+/// The task that the words ask for, if their sizes and the number of files fit.
+pub(crate) fn task_in<'a>(
+    alloc: Global,
+    matches: &ArgMatches<'a>,
+) -> Result<Option<ServeTask<'a>>, Memory>
+    ensures value { IfOk result (λ task. option_map shown task ≡ task_in (rows_of (found_of matches.now))) }
+    ensures allowed { IfOk result (λ task. IfSome task (λ t. IsAllowed (shown t))) }
+{
+    let Some(sizes) = sizes_in(matches) else {
+        return Ok(None);
+    };
+    let files = files_in(alloc, matches)?;
+    if fits(files.as_slice(), &sizes) {
+        Ok(Some(ServeTask { files, sizes }))
+    } else {
+        Ok(None)
+    }
+}
+
+fn files_in<'a>(alloc: Global, matches: &ArgMatches<'a>) -> Result<Vec<&'a str>, AllocError>
+    ensures { IfOk result (λ files. map (λ file. file.now) files.items ≡ files_in (rows_of (found_of matches.now))) }
+{
+    match matches.get_strs("file") {
+        Some(files) => Vec::from_slice(alloc, files),
+        None => Ok(Vec::new(alloc)),
+    }
+}
+
+// There are 1 to 16 files, and 128 small buffers for each.
+fn fits(files: &[&str], sizes: &Sizes) -> bool
+    ensures { result ≡ fits (map (λ file. file.now) files.now) sizes.now }
+{
+    match files.len() {
+        count @ 1..=16 => 128 * count <= sizes.small as usize,
+        _ => false,
+    }
+}

@@ -1,0 +1,221 @@
+use crate::{ServeTask, Sizes, serve_task};
+use flake_base::Memory;
+use std::alloc::Global;
+use std::test::Fail;
+
+/// The sizes of a command without options.
+const USUAL: Sizes = Sizes {
+    shards: 8,
+    small: 4096,
+    large: 1024,
+    ring: 1160,
+    threshold: 512,
+};
+
+/// Words, and the task that they ask for.
+#[derive(Clone, Copy)]
+struct Row {
+    words: &'static [&'static str],
+    files: &'static [&'static str],
+    sizes: Sizes,
+}
+
+static ACCEPTED: [Row; 12] = [
+    Row {
+        words: &["serve", "in.resp"],
+        files: &["in.resp"],
+        sizes: USUAL,
+    },
+    Row {
+        words: &["serve", "b", "a", "b"],
+        files: &["b", "a", "b"],
+        sizes: USUAL,
+    },
+    Row {
+        words: &["serve", "serve", "-", ""],
+        files: &["serve", "-", ""],
+        sizes: USUAL,
+    },
+    Row {
+        words: &["serve", "--", "--ring", "--", "none"],
+        files: &["--ring", "--", "none"],
+        sizes: USUAL,
+    },
+    Row {
+        words: &[
+            "serve",
+            "--ring",
+            "4096",
+            "a",
+            "--shards",
+            "1",
+            "b",
+            "--small",
+            "256",
+            "--large",
+            "1",
+            "--threshold",
+            "1",
+        ],
+        files: &["a", "b"],
+        sizes: Sizes {
+            shards: 1,
+            small: 256,
+            large: 1,
+            ring: 4096,
+            threshold: 1,
+        },
+    },
+    Row {
+        words: &[
+            "serve",
+            "a",
+            "--threshold=512",
+            "--ring=1160",
+            "--large=16384",
+            "--small=65536",
+            "--shards=16",
+        ],
+        files: &["a"],
+        sizes: Sizes {
+            shards: 16,
+            small: 65_536,
+            large: 16_384,
+            ring: 1160,
+            threshold: 512,
+        },
+    },
+    Row {
+        words: &["serve", "--ring=1168", "a"],
+        files: &["a"],
+        sizes: Sizes {
+            ring: 1168,
+            ..USUAL
+        },
+    },
+    Row {
+        words: &["serve", "--threshold", "10", "a"],
+        files: &["a"],
+        sizes: Sizes {
+            threshold: 10,
+            ..USUAL
+        },
+    },
+    Row {
+        words: &["serve", "--large", "2", "a"],
+        files: &["a"],
+        sizes: Sizes { large: 2, ..USUAL },
+    },
+    Row {
+        words: &["serve", "--small", "128", "a"],
+        files: &["a"],
+        sizes: Sizes {
+            small: 128,
+            ..USUAL
+        },
+    },
+    Row {
+        words: &["serve", "--shards", "16", "a"],
+        files: &["a"],
+        sizes: Sizes {
+            shards: 16,
+            ..USUAL
+        },
+    },
+    Row {
+        words: &[
+            "serve", "a", "b", "c", "d", "e", "f", "g", "h", "i", "j", "k", "l", "m", "n", "o",
+            "p", "--small", "2048",
+        ],
+        files: &[
+            "a", "b", "c", "d", "e", "f", "g", "h", "i", "j", "k", "l", "m", "n", "o", "p",
+        ],
+        sizes: Sizes {
+            small: 2048,
+            ..USUAL
+        },
+    },
+];
+
+/// Words that ask for nothing.
+static REFUSED: [&[&str]; 43] = [
+    &[],
+    &[""],
+    &["serve"],
+    &["in.resp"],
+    &["SERVE", "a"],
+    &["serve ", "a"],
+    &["a", "serve"],
+    &["drive", "a"],
+    &["serve", "--"],
+    &["serve", "--help"],
+    &["serve", "a", "-h"],
+    &["serve", "a", "--version"],
+    &["serve", "a", "-V"],
+    &["serve", "a", "-r"],
+    &["serve", "--rings", "1160", "a"],
+    &["serve", "--rin", "1160", "a"],
+    &["serve", "-ring", "1160", "a"],
+    &["serve", "--Ring", "1160", "a"],
+    &["serve", "--sessions", "1", "a"],
+    &["serve", "--ring", "1152", "a"],
+    &["serve", "--ring", "1161", "a"],
+    &["serve", "--ring", "4104", "a"],
+    &["serve", "--ring", "a"],
+    &["serve", "a", "--ring"],
+    &["serve", "a", "--ring="],
+    &["serve", "--ring", "--shards", "1", "a"],
+    &["serve", "--ring", "1160", "--ring", "1160", "a"],
+    &["serve", "--threshold", "0", "a"],
+    &["serve", "--threshold", "513", "a"],
+    &["serve", "--small", "127", "a"],
+    &["serve", "--small", "+128", "a"],
+    &["serve", "--small", "0128", "a"],
+    &["serve", "--small", "-128", "a"],
+    &["serve", "--small=-128", "a"],
+    &["serve", "--small", "65537", "a"],
+    &["serve", "--small", "255", "a", "b"],
+    &["serve", "--small", "128", "a", "b"],
+    &["serve", "--shards", "0", "a"],
+    &["serve", "--shards", "17", "a"],
+    &["serve", "--large", "0", "a"],
+    &["serve", "--large", "16385", "a"],
+    &["serve", "--large", "18446744073709551617", "a"],
+    &[
+        "serve", "a", "b", "c", "d", "e", "f", "g", "h", "i", "j", "k", "l", "m", "n", "o", "p",
+        "q",
+    ],
+];
+
+fn typed(alloc: Global, texts: &[&str]) -> Result<Vec<String>, Fail> {
+    let mut words = Vec::new(alloc);
+    for text in texts {
+        words.push(String::from_str(alloc, text)?)?;
+    }
+    Ok(words)
+}
+
+// The only call of `serve_task`. It has no clauses, so that no assertion carries those of `serve_task`.
+fn asked<'a>(alloc: Global, words: &'a [String]) -> Result<Option<ServeTask<'a>>, Memory> {
+    serve_task(alloc, words)
+}
+
+#[test]
+fn words_that_ask_for_a_task(rt: HostRuntime) -> Result<(), Fail> {
+    for row in ACCEPTED {
+        let words = typed(rt.alloc(), row.words)?;
+        let task = asked(rt.alloc(), words.as_slice())?.ok_or("refused")?;
+        assert_eq!(rt; task.sizes, row.sizes);
+        assert_eq!(rt; task.files.as_slice(), row.files);
+    }
+    Ok(())
+}
+
+#[test]
+fn bad_words(rt: HostRuntime) -> Result<(), Fail> {
+    for texts in REFUSED {
+        let words = typed(rt.alloc(), texts)?;
+        assert!(rt; asked(rt.alloc(), words.as_slice())?.is_none());
+    }
+    Ok(())
+}

@@ -1,0 +1,31 @@
+ghost use Rattle.std.specs.Prelude.{◌≡◌, IfOk, IfSome, option_map};
+ghost use Rattle.serve_words.specs.Task.{IsAllowed, is_serve, shown, task_of, texts_of};
+
+use crate::command::matches_of_words;
+use crate::task::{ServeTask, task_in};
+use flake_base::Memory;
+use std::alloc::Global;
+
+/// The task that the words behind the program's name ask for, of which the first is `serve`; none where they are bad
+/// words.
+pub fn serve_task<'a>(alloc: Global, words: &'a [String]) -> Result<Option<ServeTask<'a>>, Memory>
+    ensures value { IfOk result (λ task. option_map shown task ≡ task_of (texts_of words.entry.now)) }
+    ensures allowed { IfOk result (λ task. IfSome task (λ t. IsAllowed (shown t))) }
+{
+    if !is_serve(words) {
+        return Ok(None);
+    }
+    match matches_of_words(alloc, words)? {
+        Some(matches) => task_in(alloc, &matches),
+        None => Ok(None),
+    }
+}
+
+fn is_serve(words: &[String]) -> bool
+    ensures { result ≡ is_serve (texts_of words.now) }
+{
+    match words {
+        [command, ..] => command.as_str() == "serve",
+        [] => false,
+    }
+}
