@@ -108,7 +108,8 @@ fn input_end(reader: Reader) -> End
 
 impl<S: Source> Pump<S> {
     pub fn new(alloc: Global, source: S) -> Self
-        ensures { IsPump (S.left source) (S.read_faults source) [] result }
+        ensures pump { IsPump (S.left source) (S.read_faults source) [] result }
+        ensures source { (result.left ≡ S.left source) × (result.faults ≡ S.read_faults source) }
     {
         Pump {
             alloc,

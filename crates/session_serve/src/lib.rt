@@ -9,5 +9,5 @@ mod serve;
 mod turn;
 
 pub use line::{Account, Line};
-pub use room::Room;
+pub use room::{MOST_FRAGMENTS, MOST_SEGMENTS, Room};
 pub use serve::serve_in_turns;

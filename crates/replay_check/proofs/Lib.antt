@@ -1,0 +1,12 @@
+pub mod Rising
+pub mod Orders
+pub mod Passed
+pub mod Cursors
+pub mod Placed
+pub mod InputCommands
+pub mod Noting
+pub mod Whole
+pub mod Texts
+pub mod Replayed
+pub mod Lists
+pub mod Grown

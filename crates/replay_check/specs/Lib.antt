@@ -1,0 +1,10 @@
+pub mod Writes
+pub mod Refused
+pub mod Inputs
+pub mod InOrder
+pub mod Places
+pub mod Noted
+pub mod Answered
+pub mod Differs
+pub mod Taken
+pub mod Faults
