@@ -9,7 +9,8 @@ use Rattle.flake_base.specs.declared.session.SessionEnd.{SessionEnd}
 use Rattle.pinned_pool.specs.Ends.{End as PoolEnd}
 use Rattle.flake_program.specs.declared.outcome.Detail.TheVariants.{Nothing}
 use Rattle.command_pump.specs.Pump.{EndFaults}
-use Rattle.flake_program.specs.Task.{Task, pool_sizes, shard_count}
+use Rattle.serve_one.specs.Opened.{pool_sizes}
+use Rattle.flake_program.specs.Task.{Job, Task}
 use Rattle.flake_program.specs.Outside.{outside}
 use Rattle.flake_program.specs.Outcome.{Done, SourceTold}
 use Rattle.flake_program.specs.Serving.{IsRun}
@@ -24,8 +25,8 @@ abbrev pub IsServedStatus : ℕ → Type 0
 IsServedStatus status = (status ≡ 0) ⊎ (status ≡ 3) ⊎ (status ≡ 4) ⊎ (status ≡ 5) ⊎ (status ≡ 6)
 
 -- the file was opened and its session served, and that was said
-pub record Ran {W : Type 0} (tells : W → WireTold) (task : Task) (name : List ℕ) (host now : HostTold) (wires after : List W) (done : Done) (end : SessionEnd) (source : SourceTold) : Type 0 where
-  pub task_is : task ≡ Some name
+pub record Ran {W : Type 0} (tells : W → WireTold) (task : Task) (job : Job) (host now : HostTold) (wires after : List W) (done : Done) (end : SessionEnd) (source : SourceTold) : Type 0 where
+  pub task_is : task ≡ Some job
   pub some_wire : wires ≢ []
   pub ends_are : done.ends ≡ end ∷ []
   pub detail_is : done.detail ≡ Nothing
@@ -34,12 +35,12 @@ pub record Ran {W : Type 0} (tells : W → WireTold) (task : Task) (name : List 
   pub pool : PoolEnd
   pub pool_is : done.pool ≡ Some pool
   pub held : (done.held.small ≡ pool.small) × (done.held.large ≡ pool.large)
-  pub run : IsRun pool_sizes (host.holds name) source.left end done.journal pool wires after tells
-  pub shards : length done.journal ≡ shard_count
+  pub run : IsRun (pool_sizes job.sizes) (host.holds job.name) source.left end done.journal pool wires after tells
+  pub shards : length done.journal ≡ job.sizes.shards
   pub reads : EndFaults end.end 0 source.faults
   pub to_the_end : end.end ≢ Left
   pub opens : now.opens ≡ counted host.opens
-  pub holds : (other : List ℕ) → other ≢ name → now.holds other ≡ host.holds other
+  pub holds : (other : List ℕ) → other ≢ job.name → now.holds other ≡ host.holds other
   pub open_faults : (other : List ℕ) → now.open_faults other ≡ host.open_faults other
   pub said : done.status ≢ 6 → Says (summary_of (end ∷ []) done.held) host now
   pub statuses : IsServedStatus done.status

@@ -6,7 +6,7 @@ use Rattle.flake_base.specs.Told.{HostTold, WireTold}
 use Rattle.flake_base.specs.declared.session.End.{End}
 use Rattle.flake_base.specs.declared.session.SessionEnd.{SessionEnd}
 use Rattle.flake_model.specs.Wire.{FaultsAre}
-use Rattle.flake_program.specs.Task.{Task}
+use Rattle.flake_program.specs.Task.{Job, Task}
 use Rattle.flake_program.specs.Outside.{outside}
 use Rattle.flake_program.specs.Outcome.{Done, SourceTold}
 use Rattle.flake_program.specs.Causes.{Causes, status_by}
@@ -51,15 +51,16 @@ pub some_failed : (failed : Bool) (olds news : List ℕ) (P : Type 0) → Faults
 some_failed failed olds news P faults (inl is) = inr (first_failed olds news (subst (λ f. FaultsAre (f ∷ []) olds news) is faults))
 some_failed failed olds news P faults (inr said) = inl said
 
-causes_as : {W : Type 0} (tells : W → WireTold) (name : List ℕ) (host now : HostTold) (wires after : List W) (done : Done) (end : SessionEnd) (source : SourceTold) (task : Task)
-    → Ran tells task name host now wires after done end source
-    → Causes (Some name) (outside host wires tells) (outside now after tells) (record done { ends = end ∷ []; sources = source ∷ [] })
-causes_as tells name host now wires after done end source task r = record {
+causes_as : {W : Type 0} (tells : W → WireTold) (job : Job) (host now : HostTold) (wires after : List W) (done : Done) (end : SessionEnd) (source : SourceTold) (task : Task)
+    → Ran tells task job host now wires after done end source
+    → Causes (Some job) (outside host wires tells) (outside now after tells) (record done { ends = end ∷ []; sources = source ∷ [] })
+causes_as tells job host now wires after done end source task r = record {
   statuses = any_status done.status r.statuses;
   served = λ status. refl;
   one_session = omega arith;
   by_end = λ some five six. ap (λ status. status ∷ []) (sym (r.by_end five six).0);
-  bad_words = (λ one. absurd ((no_refusal done.status r.statuses).0 one), bad);
+  bad_words = λ one. absurd ((no_refusal done.status r.statuses).0 one);
+  refused = λ other. bad;
   open_fault = λ two. absurd ((no_refusal done.status r.statuses).1 two);
   opened = λ two six. r.open_faults;
   reads = λ some. (r.reads, refl);
@@ -74,14 +75,14 @@ causes_as tells name host now wires after done end source task r = record {
   one_source = omega arith;
   first_file = All-from_recursion (λ (s : SourceTold). s.file ≡ 0) (source ∷ []) (r.file_is, tt);
 } where
-  bad : IsNone (Some name) ⊎ (wires ≡ []) → done.status ≡ 1
+  bad : IsNone (Some job) ⊎ (wires ≡ []) → done.status ≡ 1
   bad (inl none) = absurd (cc none)
   bad (inr none) = absurd (r.some_wire none)
 
-pub ran_causes : {W : Type 0} (tells : W → WireTold) (task : Task) (name : List ℕ) (host now : HostTold) (wires after : List W) (done : Done) (end : SessionEnd) (source : SourceTold)
-    → Ran tells task name host now wires after done end source → Causes task (outside host wires tells) (outside now after tells) done
-ran_causes tells task name host now wires after done end source r =
-    let known = causes_as tells name host now wires after done end source task r in
+pub ran_causes : {W : Type 0} (tells : W → WireTold) (task : Task) (job : Job) (host now : HostTold) (wires after : List W) (done : Done) (end : SessionEnd) (source : SourceTold)
+    → Ran tells task job host now wires after done end source → Causes task (outside host wires tells) (outside now after tells) done
+ran_causes tells task job host now wires after done end source r =
+    let known = causes_as tells job host now wires after done end source task r in
     subst (λ t. Causes t (outside host wires tells) (outside now after tells) done) (sym r.task_is)
-    (subst (λ sources. Causes (Some name) (outside host wires tells) (outside now after tells) (record done { sources = sources })) (sym r.sources_are)
-    (subst (λ ends. Causes (Some name) (outside host wires tells) (outside now after tells) (record done { ends = ends; sources = source ∷ [] })) (sym r.ends_are) known))
+    (subst (λ sources. Causes (Some job) (outside host wires tells) (outside now after tells) (record done { sources = sources })) (sym r.sources_are)
+    (subst (λ ends. Causes (Some job) (outside host wires tells) (outside now after tells) (record done { ends = ends; sources = source ∷ [] })) (sym r.ends_are) known))

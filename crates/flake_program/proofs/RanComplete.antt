@@ -11,7 +11,7 @@ use Rattle.flake_model.proofs.Faults.{error_stays, long_stays}
 use Rattle.flake_model.proofs.OneParse.{one_parse}
 use Rattle.flake_model.specs.Session.{Session, IsSession, IsTold, EndsAs, IsReadOut}
 use Rattle.command_pump.specs.Pump.{EndFaults}
-use Rattle.flake_program.specs.Task.{Task}
+use Rattle.flake_program.specs.Task.{Job, Task}
 use Rattle.flake_program.specs.Outside.{outside}
 use Rattle.flake_program.specs.Outcome.{Done, SourceTold}
 use Rattle.flake_program.specs.Causes.{status_by}
@@ -58,14 +58,14 @@ status_is : (input : Option (List ℕ)) (status other : ℕ) → status ≡ othe
 status_is None status other is zero = tt
 status_is (Some bytes) status other is zero = λ requests clean. is ∙ zero requests clean
 
-pub ran_complete : {W : Type 0} (tells : W → WireTold) (task : Task) (name : List ℕ) (host now : HostTold) (wires after : List W) (done : Done) (end : SessionEnd) (source : SourceTold)
-    → Ran tells task name host now wires after done end source → Complete task (outside host wires tells) (outside now after tells) done
-ran_complete tells task name host now wires after done end source r =
+pub ran_complete : {W : Type 0} (tells : W → WireTold) (task : Task) (job : Job) (host now : HostTold) (wires after : List W) (done : Done) (end : SessionEnd) (source : SourceTold)
+    → Ran tells task job host now wires after done end source → Complete task (outside host wires tells) (outside now after tells) done
+ran_complete tells task job host now wires after done end source r =
     subst (λ t. Complete t (outside host wires tells) (outside now after tells) done) (sym r.task_is) (record {
       whole = λ some nothing.
           let write : done.status ≢ 5 = λ five. ⊎_elim nothing.says nothing.puts (some_failed end.failed _ _ _ r.run.faults (r.failed five).1) in
           let by = (r.by_end write nothing.memory).0 in
           let none = (recursion_from_All (λ (s : SourceTold). s.faults ≡ 0) (source ∷ []) (subst (All (λ (s : SourceTold). s.faults ≡ 0)) r.sources_are nothing.reads)).0 in
-          status_is (host.holds name) done.status (status_by end.end) by
-          (clean_status (host.holds name) source.left end r.run.run.sessions source.faults r.run.run.inputs_are r.run.run.ends_are r.run.run.each_is r.reads none (λ six. nothing.memory (by ∙ six)));
+          status_is (host.holds job.name) done.status (status_by end.end) by
+          (clean_status (host.holds job.name) source.left end r.run.run.sessions source.faults r.run.run.inputs_are r.run.run.ends_are r.run.run.each_is r.reads none (λ six. nothing.memory (by ∙ six)));
     })

@@ -15,7 +15,8 @@ use Rattle.flake_model.specs.Run.{all_commands, missing_writes}
 use Rattle.flake_model.specs.Session.{Session}
 use Rattle.serve_model.specs.Demand.{demand_of}
 use Rattle.serve_model.specs.Shown.{IsCounted}
-use Rattle.flake_program.specs.Task.{Task, pool_sizes}
+use Rattle.serve_one.specs.Opened.{pool_sizes}
+use Rattle.flake_program.specs.Task.{Job, Task}
 use Rattle.flake_program.specs.Outside.{outside}
 use Rattle.flake_program.specs.Outcome.{Done, SourceTold}
 use Rattle.flake_program.specs.Served.{Served}
@@ -34,16 +35,16 @@ enough z sessions journal pool counted fits =
     omega (arith, counted.missed_are, small, large)
 
 -- the same, where task, ends and sources are what they are known to be
-served_as : {W : Type 0} (tells : W → WireTold) (name : List ℕ) (host now : HostTold) (wires after : List W) (done : Done) (end : SessionEnd) (source : SourceTold) (task : Task)
-    → Ran tells task name host now wires after done end source
-    → Served (Some name) (outside host wires tells) (outside now after tells) (record done { ends = end ∷ []; sources = source ∷ [] })
-served_as tells name host now wires after done end source task r = record {
+served_as : {W : Type 0} (tells : W → WireTold) (job : Job) (host now : HostTold) (wires after : List W) (done : Done) (end : SessionEnd) (source : SourceTold) (task : Task)
+    → Ran tells task job host now wires after done end source
+    → Served (Some job) (outside host wires tells) (outside now after tells) (record done { ends = end ∷ []; sources = source ∷ [] })
+served_as tells job host now wires after done end source task r = record {
   run = r.run.run;
   pool = r.pool;
   pool_is = r.pool_is;
   shows = r.run.counted;
   held = r.held;
-  none_missing = enough pool_sizes r.run.run.sessions done.journal r.pool r.run.counted;
+  none_missing = enough (pool_sizes job.sizes) r.run.run.sessions done.journal r.pool r.run.counted;
   bytes = r.run.bytes;
   flushed = r.run.flushed;
   faults = r.run.faults;
@@ -54,10 +55,10 @@ served_as tells name host now wires after done end source task r = record {
   sources = ap (λ file. file ∷ []) r.file_is;
 }
 
-pub ran_served : {W : Type 0} (tells : W → WireTold) (task : Task) (name : List ℕ) (host now : HostTold) (wires after : List W) (done : Done) (end : SessionEnd) (source : SourceTold)
-    → Ran tells task name host now wires after done end source → Served task (outside host wires tells) (outside now after tells) done
-ran_served tells task name host now wires after done end source r =
-    let known = served_as tells name host now wires after done end source task r in
+pub ran_served : {W : Type 0} (tells : W → WireTold) (task : Task) (job : Job) (host now : HostTold) (wires after : List W) (done : Done) (end : SessionEnd) (source : SourceTold)
+    → Ran tells task job host now wires after done end source → Served task (outside host wires tells) (outside now after tells) done
+ran_served tells task job host now wires after done end source r =
+    let known = served_as tells job host now wires after done end source task r in
     subst (λ t. Served t (outside host wires tells) (outside now after tells) done) (sym r.task_is)
-    (subst (λ sources. Served (Some name) (outside host wires tells) (outside now after tells) (record done { sources = sources })) (sym r.sources_are)
-    (subst (λ ends. Served (Some name) (outside host wires tells) (outside now after tells) (record done { ends = ends; sources = source ∷ [] })) (sym r.ends_are) known))
+    (subst (λ sources. Served (Some job) (outside host wires tells) (outside now after tells) (record done { sources = sources })) (sym r.sources_are)
+    (subst (λ ends. Served (Some job) (outside host wires tells) (outside now after tells) (record done { ends = ends; sources = source ∷ [] })) (sym r.ends_are) known))

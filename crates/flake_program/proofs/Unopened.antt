@@ -7,7 +7,7 @@ use Rattle.flake_base.specs.Calls.{counted}
 use Rattle.flake_base.specs.Causes.{Rose}
 use Rattle.flake_base.specs.Told.{HostTold, WireTold}
 use Rattle.shard_core.specs.Keys.{same_bytes}
-use Rattle.flake_program.specs.Task.{Task}
+use Rattle.flake_program.specs.Task.{Job, Task}
 use Rattle.flake_program.specs.Outside.{outside}
 use Rattle.flake_program.specs.Outcome.{Done, SourceTold}
 use Rattle.flake_program.specs.Refusals.{IsRefused}
@@ -19,16 +19,16 @@ use Rattle.flake_program.proofs.Ran.{Clauses, says_since}
 use Rattle.flake_program.specs.declared.outcome.Refusal.TheVariants.{OpenFault}
 
 -- the open of the file failed, and that was said
-pub record Unopened {W : Type 0} (tells : W → WireTold) (task : Task) (name : List ℕ) (host mid now : HostTold) (wires after : List W) (done : Done) : Type 0 where
-  pub task_is : task ≡ Some name
+pub record Unopened {W : Type 0} (tells : W → WireTold) (task : Task) (job : Job) (host mid now : HostTold) (wires after : List W) (done : Done) : Type 0 where
+  pub task_is : task ≡ Some job
   pub some_wire : wires ≢ []
   pub refused : IsRefused OpenFault (outside mid wires tells) (outside now after tells) done
-  pub others : (other : List ℕ) → other ≢ name → mid.holds other ≡ host.holds other
-  pub own : mid.holds name ≡ host.holds name
+  pub others : (other : List ℕ) → other ≢ job.name → mid.holds other ≡ host.holds other
+  pub own : mid.holds job.name ≡ host.holds job.name
   pub opens : mid.opens ≡ counted host.opens
   pub said : mid.said ≡ host.said
   pub say_faults : mid.say_faults ≡ host.say_faults
-  pub rose : Rose (host.open_faults name) (mid.open_faults name)
+  pub rose : Rose (host.open_faults job.name) (mid.open_faults job.name)
 
 -- what is so at one name and at the others is so at each
 at_each : (name : List ℕ) (old new : List ℕ → Option (List ℕ)) → ((other : List ℕ) → other ≢ name → new other ≡ old other) → new name ≡ old name → (other : List ℕ) → new other ≡ old other
@@ -38,12 +38,12 @@ at_each name old new others own other =
     (λ differs. others other (λ same. absurd (let is = (bytes_decides name other).1 (sym same) in cc)))
     (cases_Bool (same_bytes name other))
 
-module _ {W : Type 0} (tells : W → WireTold) (task : Task) (name : List ℕ) (host mid now : HostTold) (wires after : List W) (done : Done) (u : Unopened tells task name host mid now wires after done) where
+module _ {W : Type 0} (tells : W → WireTold) (task : Task) (job : Job) (host mid now : HostTold) (wires after : List W) (done : Done) (u : Unopened tells task job host mid now wires after done) where
   two : done.status ≡ 2
   two = u.refused.status
 
-  rose_since : Rose (host.open_faults name) (now.open_faults name)
-  rose_since = subst (Rose (host.open_faults name)) (sym (u.refused.files.open_faults name)) u.rose
+  rose_since : Rose (host.open_faults job.name) (now.open_faults job.name)
+  rose_since = subst (Rose (host.open_faults job.name)) (sym (u.refused.files.open_faults job.name)) u.rose
 
   unopened_untouched : Untouched task (outside host wires tells) (outside now after tells) done
   unopened_untouched = record {
@@ -52,13 +52,13 @@ module _ {W : Type 0} (tells : W → WireTold) (task : Task) (name : List ℕ) (
     pool = λ none. (u.refused.pool, u.refused.held);
     refused = λ status. u.refused.ends;
     sources = λ status. u.refused.sources;
-    holds = λ status other. u.refused.files.holds other ∙ at_each name host.holds mid.holds u.others u.own other;
-    other_files = λ other differs. u.refused.files.holds other ∙ at_each name host.holds mid.holds u.others u.own other;
+    holds = λ status other. u.refused.files.holds other ∙ at_each job.name host.holds mid.holds u.others u.own other;
+    other_files = λ other differs. u.refused.files.holds other ∙ at_each job.name host.holds mid.holds u.others u.own other;
     unopened = λ one. absurd (omega (arith, one, two));
     opens = inr (u.refused.files.opens ∙ u.opens);
   }
 
-  bad : IsNone (Some name) ⊎ (wires ≡ []) → done.status ≡ 1
+  bad : IsNone (Some job) ⊎ (wires ≡ []) → done.status ≡ 1
   bad (inl none) = absurd (cc none)
   bad (inr none) = absurd (u.some_wire none)
 
@@ -79,7 +79,8 @@ module _ {W : Type 0} (tells : W → WireTold) (task : Task) (name : List ℕ) (
     served = λ status. not_served status;
     one_session = omega (arith, ap length u.refused.ends);
     by_end = λ some. absurd (some u.refused.ends);
-    bad_words = (λ one. absurd (omega (arith, one, two)), bad);
+    bad_words = λ one. absurd (omega (arith, one, two));
+    refused = λ other. bad;
     open_fault = λ is. rose_since;
     opened = λ other. absurd (other two);
     reads = λ some. absurd (some u.refused.ends);

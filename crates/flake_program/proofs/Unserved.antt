@@ -3,7 +3,7 @@ use Rattle.std.proofs.Common.{◌≡◌, ◌≢◌, ◌⊎◌, inl, inr, ℕ, Li
 use Rattle.std.proofs.lemmas.List.Elements.{All-from_recursion}
 use Rattle.flake_base.specs.Calls.{counted}
 use Rattle.flake_base.specs.Told.{HostTold, WireTold}
-use Rattle.flake_program.specs.Task.{Task}
+use Rattle.flake_program.specs.Task.{Job, Task, names_of}
 use Rattle.flake_program.specs.Outside.{outside}
 use Rattle.flake_program.specs.Outcome.{Done, SourceTold}
 use Rattle.flake_program.specs.Refusals.{IsRefused}
@@ -15,15 +15,15 @@ use Rattle.flake_program.proofs.Ran.{Clauses}
 use Rattle.flake_program.specs.declared.outcome.Refusal.TheVariants.{Memory}
 
 -- the file was opened, and want of memory was said
-pub record Unserved {W : Type 0} (tells : W → WireTold) (task : Task) (name : List ℕ) (host mid now : HostTold) (wires after : List W) (done : Done) (source : SourceTold) : Type 0 where
-  pub task_is : task ≡ Some name
+pub record Unserved {W : Type 0} (tells : W → WireTold) (task : Task) (job : Job) (host mid now : HostTold) (wires after : List W) (done : Done) (source : SourceTold) : Type 0 where
+  pub task_is : task ≡ Some job
   pub some_wire : wires ≢ []
   pub refused : IsRefused Memory (outside mid wires tells) (outside now after tells) done
-  pub others : (other : List ℕ) → other ≢ name → mid.holds other ≡ host.holds other
+  pub others : (other : List ℕ) → other ≢ job.name → mid.holds other ≡ host.holds other
   pub opens : mid.opens ≡ counted host.opens
   pub file_is : source.file ≡ 0
 
-module _ {W : Type 0} (tells : W → WireTold) (task : Task) (name : List ℕ) (host mid now : HostTold) (wires after : List W) (before : Done) (source : SourceTold) (u : Unserved tells task name host mid now wires after before source) where
+module _ {W : Type 0} (tells : W → WireTold) (task : Task) (job : Job) (host mid now : HostTold) (wires after : List W) (before : Done) (source : SourceTold) (u : Unserved tells task job host mid now wires after before source) where
   done : Done
   done = record before { sources = source ∷ [] }
 
@@ -45,7 +45,7 @@ module _ {W : Type 0} (tells : W → WireTold) (task : Task) (name : List ℕ) (
   not_written (inr (inl is)) = absurd (omega (arith, is, six))
   not_written (inr (inr is)) = absurd (omega (arith, is, six))
 
-  bad : IsNone (Some name) ⊎ (wires ≡ []) → before.status ≡ 1
+  bad : IsNone (Some job) ⊎ (wires ≡ []) → before.status ≡ 1
   bad (inl none) = absurd (cc none)
   bad (inr none) = absurd (u.some_wire none)
 
@@ -57,7 +57,7 @@ module _ {W : Type 0} (tells : W → WireTold) (task : Task) (name : List ℕ) (
     refused = λ status. no_refusal status;
     sources = λ status. no_refusal status;
     holds = λ status. no_refusal status;
-    other_files = λ other differs. u.refused.files.holds other ∙ u.others other (λ same. differs (u.task_is ∙ ap Some (sym same)));
+    other_files = λ other differs. u.refused.files.holds other ∙ u.others other (λ same. differs (ap names_of u.task_is ∙ ap (λ n. n ∷ []) (sym same)));
     unopened = λ one. absurd (omega (arith, one, six));
     opens = inr (u.refused.files.opens ∙ u.opens);
   }
@@ -68,7 +68,8 @@ module _ {W : Type 0} (tells : W → WireTold) (task : Task) (name : List ℕ) (
     served = λ status. not_served status;
     one_session = omega (arith, ap length u.refused.ends);
     by_end = λ some. absurd (some u.refused.ends);
-    bad_words = (λ one. absurd (omega (arith, one, six)), bad);
+    bad_words = λ one. absurd (omega (arith, one, six));
+    refused = λ other. bad;
     open_fault = λ two. absurd (omega (arith, two, six));
     opened = λ two other. absurd (other six);
     reads = λ some. absurd (some u.refused.ends);

@@ -1,5 +1,5 @@
 -- When a run answers what.
-use Rattle.std.specs.Prelude.{◌≡◌, ◌≢◌, ◌⊎◌, ◌↔◌, ◌≤◌, ◌∷◌, [], ℕ, List, length, map, slice_index, All, IsNone, IfSome}
+use Rattle.std.specs.Prelude.{◌≡◌, ◌≢◌, ◌⊎◌, ◌≤◌, ◌∷◌, [], ℕ, List, length, map, slice_index, All, IsNone, IfSome}
 use Rattle.flake_base.specs.Causes.{Rose}
 use Rattle.flake_base.specs.declared.session.End.{End}
 use Rattle.flake_base.specs.declared.session.End.TheVariants.{Clean, Protocol, Truncated, TooLong, ReadFault, Memory}
@@ -38,8 +38,10 @@ pub record Causes {W : Type 0} (task : Task) (before after : Outside W) (done : 
   pub one_session : length done.ends ≤ 1
   -- the status is that of the end, where nothing else failed
   pub by_end : done.ends ≢ [] → done.status ≢ 5 → done.status ≢ 6 → map status_by (ways done.ends) ≡ done.status ∷ []
-  -- 1 comes exactly where the words are no command or there is no wire
-  pub bad_words : (done.status ≡ 1) ↔ (IsNone task ⊎ (before.wires ≡ []))
+  -- 1 comes where the words are bad words or there is no wire
+  pub bad_words : done.status ≡ 1 → IsNone task ⊎ (before.wires ≡ [])
+  -- and there nothing else comes, but that memory was wanting
+  pub refused : done.status ≢ 6 → IsNone task ⊎ (before.wires ≡ []) → done.status ≡ 1
   -- 2 only where an open of the file failed
   pub open_fault : done.status ≡ 2
       → IfSome task (λ job. Rose (before.host.open_faults job.name) (after.host.open_faults job.name))

@@ -12,12 +12,12 @@ ghost use Rattle.flake_program.specs.Said.{Said};
 use crate::outcome::{Detail, Opened, Outcome, Refusal};
 use crate::source::serve_source;
 use crate::tell::{refuse, report};
-use crate::words::file_word;
-use flake_base::{Ends, Host, Source, Wire};
+use crate::words::file_task;
+use flake_base::{Ends, Host, Memory, Source, Wire};
 use std::alloc::Global;
 use std::sync::Wait;
 
-/// Serves the file that the words name: its requests' replies go to the first wire.
+/// Serves the file that the words name, with the sizes that they ask for: its requests' replies go to the first wire.
 pub fn run<R: Wait, H: Host>(
     rt: &R,
     alloc: Global,
@@ -56,18 +56,21 @@ pub fn run<R: Wait, H: Host>(
         (done result.status result.detail result.ends.items result.journal.items result.held result.pool
         (map (λ s. source_told s.file (H.In.left s.source) (H.In.read_faults s.source)) result.sources.items)) }
 {
-    let file = file_word(words);
-    let (Some(name), false) = (file, wires.is_empty()) else {
+    let task = match file_task(alloc, words) {
+        Ok(task) => task,
+        Err(Memory) => return refuse(alloc, host, Refusal::Memory, wires),
+    };
+    let (Some(task), false) = (task, wires.is_empty()) else {
         return refuse(alloc, host, Refusal::BadWords, wires);
     };
     let (Ok(mut sources), Ok(ends)) = (Vec::with_capacity(alloc, 1), Ends::with_room(alloc, 1))
     else {
         return refuse(alloc, host, Refusal::Memory, wires);
     };
-    let Ok(source) = host.open(name) else {
+    let Ok(source) = host.open(task.file) else {
         return refuse(alloc, host, Refusal::OpenFault, wires);
     };
-    match serve_source(rt, alloc, source, ends, wires) {
+    match serve_source(rt, alloc, &task.sizes, source, ends, wires) {
         Ok(ran) => {
             let held = ran.pool.held();
             let _ = sources.push(Opened {

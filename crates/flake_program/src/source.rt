@@ -3,7 +3,7 @@ ghost use Rattle.std.specs.Prelude.{◌≡◌, ◌≢◌, ◌<◌, ◌∷◌, []
 ghost use Rattle.command_pump.specs.Pump.{EndFaults};
 ghost use Rattle.shard_store.specs.Journals.{histories};
 ghost use Rattle.flake_program.specs.Serving.{IsRun};
-ghost use Rattle.flake_program.specs.Task.{pool_sizes, shard_count};
+ghost use Rattle.serve_one.specs.Opened.{IsSized, pool_sizes};
 ghost use Rattle.wire_told.specs.Sent.{PutIs, FlushIs};
 
 use flake_base::{End, Ends, Journal, SessionEnd, Source, Wire};
@@ -11,15 +11,6 @@ use pinned_pool::PoolEnd;
 use serve_one::{Sizes, serve_one};
 use std::alloc::Global;
 use std::sync::Wait;
-
-/// How large a run is.
-const SIZES: Sizes = Sizes {
-    shards: 8,
-    small: 4096,
-    large: 1024,
-    ring: 1160,
-    threshold: 512,
-};
 
 // Puts a piece that has bytes; answers whether that failed.
 fn put(wire: Box<dyn Wire>, piece: &[u8]) -> (Box<dyn Wire>, bool)
@@ -77,18 +68,20 @@ fn put_first(wires: &mut Vec<Box<dyn Wire>>, wire: Box<dyn Wire>)
 pub fn serve_source<R: Wait, S: Source>(
     rt: &R,
     alloc: Global,
+    sizes: &Sizes,
     source: S,
     ends: Ends,
     wires: Vec<Box<dyn Wire>>,
 ) -> Result<Ran<S>, (S, Vec<Box<dyn Wire>>)>
+    requires sized { IsSized sizes.now }
     requires wires { 0 < length wires.items }
     requires ends { (ends.items ≡ []) × (0 < ends.spare) }
-    ensures run { IfOk result (λ r. IsRun pool_sizes (S.left source) (S.left r.source) r.end
+    ensures run { IfOk result (λ r. IsRun (pool_sizes sizes.now) (S.left source) (S.left r.source) r.end
         (histories r.journal.items) r.pool wires.items r.wires.items (λ w. wire_told w)) }
     ensures ends { IfOk result (λ r. r.ends.items ≡ r.end ∷ []) }
     ensures reads { IfOk result (λ r. EndFaults r.end.end (S.read_faults source) (S.read_faults r.source)) }
     ensures to_the_end { IfOk result (λ r. r.end.end ≢ End.Left) }
-    ensures shards { IfOk result (λ r. length r.journal.items ≡ shard_count) }
+    ensures shards { IfOk result (λ r. length r.journal.items ≡ sizes.now.shards) }
     ensures back { IfErr result (λ e. (e.0 ≡ source) × (e.1.items ≡ wires.items)) }
 {
     let mut ends = ends;
@@ -97,7 +90,7 @@ pub fn serve_source<R: Wait, S: Source>(
     let served = serve_one(
         rt,
         alloc,
-        &SIZES,
+        sizes,
         source,
         wire,
         &|w: Box<dyn Wire>, piece: &[u8]| -> (Box<dyn Wire>, bool)

@@ -6,7 +6,7 @@ use Rattle.flake_base.specs.Causes.{Rose}
 use Rattle.flake_program.specs.declared.outcome.Detail.TheVariants.{Nothing}
 use Rattle.flake_program.specs.Outcome.{done, source_told}
 use Rattle.command_pump.specs.Pump.{EndFaults}
-use Rattle.flake_program.specs.Task.{task_of}
+use Rattle.flake_program.specs.Task.{shown_task, task_of}
 use Rattle.flake_program.proofs.Unopened.{unopened_all}
 use Rattle.flake_program.proofs.Served.{run_on}
 use Rattle.flake_program.proofs.Ran.{says_since}
@@ -16,9 +16,9 @@ use Rattle.flake_program.proofs.run.run.Goals as goal
 
 pub returns-in_default-open : goal.returns-in_default-open
 returns-in_default-open g c =
-    let file : task_of c.args.words.now ≡ Some c.in-Some-false.name.now = sym c.file_word-file.ensures ∙ ap (option_map (λ file. file.now)) c.in-Some-false.is-0 in
+    let file : task_of c.args.words.now ≡ Some (shown_task c.in-Some-false.task) = sym c.in-Ok.ensures.value ∙ ap (option_map shown_task) c.in-Some-false.is-0 in
     let some : c.args.wires.items ≢ [] = λ none. absurd (let count : length c.args.wires.items ≡ 0 = ap length none in grind (arith, common_steps)) in
-    let all = unopened_all _ _ c.in-Some-false.name.now (g.H.Host.host_told c.args.host.now) (g.H.Host.host_told c.open.new.self) _ _ _ _ (record {
+    let all = unopened_all _ _ (shown_task c.in-Some-false.task) (g.H.Host.host_told c.args.host.now) (g.H.Host.host_told c.open.new.self) _ _ _ _ (record {
       task_is = file;
       some_wire = some;
       refused = c.refuse-in_default-open.ensures;
@@ -34,10 +34,10 @@ returns-in_default-open g c =
 pub returns-in-Ok-serve_source : goal.returns-in-Ok-serve_source
 returns-in-Ok-serve_source g c =
     let ran = c.in-Ok-serve_source in
-    let file : task_of c.args.words.now ≡ Some c.in-Some-false.name.now = sym c.file_word-file.ensures ∙ ap (option_map (λ file. file.now)) c.in-Some-false.is-0 in
+    let file : task_of c.args.words.now ≡ Some (shown_task c.in-Some-false.task) = sym c.in-Ok.ensures.value ∙ ap (option_map shown_task) c.in-Some-false.is-0 in
     let some : c.args.wires.items ≢ [] = λ none. absurd (let count : length c.args.wires.items ≡ 0 = ap length none in grind (arith, common_steps)) in
     let pushed : c.push.new.self.items ≡ record { file = 0; source = ran.ran.source } ∷ [] = grind (arith, common_steps) in
-    let all = ran_all _ (task_of c.args.words.now) c.in-Some-false.name.now (g.H.Host.host_told c.args.host.now) (g.H.Host.host_told c.report.new.host) _ _
+    let all = ran_all _ (task_of c.args.words.now) (shown_task c.in-Some-false.task) (g.H.Host.host_told c.args.host.now) (g.H.Host.host_told c.report.new.host) _ _
     (done c.report.result Nothing ran.ran.ends.items ran.ran.journal.items c.held-held.result (Some ran.ran.pool) (map (λ s. source_told s.file (g.H.In.Source.left s.source) (g.H.In.Source.read_faults s.source)) c.push.new.self.items)) ran.ran.end
     (source_told 0 (g.H.In.Source.left ran.ran.source) (g.H.In.Source.read_faults ran.ran.source)) (record {
       task_is = file;
@@ -67,13 +67,13 @@ returns-in-Ok-serve_source g c =
 
 pub returns-in-Err : goal.returns-in-Err
 returns-in-Err g c =
-    let file : task_of c.args.words.now ≡ Some c.in-Some-false.name.now = sym c.file_word-file.ensures ∙ ap (option_map (λ file. file.now)) c.in-Some-false.is-0 in
+    let file : task_of c.args.words.now ≡ Some (shown_task c.in-Some-false.task) = sym c.in-Ok.ensures.value ∙ ap (option_map shown_task) c.in-Some-false.is-0 in
     let some : c.args.wires.items ≢ [] = λ none. absurd (let count : length c.args.wires.items ≡ 0 = ap length none in grind (arith, common_steps)) in
     let pushed : c.push-in-Err.new.self.items ≡ record { file = 0; source = c.in-Err.source } ∷ [] = grind (arith, common_steps) in
     let told = source_told 0 (g.H.In.Source.left c.in-Err.source) (g.H.In.Source.read_faults c.in-Err.source) in
     let sources : map (λ s. source_told s.file (g.H.In.Source.left s.source) (g.H.In.Source.read_faults s.source)) c.push-in-Err.new.self.items ≡ told ∷ [] = ap (map (λ s. source_told s.file (g.H.In.Source.left s.source) (g.H.In.Source.read_faults s.source))) pushed in
     let refused = c.refuse-outcome in
-    let all = unserved_all _ (task_of c.args.words.now) c.in-Some-false.name.now (g.H.Host.host_told c.args.host.now) (g.H.Host.host_told c.open.new.self) (g.H.Host.host_told refused.new.host) c.args.wires.items refused.result.wires.items
+    let all = unserved_all _ (task_of c.args.words.now) (shown_task c.in-Some-false.task) (g.H.Host.host_told c.args.host.now) (g.H.Host.host_told c.open.new.self) (g.H.Host.host_told refused.new.host) c.args.wires.items refused.result.wires.items
     (done refused.result.status refused.result.detail refused.result.ends.items refused.result.journal.items refused.result.held refused.result.pool (map (λ s. source_told s.file (g.H.In.Source.left s.source) (g.H.In.Source.read_faults s.source)) refused.result.sources.items)) told (record {
       task_is = file;
       some_wire = some;
