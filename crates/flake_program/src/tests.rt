@@ -31,6 +31,7 @@ struct Row {
     sent: &'static [u8],
     /// The parts of the journal, by shard and in the order of its history; none where nothing was served.
     parts: Option<&'static [Part]>,
+    shards: usize,
 }
 
 /// The file `in.resp` is served, and nothing fails.
@@ -47,6 +48,7 @@ const SERVED: Row = Row {
     held: "held 1 0\n",
     sent: b"+OK\r\n$1\r\n1\r\n",
     parts: Some(&[(4, 0, 0), (4, 1, 0)]),
+    shards: 8,
 };
 
 const BAD_WORDS: Row = Row {
@@ -159,12 +161,12 @@ fn expect_history(
 }
 
 // The journal has these parts, and no others.
-fn expect_journal(rt: &impl Abort, journal: &Journal, parts: Option<&[Part]>) {
+fn expect_journal(rt: &impl Abort, journal: &Journal, shards: usize, parts: Option<&[Part]>) {
     let Some(parts) = parts else {
         assert_eq!(rt; journal.len(), 0);
         return;
     };
-    assert_eq!(rt; journal.len(), 8);
+    assert_eq!(rt; journal.len(), shards);
     let mut place = 0;
     for (shard, history) in journal.as_slice().iter().enumerate() {
         place = expect_history(rt, shard as u16, history.as_slice(), parts, place);
@@ -193,7 +195,7 @@ fn check_input<R: Abort + Wait>(
     assert_eq!(rt; seen.is_unserved, row.parts.is_none());
     assert_eq!(rt; seen.sources, if row.parts.is_none() { 0 } else { 1 });
     assert_eq!(rt; host.opens(), if row.status == 1 { 0 } else { 1 });
-    expect_journal(rt, &seen.journal, row.parts);
+    expect_journal(rt, &seen.journal, row.shards, row.parts);
     Ok(())
 }
 
@@ -222,6 +224,27 @@ fn check_in_steps<R: Abort + Wait>(
 }
 
 static A_SET_AND_A_GET: [Row; 1] = [SERVED];
+
+/// One shard, and all other sizes at an end of their ranges.
+static OF_OTHER_SIZES: [Row; 2] = [
+    Row {
+        words: &[
+            "serve", "--shards", "1", "--small", "128", "--large=1", "--ring", "4096", "--threshold", "1", "in.resp",
+        ],
+        parts: Some(&[(0, 0, 0), (0, 1, 0)]),
+        shards: 1,
+        ..SERVED
+    },
+    Row {
+        words: &["serve", "in.resp", "--small=65536", "--large", "16384", "--ring", "1160", "--shards", "8"],
+        ..SERVED
+    },
+];
+
+#[test]
+fn sizes(rt: HostRuntime) -> Result<(), Fail> {
+    check_all(&rt, rt.alloc(), &OF_OTHER_SIZES)
+}
 
 #[test]
 fn a_set_and_a_get(rt: HostRuntime) -> Result<(), Fail> {
@@ -547,14 +570,20 @@ fn files_that_do_not_open(rt: HostRuntime) -> Result<(), Fail> {
     check_all(&rt, rt.alloc(), &UNOPENED)
 }
 
-/// Words that are no command.
-static NO_COMMANDS: [&[&str]; 6] = [
+/// Words that are no command, sizes that are too small, too large or no multiple of 8, and two files.
+static NO_COMMANDS: [&[&str]; 12] = [
     &[],
     &["serve"],
     &["FLY"],
     &["FLY", "in.resp"],
     &["Serve", "in.resp"],
     &["serve", "in.resp", "in.resp"],
+    &["serve", "--large", "0", "in.resp"],
+    &["serve", "--small", "127", "in.resp"],
+    &["serve", "--shards", "17", "in.resp"],
+    &["serve", "--ring", "1164", "in.resp"],
+    &["serve", "--threshold", "in.resp"],
+    &["serve", "--fly", "1", "in.resp"],
 ];
 
 fn check_bad_words<R: Abort + Wait>(
@@ -768,6 +797,77 @@ fn the_longest_value(rt: HostRuntime) -> Result<(), Fail> {
     check_input(&rt, alloc, &LONGEST_VALUE, longest)?;
     let shorter = set_and_append(alloc, b"$16384\r\n", 16_384)?;
     check_input(&rt, alloc, &SHORTER_VALUE, shorter)
+}
+
+/// Two large buffers.
+const TWO_LARGE: Row = Row {
+    words: &["serve", "--large", "2", "in.resp"],
+    said: "session 0 clean taken 12375 replies 3 wire whole\n",
+    held: "held 0 2\n",
+    sent: b"+OK\r\n+OK\r\n-OOM no free buffer\r\n",
+    parts: Some(&[(4, 0, 0), (5, 1, 0)]),
+    ..SERVED
+};
+
+// A SET of a key of one letter.
+fn add_set(input: &mut Bytes, key: u8, head: &[u8], byte: u8, count: usize) -> Result<(), Fail> {
+    input.append(b"*3\r\n$3\r\nSET\r\n$1\r\n")?;
+    input.push(key)?;
+    input.append(b"\r\n")?;
+    add_word(input, head, byte, count)
+}
+
+// A third value of one large buffer finds none that is free.
+#[test]
+fn no_free_buffer(rt: HostRuntime) -> Result<(), Fail> {
+    let alloc = rt.alloc();
+    let mut input = Bytes::new(alloc);
+    add_set(&mut input, b'a', b"$4096\r\n", b'A', 4096)?;
+    add_set(&mut input, b'b', b"$4096\r\n", b'B', 4096)?;
+    add_set(&mut input, b'c', b"$4096\r\n", b'C', 4096)?;
+    check_input(&rt, alloc, &TWO_LARGE, input)
+}
+
+// SET k, GET k, SET k, SET j, 126 PINGs and SET j, of values that have a large buffer each.
+fn held_by_a_reply(alloc: Global) -> Result<Bytes, Fail> {
+    let mut input = Bytes::new(alloc);
+    add_set(&mut input, b'k', b"$600\r\n", b'A', 600)?;
+    input.append(b"*2\r\n$3\r\nGET\r\n$1\r\nk\r\n")?;
+    add_set(&mut input, b'k', b"$600\r\n", b'B', 600)?;
+    add_set(&mut input, b'j', b"$600\r\n", b'C', 600)?;
+    input.append(repeated(alloc, PING, 126)?.as_slice())?;
+    add_set(&mut input, b'j', b"$600\r\n", b'C', 600)?;
+    Ok(input)
+}
+
+// Its replies: the first buffer of k is held by the reply to GET until that reply's frame is reaped, which is when 128
+// frames have used up the stage. So the first SET of j finds no free buffer, and the second finds that one.
+fn replies_while_held(alloc: Global) -> Result<Bytes, Fail> {
+    let mut sent = Bytes::from_slice(alloc, b"+OK\r\n")?;
+    add_word(&mut sent, b"$600\r\n", b'A', 600)?;
+    sent.append(b"+OK\r\n-OOM no free buffer\r\n")?;
+    sent.append(repeated(alloc, b"+PONG\r\n", 126)?.as_slice())?;
+    sent.append(b"+OK\r\n")?;
+    Ok(sent)
+}
+
+#[test]
+fn a_buffer_that_a_reply_holds(rt: HostRuntime) -> Result<(), Fail> {
+    let alloc = rt.alloc();
+    let mut host = memory_host(alloc, &TWO_LARGE, held_by_a_reply(alloc)?)?;
+    let words = typed(alloc, TWO_LARGE.words)?;
+    let wires = one_wire(alloc, 4096, None)?;
+    let seen = ran(&rt, alloc, words.as_slice(), &mut host, wires);
+    assert_eq!(rt; seen.status, 0);
+    assert_eq!(rt;
+        host.said(),
+        b"session 0 clean taken 4296 replies 131 wire whole\nheld 0 2\n".as_slice()
+    );
+    let sent = replies_while_held(alloc)?;
+    assert_eq!(rt; sent.len(), 1526);
+    expect_sent(&rt, seen.wires.as_slice(), sent.as_slice());
+    expect_journal(&rt, &seen.journal, 8, Some(&[(2, 0, 0), (2, 1, 0), (2, 2, 0), (5, 130, 0)]));
+    Ok(())
 }
 
 // 64 PINGs with an argument of 1,048,576 bytes.
