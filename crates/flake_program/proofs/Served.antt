@@ -59,7 +59,7 @@ served_to put_may flush_may told z input left end journal pool first new wires o
     let flushed = flush_told put_may flush_may told says served.sends.between end.failed served.text first served.sends.middle new sent served.sends.flushed in
     subst (λ ws. IsRun z input left end journal pool ws news told) (sym before)
     (subst (λ ws. IsRun z input left end journal pool (first ∷ wires) ws told) (sym after)
-    (was_run told z first new wires input left end served.text journal pool served.shown flushed.0 (kept_from end.failed _ _ _ flushed.1))) where
+    (was_run told z first new wires input left end served.text journal pool (record { ran = served.ran; text_is = served.text_is }) flushed.0 (kept_from end.failed _ _ _ flushed.1))) where
       kept_from : (failed : Bool) (first mid new : ℕ) → KeptIs failed mid new → KeptIs failed first new
       kept_from true first mid new kept = tt
       kept_from false first mid new kept = kept
