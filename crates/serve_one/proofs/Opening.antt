@@ -1,5 +1,5 @@
 -- Seats of a new pool.
-use Rattle.std.proofs.Common.{◌≡◌, ℕ, ◌+◌, ◌-◌, ◌*◌, ◌<◌, ◌≤◌, List, [], ◌∷◌, ◌++◌, length, refl, ap, sym, ◌∙◌, subst, arith}
+use Rattle.std.proofs.Common.{◌≡◌, ℕ, ◌+◌, ◌-◌, ◌<◌, ◌≤◌, List, [], ◌∷◌, ◌++◌, length, ap, sym, ◌∙◌, subst, arith}
 use Rattle.std.proofs.lemmas.List.{length-append}
 use Rattle.view_sums.specs.Total.{total, Each}
 use Rattle.view_sums.proofs.Sums.{total-map}
@@ -14,15 +14,20 @@ use Rattle.pinned_pool.specs.Ends.{LooksClaimed}
 use Rattle.pinned_pool.specs.Moves.{joined, split_old, split_new}
 use Rattle.pinned_pool.specs.Seats.{SeatList}
 use Rattle.pinned_pool.specs.Sought.{Sought}
-use Rattle.pinned_pool.specs.Views.{opener, nobody}
+use Rattle.pinned_pool.specs.Views.{opener}
 use Rattle.pinned_pool.specs.declared.view.View.{View}
 use Rattle.reply_planner.specs.Stages.{stage_size, IsOpened}
 use Rattle.shard_core.specs.Shelves.{IsBare}
+use Rattle.call_model.specs.Stock.{IsIdle}
 use Rattle.serve_model.specs.Demand.{stage_row}
 use Rattle.serve_model.specs.Seats.{HasAll, IsSpare}
 use Rattle.serve_model.specs.Stages.{NoStageRefused}
-use Rattle.serve_model.proofs.Seats.{joins_add, one_seat, any_order, idle_starts}
+use Rattle.serve_model.proofs.Seats.{joins_add, one_seat, idle_starts}
 use Rattle.serve_one.specs.Opened.{AreSeats}
+
+idle_as : (v : View) (credits : ℕ) → v ≡ opener credits → IsIdle v
+idle_as v credits is =
+    record { claims = ap (λ (w : View). w.claims) is; looks = ap (λ (w : View). w.looks) is }
 
 -- the stage of a new pool's only session finds a buffer
 pub never_refused : (z : Sizes) (credits n : ℕ) (main mid seat refused last : View)
@@ -36,9 +41,8 @@ never_refused z credits n main mid seat refused last law main_is mid_is seat_is 
       room = omega arith;
       fewer = omega arith;
       opened_sought = tt;
-      idle_claims = (record { claims = ap (λ (v : View). v.claims) mid_idle; looks = ap (λ (v : View). v.looks) mid_idle }, tt);
-      refused_sought = idle_starts z stage_row 1 seat refused
-          (record { claims = ap (λ (v : View). v.claims) seat_idle; looks = ap (λ (v : View). v.looks) seat_idle }) sought;
+      idle_claims = (idle_as mid (credits - n) mid_idle, tt);
+      refused_sought = idle_starts z stage_row 1 seat refused (idle_as seat n seat_idle) sought;
       all = subst (HasAll (refused ∷ mid ∷ [])) (sym last_is) (joins_add (mid ∷ []) mid refused (one_seat mid));
       looked = looked;
     })

@@ -1,5 +1,5 @@
 -- What was opened, as it is served.
-use Rattle.std.proofs.Common.{◌≡◌, ℕ, ◌+◌, ◌<◌, ◌≤◌, Bool, false, List, [], ◌∷◌, ◌++◌, Option, refl, ap, sym, ◌∙◌, subst, arith}
+use Rattle.std.proofs.Common.{◌≡◌, ℕ, ◌<◌, Bool, false, List, [], ◌∷◌, ◌++◌, Option, refl, ap, sym, ◌∙◌, subst}
 use Rattle.std.specs.Borrow.{Bor}
 use Rattle.flake_base.specs.Roomy.{Roomy}
 use Rattle.flake_base.specs.declared.journal.Entry.{Entry}
@@ -51,7 +51,8 @@ module _ {g : Ghosts Sent} where
       → session ≡ session_of pass pass.seat (driver_ring driver) (driver_view driver) false
       → driver_view driver ≡ blank_driver → device_ring device ≡ driver_ring driver → failed ≡ false
       → IsReady sizes z main list session device failed
-  ready sizes z main list mine pass session driver device failed spare credits none room first new is blank ring unfailed =
+  ready sizes z main list mine pass session driver device failed spare credits none room first new is blank ring
+      unfailed =
       let own = session_of pass pass.seat (driver_ring driver) blank_driver false in
       let same : own ≡ session =
       ap (λ d. session_of pass pass.seat (driver_ring driver) d false) (sym blank) ∙ sym is in
@@ -83,13 +84,6 @@ module _ {g : Ghosts Sent} where
         unread = subst (λ (y : Option (List ℕ) × ℕ). IsPump y.0 y.1 [] pump) (λ i. (sym own.0 i, sym own.1 i)) unread;
       }
 
-  -- its seat has its credits at the end, and no list begins with another number
-  pub own_credits : (sizes : Sizes) (z : pool.Sizes) (main : View) (list : Roomy SessionList) (session : SessionView)
-      (device : DeviceEnd Sent g) (failed : Bool)
-      → IsReady sizes z main list session device failed → session.opened.credits ≡ session_credits
-  own_credits sizes z main list session device failed is =
-      ap (λ (s : SessionView). s.opened.credits) is.session_is ∙ is.pass.opened.keeps.credits
-
 -- so the run is shown
 module _ {W : Type 0} (put_may : W → Bor (List ℕ) → (W × Bool) → Type 0) (flush_may : W → (W × Bool) → Type 0)
     {g : Ghosts Sent} where
@@ -107,6 +101,7 @@ module _ {W : Type 0} (put_may : W → Bor (List ℕ) → (W × Bool) → Type 0
       subst (λ (n : ℕ). HasRun z shards n input left end mine last served.text)
       (ap (λ (p : PassView). p.list.number) is.pass.pass_is) served.ran in
       let own : HasShown all given rest end served.text journal closed =
-      subst (λ (y : pool.Sizes × Option (List ℕ) × Option (List ℕ)). HasShown y.0 y.1 y.2 end served.text journal closed)
+      subst
+      (λ (y : pool.Sizes × Option (List ℕ) × Option (List ℕ)). HasShown y.0 y.1 y.2 end served.text journal closed)
       (λ i. (same i, given_is i, sym rest_is i)) (shown input left end served.text ran) in
       record { ran = own.ran; text = served.text; text_is = own.text_is; sends = served.sends }

@@ -10,7 +10,7 @@ use Rattle.pinned_pool.specs.Ends.{End}
 use Rattle.serve_model.specs.Shown.{WasRun}
 use Rattle.session_serve.specs.Wires.{SendsOut}
 
--- The input was served, and the returned journal gives the text of its replies. What a wire has of that isn't told here.
+-- The input was served, and the returned journal gives the text of its replies. What a wire has of it isn't said here.
 pub record HasShown (z : Sizes) (input left : Option (List ℕ)) (end : SessionEnd) (text : List ℕ)
     (journal : List (List Entry)) (closed : End) : Type 0 where
   pub ran : WasRun z (input ∷ []) (left ∷ []) (end ∷ []) journal (None ∷ []) (None ∷ []) closed

@@ -9,6 +9,8 @@ mod run;
 mod seating;
 mod serving;
 mod sizes;
+#[cfg(test)]
+mod tests;
 
 pub use closing::{Closed, close_all};
 pub use run::serve_one;

@@ -52,7 +52,8 @@ pub(crate) fn serve_house<
     requires sized { IsSized sizes.now }
     requires pool { IsPool sizes.now P.sizes }
     requires book { IsBook sizes.now N.sizes }
-    requires ready { IsReady sizes.now P.sizes house.main house.list house.session house.device.end house.device.failed }
+    requires ready { IsReady sizes.now P.sizes house.main house.list house.session house.device.end
+        house.device.failed }
     ensures ran { RanOne (λ w p r. PUT.post put.now w p r) (λ w r. FLUSH.post flush.now w r)
         (pool_sizes sizes.now) (S.left source) (S.left result.source) result.end
         (histories result.journal.items) result.pool wire result.wire }

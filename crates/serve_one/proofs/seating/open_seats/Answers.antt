@@ -6,7 +6,8 @@ pub loop-init : goal.loop-init
 loop-init g c = seating_starts _ _ _ c.in_ok-seats.ensures.empty c.in_ok-seats.ensures.room c.requires.main
 
 pub split-seat-requires-clause-credits : goal.split-seat-requires-clause-credits
-split-seat-requires-clause-credits g c = (omega arith, omega (arith, c.loop.invariant.credits, c.requires.credits, c.loop-test.true))
+split-seat-requires-clause-credits g c =
+    (omega arith, omega (arith, c.loop.invariant.credits, c.requires.credits, c.loop-test.true))
 
 pub unreachable-requires : goal.unreachable-requires
 unreachable-requires g c =
