@@ -11,10 +11,6 @@ from launcher.voice import Refused, reason
 REPLIES = "out0.resp"
 
 
-def will_serve(words):
-    return len(words) == 2 and words[0] == "serve"
-
-
 def lock_folder():
     """Returns what holds this folder for one run: no file, and it ends with the last process that has it."""
     try:

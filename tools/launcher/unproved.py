@@ -16,7 +16,8 @@ import time
 
 from launcher.place import CRATE_FOLDER
 from launcher.proved import TOOLCHAIN_MISSING
-from launcher.replies import REPLIES, can_be_read, move_aside, will_serve
+from launcher.replies import REPLIES, can_be_read, move_aside
+from launcher.typed import served_place
 from launcher.voice import Refused
 
 ENDED = re.compile(rb"^run=ended status=(\d+) .*proved=no$", re.M)
@@ -28,18 +29,20 @@ def run(words, folder, children, voice):
         raise Refused(TOOLCHAIN_MISSING, 127)
     voice.say("NOTHING IS PROVED of this run: rt try compiles the program, about half a minute, and then runs it")
     with tempfile.TemporaryDirectory(prefix="vepkhundi-") as room:
-        served = words[1] if will_serve(words) and can_be_read(words[1]) else None
-        if will_serve(words):
-            words = ["serve", os.path.abspath(words[1])]
+        pipe, served = os.path.join(room, "requests"), None
+        place = served_place(words)
+        if place is not None:
+            file = words[place]
+            served = file if can_be_read(file) else None
+            words = [*words[:place], os.path.abspath(file) if served is None else pipe, *words[place + 1 :]]
         if served is not None:
-            words = ["serve", os.path.join(room, "requests")]
-            os.mkfifo(words[1])
+            os.mkfifo(pipe)
         with open(os.path.join(room, "said"), "w+b") as said:
             how = {"env": {**os.environ, "TMPDIR": room}, "stdin": subprocess.DEVNULL, "stderr": said}
             how["pass_fds"] = () if folder is None else (folder,)
             rt = ["rt", "try", "--seconds", "86400", "--", *words]
             rt = children.start(rt, cwd=CRATE_FOLDER, start_new_session=True, **how)
-            is_whole = served is None or feed(served, words[1], rt, voice)
+            is_whole = served is None or feed(served, pipe, rt, voice)
             rt.wait()
             said.seek(0)
             told = said.read()

@@ -1,0 +1,44 @@
+"""What the words ask the program for, as far as this command has to know it before the program runs."""
+
+SIZES = {
+    "--shards": (1, 16),
+    "--small": (128, 65_536),
+    "--large": (1, 16_384),
+    "--ring": (1160, 4096),
+    "--threshold": (1, 512),
+}
+
+
+def is_size(option, text):
+    """Whether an option may say this: a plain decimal within its limits, and of a ring a multiple of 8."""
+    least, most = SIZES[option]
+    plain = text.isascii() and text.isdigit() and (text == "0" or text[0] != "0") and len(text) < 10
+    return plain and least <= int(text) <= most and (option != "--ring" or int(text) % 8 == 0)
+
+
+def served_file(words):
+    """Returns the file that is served, or None where the words aren't `serve`, sizes and one file."""
+    place = served_place(words)
+    return None if place is None else words[place]
+
+
+def served_place(words):
+    """Returns that file's place among the words."""
+    if words[:1] != ["serve"]:
+        return None
+    given, files = set(), []
+    rest = iter(range(1, len(words)))
+    for place in rest:
+        option, is_joined, text = words[place].partition("=")
+        if words[place] == "--":
+            files += rest
+        elif option in SIZES and option not in given:
+            text = text if is_joined else words[next(rest, 0)]
+            if not is_size(option, text):
+                return None
+            given.add(option)
+        elif words[place].startswith("-") and words[place] != "-":
+            return None
+        else:
+            files.append(place)
+    return files[0] if len(files) == 1 else None
