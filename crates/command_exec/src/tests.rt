@@ -260,13 +260,16 @@ fn check_lain<R: Wait + Abort>(
     Ok(())
 }
 
+static LONG: [u8; 5000] = [b'A'; 5000];
+
+static SHORT: [u8; 600] = [b'A'; 600];
+
 // The stage's buffers begin at 1,048,576, the other small ones at 1,114,112, the large ones at 1,179,648.
 #[test]
 fn what_is_long_stays(rt: HostRuntime) -> Result<(), Fail> {
-    let value = [b'A'; 5000];
     let rows: [Lain<'_>; 5] = [
         (
-            &[b"SET", b"k", &value],
+            &[b"SET", b"k", &LONG],
             &[(1_048_576, 5)],
             &[(1_179_648, 4096), (1_183_744, 904)],
         ),
@@ -281,12 +284,12 @@ fn what_is_long_stays(rt: HostRuntime) -> Result<(), Fail> {
             &[],
         ),
         (
-            &[b"SET", b"j", &value[..600]],
+            &[b"SET", b"j", &SHORT],
             &[(1_048_576, 5)],
             &[(1_187_840, 600)],
         ),
         (
-            &[b"SET", b"j", &value[..600], b"GET"],
+            &[b"SET", b"j", &SHORT, b"GET"],
             &[(1_048_576, 6), (1_187_840, 600), (1_048_582, 2)],
             &[(1_191_936, 600)],
         ),
