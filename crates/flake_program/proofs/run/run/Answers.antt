@@ -49,13 +49,13 @@ returns-in-Ok-serve_source g c =
       pool = ran.ran.pool;
       pool_is = refl;
       held = c.held-held.ensures;
-      run = run_on _ _ _ _ _ _ _ _ _ _ c.in-Ok.ensures.left ran.ensures.run;
+      run = run_on _ _ _ _ _ _ _ _ _ _ c.in-Ok-open.ensures.left ran.ensures.run;
       shards = length-map ran.ran.journal.items (λ history. history.items) ∙ ran.ensures.shards;
-      reads = subst (λ n. EndFaults ran.ran.end.end n (g.H.In.Source.read_faults ran.ran.source)) c.in-Ok.ensures.fresh ran.ensures.reads;
+      reads = subst (λ n. EndFaults ran.ran.end.end n (g.H.In.Source.read_faults ran.ran.source)) c.in-Ok-open.ensures.fresh ran.ensures.reads;
       to_the_end = ran.ensures.to_the_end;
       opens = c.report.ensures.files.opens ∙ c.open.ensures.opens;
       holds = λ other differs. c.report.ensures.files.holds other ∙ c.open.ensures.others other differs;
-      open_faults = λ other. c.report.ensures.files.open_faults other ∙ c.in-Ok.ensures.same other;
+      open_faults = λ other. c.report.ensures.files.open_faults other ∙ c.in-Ok-open.ensures.same other;
       said = λ other. says_since _ _ _ _ c.open.ensures.said c.open.ensures.say_faults (c.report.ensures.said other);
       statuses = c.report.ensures.statuses;
       by_end = λ five six. let so = c.report.ensures.by_end five six in (so.0, so.1, so.2 ∙ c.open.ensures.say_faults);
@@ -65,13 +65,13 @@ returns-in-Ok-serve_source g c =
     }) in
     record { served = all.served; untouched = all.untouched; causes = all.causes; complete = all.complete; said = all.said }
 
-pub returns-in-Err : goal.returns-in-Err
-returns-in-Err g c =
+pub returns-in-Err-serve_source : goal.returns-in-Err-serve_source
+returns-in-Err-serve_source g c =
     let file : task_of c.args.words.now ≡ Some (shown_task c.in-Some-false.task) = sym c.in-Ok.ensures.value ∙ ap (option_map shown_task) c.in-Some-false.is-0 in
     let some : c.args.wires.items ≢ [] = λ none. absurd (let count : length c.args.wires.items ≡ 0 = ap length none in grind (arith, common_steps)) in
-    let pushed : c.push-in-Err.new.self.items ≡ record { file = 0; source = c.in-Err.source } ∷ [] = grind (arith, common_steps) in
-    let told = source_told 0 (g.H.In.Source.left c.in-Err.source) (g.H.In.Source.read_faults c.in-Err.source) in
-    let sources : map (λ s. source_told s.file (g.H.In.Source.left s.source) (g.H.In.Source.read_faults s.source)) c.push-in-Err.new.self.items ≡ told ∷ [] = ap (map (λ s. source_told s.file (g.H.In.Source.left s.source) (g.H.In.Source.read_faults s.source))) pushed in
+    let pushed : c.push-in-Err-serve_source.new.self.items ≡ record { file = 0; source = c.in-Err-serve_source.source } ∷ [] = grind (arith, common_steps) in
+    let told = source_told 0 (g.H.In.Source.left c.in-Err-serve_source.source) (g.H.In.Source.read_faults c.in-Err-serve_source.source) in
+    let sources : map (λ s. source_told s.file (g.H.In.Source.left s.source) (g.H.In.Source.read_faults s.source)) c.push-in-Err-serve_source.new.self.items ≡ told ∷ [] = ap (map (λ s. source_told s.file (g.H.In.Source.left s.source) (g.H.In.Source.read_faults s.source))) pushed in
     let refused = c.refuse-outcome in
     let all = unserved_all _ (task_of c.args.words.now) (shown_task c.in-Some-false.task) (g.H.Host.host_told c.args.host.now) (g.H.Host.host_told c.open.new.self) (g.H.Host.host_told refused.new.host) c.args.wires.items refused.result.wires.items
     (done refused.result.status refused.result.detail refused.result.ends.items refused.result.journal.items refused.result.held refused.result.pool (map (λ s. source_told s.file (g.H.In.Source.left s.source) (g.H.In.Source.read_faults s.source)) refused.result.sources.items)) told (record {
@@ -85,7 +85,7 @@ returns-in-Err g c =
         held = refused.ensures.held;
         pool = refused.ensures.pool;
         sources = refused.ensures.sources;
-        wires = refused.ensures.wires ∙ c.in-Err.ensures.back.1;
+        wires = refused.ensures.wires ∙ c.in-Err-serve_source.ensures.back.1;
         said = refused.ensures.said;
         files = refused.ensures.files;
       };
