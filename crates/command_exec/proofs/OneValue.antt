@@ -125,11 +125,13 @@ module _ (z : Sizes) (shards : ℕ) (entry : Entry) (operation : Operation) (sai
   -- null fits where there was room for a value
   pub null_fits : (said ≡ say.Bulk → ⊥) → 0 < room_of p → is_ranged operation ≡ false → 521 ≤ left_of mid
   null_fits not some plain =
-      let room : 0 < room_of mid = omega (arith,
-          some,
-          ran.room plain,
-          one_piece z operation ran.told.outcome said old.seat new.seat ran.told.says,
-          ap (λ (l : List taken.Piece). length l) (null_item said not),
-          ap (λ (l : List taken.Piece). length l) ran.told.pieces,
-          length-append p.taken (pieces_told operation ran.told.outcome)) in
+      let room : 0 < room_of mid = omega (
+        arith,
+        some,
+        ran.room plain,
+        one_piece z operation ran.told.outcome said old.seat new.seat ran.told.says,
+        ap (λ (l : List taken.Piece). length l) (null_item said not),
+        ap (λ (l : List taken.Piece). length l) ran.told.pieces,
+        length-append p.taken (pieces_told operation ran.told.outcome),
+      ) in
       omega (arith, room)

@@ -225,18 +225,43 @@ fn check_in_steps<R: Abort + Wait>(
 
 static A_SET_AND_A_GET: [Row; 1] = [SERVED];
 
-/// One shard, and all other sizes at an end of their ranges.
-static OF_OTHER_SIZES: [Row; 2] = [
+/// Sizes at the ends of their ranges. Of 128 small buffers all are the stage's, so a SET finds none.
+static OF_OTHER_SIZES: [Row; 3] = [
+    Row {
+        words: &["serve", "--small", "128", "in.resp"],
+        held: "held 0 0\n",
+        sent: b"-OOM no free buffer\r\n$-1\r\n",
+        parts: Some(&[(4, 1, 0)]),
+        ..SERVED
+    },
     Row {
         words: &[
-            "serve", "--shards", "1", "--small", "128", "--large=1", "--ring", "4096", "--threshold", "1", "in.resp",
+            "serve",
+            "--shards",
+            "1",
+            "--small=129",
+            "--large=1",
+            "--ring",
+            "4096",
+            "--threshold",
+            "1",
+            "in.resp",
         ],
         parts: Some(&[(0, 0, 0), (0, 1, 0)]),
         shards: 1,
         ..SERVED
     },
     Row {
-        words: &["serve", "in.resp", "--small=65536", "--large", "16384", "--ring", "1160", "--shards", "8"],
+        words: &[
+            "serve",
+            "in.resp",
+            "--small=65536",
+            "--large",
+            "16384",
+            "--ring",
+            "1160",
+            "--threshold=512",
+        ],
         ..SERVED
     },
 ];
@@ -810,7 +835,7 @@ const TWO_LARGE: Row = Row {
 };
 
 // A SET of a key of one letter.
-fn add_set(input: &mut Bytes, key: u8, head: &[u8], byte: u8, count: usize) -> Result<(), Fail> {
+fn set_letter(input: &mut Bytes, key: u8, head: &[u8], byte: u8, count: usize) -> Result<(), Fail> {
     input.append(b"*3\r\n$3\r\nSET\r\n$1\r\n")?;
     input.push(key)?;
     input.append(b"\r\n")?;
@@ -822,21 +847,21 @@ fn add_set(input: &mut Bytes, key: u8, head: &[u8], byte: u8, count: usize) -> R
 fn no_free_buffer(rt: HostRuntime) -> Result<(), Fail> {
     let alloc = rt.alloc();
     let mut input = Bytes::new(alloc);
-    add_set(&mut input, b'a', b"$4096\r\n", b'A', 4096)?;
-    add_set(&mut input, b'b', b"$4096\r\n", b'B', 4096)?;
-    add_set(&mut input, b'c', b"$4096\r\n", b'C', 4096)?;
+    set_letter(&mut input, b'a', b"$4096\r\n", b'A', 4096)?;
+    set_letter(&mut input, b'b', b"$4096\r\n", b'B', 4096)?;
+    set_letter(&mut input, b'c', b"$4096\r\n", b'C', 4096)?;
     check_input(&rt, alloc, &TWO_LARGE, input)
 }
 
 // SET k, GET k, SET k, SET j, 126 PINGs and SET j, of values that have a large buffer each.
 fn held_by_a_reply(alloc: Global) -> Result<Bytes, Fail> {
     let mut input = Bytes::new(alloc);
-    add_set(&mut input, b'k', b"$600\r\n", b'A', 600)?;
+    set_letter(&mut input, b'k', b"$600\r\n", b'A', 600)?;
     input.append(b"*2\r\n$3\r\nGET\r\n$1\r\nk\r\n")?;
-    add_set(&mut input, b'k', b"$600\r\n", b'B', 600)?;
-    add_set(&mut input, b'j', b"$600\r\n", b'C', 600)?;
+    set_letter(&mut input, b'k', b"$600\r\n", b'B', 600)?;
+    set_letter(&mut input, b'j', b"$600\r\n", b'C', 600)?;
     input.append(repeated(alloc, PING, 126)?.as_slice())?;
-    add_set(&mut input, b'j', b"$600\r\n", b'C', 600)?;
+    set_letter(&mut input, b'j', b"$600\r\n", b'C', 600)?;
     Ok(input)
 }
 
@@ -866,7 +891,12 @@ fn a_buffer_that_a_reply_holds(rt: HostRuntime) -> Result<(), Fail> {
     let sent = replies_while_held(alloc)?;
     assert_eq!(rt; sent.len(), 1526);
     expect_sent(&rt, seen.wires.as_slice(), sent.as_slice());
-    expect_journal(&rt, &seen.journal, 8, Some(&[(2, 0, 0), (2, 1, 0), (2, 2, 0), (5, 130, 0)]));
+    expect_journal(
+        &rt,
+        &seen.journal,
+        8,
+        Some(&[(2, 0, 0), (2, 1, 0), (2, 2, 0), (5, 130, 0)]),
+    );
     Ok(())
 }
 

@@ -38,7 +38,7 @@ copy-requires g c =
     let plain : is_ranged operation ≡ false = ap is_ranged (value_part c.args.command.now c.requires.kind c.args.at.part) in
     let ran = c.in_ok-run_part.ensures.ran in
     let fits = null_fits g.P.PoolName.sizes g.N.BookName.sizes.shards c.args.at operation c.in_ok-run_part.field-0 c.args.pass.now c.run_part.new.pass c.args.stored.now.items c.run_part.new.stored.items c.args.plan.now c.run_part.new.plan ran
-        c.in_default.not-Bulk c.requires.room plain in
+    c.in_default.not-Bulk c.requires.room plain in
     record { none = ap (λ (q : Planned). q.begun) ran.plan; fits = omega (arith, fits) }
 
 pub returns-in_default-clause-value : goal.returns-in_default-clause-value
