@@ -31,7 +31,7 @@ struct Row {
     sent: &'static [u8],
     /// The parts of the journal, by shard and in the order of its history; none where nothing was served.
     parts: Option<&'static [Part]>,
-    shards: usize,
+    shards: u16,
 }
 
 /// The file `in.resp` is served, and nothing fails.
@@ -161,12 +161,12 @@ fn expect_history(
 }
 
 // The journal has these parts, and no others.
-fn expect_journal(rt: &impl Abort, journal: &Journal, shards: usize, parts: Option<&[Part]>) {
+fn expect_journal(rt: &impl Abort, journal: &Journal, shards: u16, parts: Option<&[Part]>) {
     let Some(parts) = parts else {
         assert_eq!(rt; journal.len(), 0);
         return;
     };
-    assert_eq!(rt; journal.len(), shards);
+    assert_eq!(rt; journal.len(), usize::from(shards));
     let mut place = 0;
     for (shard, history) in journal.as_slice().iter().enumerate() {
         place = expect_history(rt, shard as u16, history.as_slice(), parts, place);
