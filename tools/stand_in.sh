@@ -1,6 +1,6 @@
 # Sourced by the scripts that check ./vepkhundi, behind counted.sh: a clone whose toolchain is a stand-in, which proves
-# nothing. Its program writes its folder and its words, copies FILE line by line to out0.resp for `serve FILE`, and ends with
-# status ENDS, which is 7 if it isn't set. OPENED names a file that gets the program's open files.
+# nothing. Its program writes its folder and its words, copies the first FILE line by line to out0.resp for `serve FILE..`, the
+# second to out1.resp and so on, and ends with status ENDS, which is 7 if it isn't set. OPENED names a file that gets the program's open files.
 
 home="$room/a folder 'of' \$its own"
 crate=$home/crates/flake_program
@@ -16,10 +16,14 @@ cat >"$room/program" <<'END'
 pwd -P
 for word; do printf '<%s>' "$word"; done
 [ -z "${OPENED-}" ] || (ls -l "/proc/$$/fd" >"$OPENED")
-if [ $# = 2 ] && [ "$1" = serve ] && [ -r "$2" ]; then
+[ "$1" != serve ] || shift
+session=0
+for file; do
+  [ -r "$file" ] || break
   left=100
-  while [ $left -gt 0 ] && read -r line; do printf '%s\n' "$line" >>out0.resp; sleep 0.01; left=$((left - 1)); done <"$2"
-fi
+  while [ $left -gt 0 ] && read -r line; do printf '%s\n' "$line" >>out$session.resp; sleep 0.01; left=$((left - 1)); done <"$file"
+  session=$((session + 1))
+done
 exit "${ENDS-7}"
 END
 

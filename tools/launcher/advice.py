@@ -3,8 +3,8 @@
 import os
 import stat
 
-from launcher.replies import REPLIES
-from launcher.typed import served_file
+from launcher.replies import names_of
+from launcher.typed import served_files
 
 JUDGED = 67_108_864
 TYPED = "commands as they are typed become requests by tools/to_resp"
@@ -12,35 +12,46 @@ SAID = "the program's line says behind how many bytes, and what stands before th
 
 
 def after(status, words):
-    """Returns one line, or None where the program's own line says all."""
+    """Returns one line, or None where the program's own lines say all."""
     if status == 1:
         return bad_words(words)
     lines = {2: cannot_open, 3: no_requests, 4: read_fault, 5: write_fault, 6: out_of_memory}
-    file = served_file(words)
-    return lines[status](file) if status in lines and file is not None else None
+    files = served_files(words)
+    return lines[status](files) if status in lines and files is not None else None
 
 
 def bad_words(words):
     if len(words) == 1 and os.path.isfile(words[0]):
         return f"nothing was served: to serve {words[0]}, put the word serve before it"
     if words[:1] == ["serve"]:
-        return "nothing was served: behind serve stand sizes, if any, and the name of one file of requests (--help says more)"
+        stand = "sizes, if any, and the names of 1 to 16 files of requests, with 128 small buffers for each"
+        return f"nothing was served: behind serve stand {stand} (--help says more)"
     given = " ".join(words)[:60]
-    return f"nothing was served: the program's one command is serve FILE, and not {given!r} (--help says more)"
+    return f"nothing was served: the program's one command is serve FILE.., and not {given!r} (--help says more)"
 
 
-def cannot_open(file):
-    try:
-        os.close(os.open(file, os.O_RDONLY | os.O_NONBLOCK))
-        why = "it couldn't be opened"
-    except OSError as it:
-        why = it.strerror
-    earlier = f"; {REPLIES} is of an earlier run" if os.path.lexists(REPLIES) else ""
-    wanted = "name a file of RESP2 requests, which tools/to_resp makes of typed commands"
+def cannot_open(files):
+    file, why = next(((file, why) for file in files if (why := why_unopened(file))), (files[0], "it couldn't be opened"))
+    earlier = f"; {names_of(1)} is of an earlier run" if os.path.lexists(names_of(1)) else ""
+    wanted = "name files of RESP2 requests, which tools/to_resp makes of typed commands"
     return f"{file}: {why}. Nothing was served{earlier}: {wanted}"
 
 
-def no_requests(file):
+def why_unopened(file):
+    try:
+        os.close(os.open(file, os.O_RDONLY | os.O_NONBLOCK))
+    except OSError as it:
+        return it.strerror
+    return None
+
+
+def no_requests(files):
+    if len(files) > 1:
+        return f"not each file is whole RESP2 requests to its end; {SAID}; {TYPED}"
+    return no_requests_in(files[0])
+
+
+def no_requests_in(file):
     begins, size = front_of(file)
     if size > JUDGED:
         judged = f"of its {size} bytes the first {JUDGED} are judged, and what is whole there was served"
@@ -63,15 +74,21 @@ def front_of(file):
     return b"", 0
 
 
-def read_fault(file):
-    why = ": it is a folder" if os.path.isdir(file) else ""
-    return f"{file}: a read failed, and what came before it was served{why}"
+def read_fault(files):
+    folder = next((file for file in files if os.path.isdir(file)), None)
+    what = files[0] if len(files) == 1 else "one of the files"
+    why = "" if folder is None else f": {'it' if len(files) == 1 else folder} is a folder"
+    return f"{what}: a read failed, and what came before it was served{why}"
 
 
-def write_fault(_file):
+def write_fault(files):
     asked = "is there room on the disk, leave to write in this folder, a standard output?"
-    return f"{REPLIES} or the line couldn't be written whole: {asked}"
+    return f"{names_of(len(files))} or what was said couldn't be written whole: {asked}"
 
 
-def out_of_memory(_file):
-    return f"memory ran out: {REPLIES} has the replies that were written until then, if any"
+def out_of_memory(files):
+    return f"memory ran out: {names_of(len(files))} {have(files)} the replies that were written until then, if any"
+
+
+def have(files):
+    return "has" if len(files) == 1 else "have"

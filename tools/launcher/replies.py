@@ -1,6 +1,5 @@
-"""The file of replies, in the folder of the call: who may write it, and what becomes of one that is there."""
+"""The files of replies, in the folder of the call: who may write them, and what becomes of those that are there."""
 
-import contextlib
 import fcntl
 import itertools
 import os
@@ -8,7 +7,15 @@ import stat
 
 from launcher.voice import Refused, reason
 
-REPLIES = "out0.resp"
+
+def replies_of(count):
+    """The files to which so many sessions write."""
+    return [f"out{number}.resp" for number in range(count)]
+
+
+def names_of(count):
+    """Those files in words."""
+    return "out0.resp" if count == 1 else f"out0.resp to out{count - 1}.resp"
 
 
 def lock_folder():
@@ -18,7 +25,7 @@ def lock_folder():
         fcntl.flock(folder, fcntl.LOCK_EX | fcntl.LOCK_NB)
     except BlockingIOError:
         raise Refused(
-            f"another run is under way in this folder, and both would write {REPLIES}: nothing was run. "
+            "another run is under way in this folder, and both would write out0.resp: nothing was run. "
             "Wait for it, or call this in another folder"
         ) from None
     except OSError as it:
@@ -26,13 +33,21 @@ def lock_folder():
     return folder
 
 
-def refuse_replies_as_requests(file):
-    with contextlib.suppress(OSError):
-        if os.path.samefile(file, REPLIES):
-            raise Refused(
-                f"{file} is the same file as {REPLIES}, which the replies would overwrite: nothing was run or touched. "
-                "Give the requests another name, or call this in another folder"
-            )
+def refuse_replies_as_requests(files):
+    for file in files:
+        for replies in replies_of(len(files)):
+            if is_same(file, replies):
+                raise Refused(
+                    f"{file} is the same file as {replies}, which the replies would overwrite: nothing was run or "
+                    "touched. Give the requests another name, or call this in another folder"
+                )
+
+
+def is_same(file, other):
+    try:
+        return os.path.samefile(file, other)
+    except OSError:
+        return False
 
 
 def can_be_read(file):
@@ -47,24 +62,24 @@ def can_be_read(file):
         return False
 
 
-def would_be_lost():
+def would_be_lost(replies):
     """Whether something stands where the replies go. A pipe, a device or a folder there loses nothing."""
     try:
-        return stat.S_ISREG(os.stat(REPLIES).st_mode)
+        return stat.S_ISREG(os.stat(replies).st_mode)
     except OSError:
-        return os.path.lexists(REPLIES)
+        return os.path.lexists(replies)
 
 
-def move_aside(say):
+def move_aside(count, say):
     """Gives replies of before another name; of a link, the link itself."""
-    if not would_be_lost():
-        return
-    asides = (f"{REPLIES}.~{number}~" for number in itertools.count(1))
-    aside = next(it for it in asides if not os.path.lexists(it))
-    try:
-        os.rename(REPLIES, aside)
-    except OSError as it:
-        raise Refused(
-            f"{REPLIES} can't be moved aside, and would be taken for this run's replies ({reason(it)}): nothing was run"
-        ) from None
-    say(f"{REPLIES} of before is now {aside}; to have it back: mv -- {aside} {REPLIES}")
+    for replies in filter(would_be_lost, replies_of(count)):
+        asides = (f"{replies}.~{number}~" for number in itertools.count(1))
+        aside = next(it for it in asides if not os.path.lexists(it))
+        try:
+            os.rename(replies, aside)
+        except OSError as it:
+            raise Refused(
+                f"{replies} can't be moved aside, and would be taken for this run's replies ({reason(it)}): "
+                "nothing was run"
+            ) from None
+        say(f"{replies} of before is now {aside}; to have it back: mv -- {aside} {replies}")

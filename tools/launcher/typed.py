@@ -6,7 +6,11 @@ SIZES = {
     "--large": (1, 16_384),
     "--ring": (1160, 4096),
     "--threshold": (1, 512),
+    "--workers": (1, 16),
 }
+MOST_FILES = 16
+USUAL_SMALL = 4096
+STAGE = 128
 
 
 def is_size(option, text):
@@ -16,17 +20,17 @@ def is_size(option, text):
     return plain and least <= int(text) <= most and (option != "--ring" or int(text) % 8 == 0)
 
 
-def served_file(words):
-    """Returns the file that is served, or None where the words aren't `serve`, sizes and one file."""
-    place = served_place(words)
-    return None if place is None else words[place]
+def served_files(words):
+    """Returns the files that are served, or None where the words aren't `serve`, sizes and 1 to 16 files."""
+    places = served_places(words)
+    return None if places is None else [words[place] for place in places]
 
 
-def served_place(words):
-    """Returns that file's place among the words."""
+def served_places(words):
+    """Returns those files' places among the words."""
     if words[:1] != ["serve"]:
         return None
-    given, files = set(), []
+    given, files = {}, []
     rest = iter(range(1, len(words)))
     for place in rest:
         option, is_joined, text = words[place].partition("=")
@@ -36,9 +40,14 @@ def served_place(words):
             text = text if is_joined else words[next(rest, 0)]
             if not is_size(option, text):
                 return None
-            given.add(option)
+            given[option] = int(text)
         elif words[place].startswith("-") and words[place] != "-":
             return None
         else:
             files.append(place)
-    return files[0] if len(files) == 1 else None
+    return files if are_served(len(files), given.get("--small", USUAL_SMALL)) else None
+
+
+def are_served(count, small):
+    """Whether so many files can be served with so many small buffers: each has 128 of them for itself."""
+    return 1 <= count <= MOST_FILES and STAGE * count <= small
