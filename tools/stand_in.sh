@@ -16,14 +16,16 @@ cat >"$room/program" <<'END'
 pwd -P
 for word; do printf '<%s>' "$word"; done
 [ -z "${OPENED-}" ] || (ls -l "/proc/$$/fd" >"$OPENED")
-[ "$1" != serve ] || shift
-session=0
-for file; do
-  [ -r "$file" ] || break
-  left=100
-  while [ $left -gt 0 ] && read -r line; do printf '%s\n' "$line" >>out$session.resp; sleep 0.01; left=$((left - 1)); done <"$file"
-  session=$((session + 1))
-done
+if [ "$1" = serve ]; then
+  shift
+  session=0
+  for file; do
+    [ -r "$file" ] || break
+    left=100
+    while [ $left -gt 0 ] && read -r line; do printf '%s\n' "$line" >>out$session.resp; sleep 0.01; left=$((left - 1)); done <"$file"
+    session=$((session + 1))
+  done
+fi
 exit "${ENDS-7}"
 END
 
