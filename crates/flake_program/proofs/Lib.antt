@@ -1,10 +1,15 @@
+pub mod Opened
 pub mod Served
+pub mod Highest
 pub mod Ran
 pub mod RanServed
 pub mod RanUntouched
 pub mod RanCauses
 pub mod RanSaid
 pub mod RanComplete
+pub mod RanAll
+pub mod Stopped
 pub mod Unopened
 pub mod Unserved
-pub mod RanAll
+pub mod Lines
+pub mod Numbers

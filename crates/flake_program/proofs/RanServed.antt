@@ -1,10 +1,6 @@
--- The headline of a run that served its file.
-use Rattle.std.proofs.Common.{◌≡◌, ◌≢◌, ℕ, zero, suc, ◌<◌, ◌≤◌, List, [], ◌∷◌, Some, arith, refl, ap, sym, subst}
-use Rattle.std.proofs.lemmas.List.Elements.{All-from_recursion}
+-- The headline of a run that served its files.
+use Rattle.std.proofs.Common.{◌≡◌, ℕ, zero, suc, ◌<◌, ◌≤◌, List, length, arith, refl, sym, ◌∙◌, subst}
 use Rattle.flake_base.specs.Told.{HostTold, WireTold}
-use Rattle.flake_base.specs.declared.session.End.{End}
-use Rattle.flake_base.specs.declared.session.End.TheVariants.{Left}
-use Rattle.flake_base.specs.declared.session.SessionEnd.{SessionEnd}
 use Rattle.pin_core.specs.declared.class.Class.{Class}
 use Rattle.pin_core.specs.declared.class.Class.TheVariants.{Small, Large}
 use Rattle.pin_core.specs.declared.sizes.Sizes.{Sizes}
@@ -13,14 +9,14 @@ use Rattle.pinned_pool.specs.Ends.{End as PoolEnd}
 use Rattle.flake_base.specs.declared.journal.Entry.{Entry}
 use Rattle.flake_model.specs.Run.{all_commands, missing_writes}
 use Rattle.flake_model.specs.Session.{Session}
+use Rattle.serve_inputs.specs.Opened.{pool_sizes}
 use Rattle.serve_model.specs.Demand.{demand_of}
 use Rattle.serve_model.specs.Shown.{IsCounted}
-use Rattle.serve_one.specs.Opened.{pool_sizes}
 use Rattle.flake_program.specs.Task.{Job, Task}
 use Rattle.flake_program.specs.Outside.{outside}
-use Rattle.flake_program.specs.Outcome.{Done, SourceTold}
+use Rattle.flake_program.specs.Outcome.{Done}
 use Rattle.flake_program.specs.Served.{Served}
-use Rattle.flake_program.proofs.Ran.{Ran}
+use Rattle.flake_program.proofs.Ran.{Ran, IsTask, sessions_are}
 
 -- no buffer is missed where there are as many as the commands may claim
 none_missed : (missed have need : ℕ) → (0 < missed → have < need) → need ≤ have → missed ≡ 0
@@ -34,31 +30,24 @@ enough z sessions journal pool counted fits =
     let large = none_missed (counted.missed Large) _ _ (counted.exceeded Large) (fits Large) in
     omega (arith, counted.missed_are, small, large)
 
--- the same, where task, ends and sources are what they are known to be
-served_as : {W : Type 0} (tells : W → WireTold) (job : Job) (host now : HostTold) (wires after : List W) (done : Done) (end : SessionEnd) (source : SourceTold) (task : Task)
-    → Ran tells task job host now wires after done end source
-    → Served (Some job) (outside host wires tells) (outside now after tells) (record done { ends = end ∷ []; sources = source ∷ [] })
-served_as tells job host now wires after done end source task r = record {
+pub ran_served : {W : Type 0} (tells : W → WireTold) (task : Task) (job : Job) (host now : HostTold) (wires after : List W) (done : Done)
+    → IsTask task job wires → Ran tells job host now wires after done → Served task (outside host wires tells) (outside now after tells) done
+ran_served tells task job host now wires after done t r = subst (λ t. Served t (outside host wires tells) (outside now after tells) done) (sym t.task_is) (record {
+  inputs = r.inputs;
+  inputs_are = r.opened.lefts_are;
   run = r.run.run;
   pool = r.pool;
   pool_is = r.pool_is;
   shows = r.run.counted;
   held = r.held;
-  none_missing = enough (pool_sizes job.sizes) r.run.run.sessions done.journal r.pool r.run.counted;
+  none_missing = enough (pool_sizes (length job.names) job.sizes) r.run.run.sessions done.journal r.pool r.run.counted;
   bytes = r.run.bytes;
   flushed = r.run.flushed;
   faults = r.run.faults;
   others = r.run.others;
+  sessions = sessions_are tells job host now wires after done r;
   shards = r.shards;
-  to_the_end = All-from_recursion (λ (way : End). way ≢ Left) (end.end ∷ []) (r.to_the_end, tt);
-  opens = r.opens;
-  sources = ap (λ file. file ∷ []) r.file_is;
-}
-
-pub ran_served : {W : Type 0} (tells : W → WireTold) (task : Task) (job : Job) (host now : HostTold) (wires after : List W) (done : Done) (end : SessionEnd) (source : SourceTold)
-    → Ran tells task job host now wires after done end source → Served task (outside host wires tells) (outside now after tells) done
-ran_served tells task job host now wires after done end source r =
-    let known = served_as tells job host now wires after done end source task r in
-    subst (λ t. Served t (outside host wires tells) (outside now after tells) done) (sym r.task_is)
-    (subst (λ sources. Served (Some job) (outside host wires tells) (outside now after tells) (record done { sources = sources })) (sym r.sources_are)
-    (subst (λ ends. Served (Some job) (outside host wires tells) (outside now after tells) (record done { ends = ends; sources = source ∷ [] })) (sym r.ends_are) known))
+  to_the_end = r.to_the_end;
+  opens = r.files.opens ∙ r.opened.opens;
+  sources = r.files_are;
+})

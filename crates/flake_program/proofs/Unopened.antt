@@ -1,110 +1,110 @@
--- What a run says whose file did not open.
-use Rattle.std.proofs.Common.{◌≡◌, ◌≢◌, ◌⊎◌, inl, inr, ℕ, List, [], Option, Some, IsNone, All, length, arith, ap, sym, ◌∙◌, subst, ⊎_elim}
-use Rattle.std.specs.Cmp.Lexicographic.{bytes_decides}
-use Rattle.std.proofs.lemmas.Bool.{cases_Bool}
-use Rattle.std.proofs.lemmas.List.Elements.{All-from_recursion}
+-- What a run says of which a file did not open.
+use Rattle.std.proofs.Common.{◌≡◌, inl, inr, ℕ, suc, ◌==◌, if◌then◌else◌, List, Option, Some, IsSomeAnd, length, take, slice_get, arith, ap, sym, ◌∙◌, subst}
+use Rattle.std.specs.List.{range_with_len}
+use Rattle.std.proofs.lemmas.List.{length-take}
+use Rattle.std.proofs.lemmas.List.Elements.{recursion_from_All}
 use Rattle.flake_base.specs.Calls.{counted}
 use Rattle.flake_base.specs.Causes.{Rose}
 use Rattle.flake_base.specs.Told.{HostTold, WireTold}
-use Rattle.shard_core.specs.Keys.{same_bytes}
-use Rattle.flake_program.specs.Task.{Job, Task}
+use Rattle.flake_program.specs.Opening.{FailsToOpen, counted_times}
+use Rattle.flake_program.specs.Task.{Job, Task, AreOther}
 use Rattle.flake_program.specs.Outside.{outside}
-use Rattle.flake_program.specs.Outcome.{Done, SourceTold}
+use Rattle.flake_program.specs.Outcome.{Done, SourceTold, files_of}
 use Rattle.flake_program.specs.Refusals.{IsRefused}
 use Rattle.flake_program.specs.Untouched.{Untouched}
-use Rattle.flake_program.specs.Causes.{Causes}
+use Rattle.flake_program.specs.Causes.{Causes, OpenFailed}
 use Rattle.flake_program.specs.Complete.{Complete}
 use Rattle.flake_program.specs.Said.{Said, Says, text_of}
-use Rattle.flake_program.proofs.Ran.{Clauses, says_since}
+use Rattle.flake_program.specs.declared.outcome.Detail.TheVariants.{File}
 use Rattle.flake_program.specs.declared.outcome.Refusal.TheVariants.{OpenFault}
+use Rattle.flake_program.proofs.Ran.{Clauses, IsTask, says_since}
+use Rattle.flake_program.proofs.Stopped.{not_served, not_written, not_refusable, at_place}
 
--- the open of the file failed, and that was said
-pub record Unopened {W : Type 0} (tells : W → WireTold) (task : Task) (job : Job) (host mid now : HostTold) (wires after : List W) (done : Done) : Type 0 where
-  pub task_is : task ≡ Some job
-  pub some_wire : wires ≢ []
-  pub refused : IsRefused OpenFault (outside mid wires tells) (outside now after tells) done
-  pub others : (other : List ℕ) → other ≢ job.name → mid.holds other ≡ host.holds other
-  pub own : mid.holds job.name ≡ host.holds job.name
-  pub opens : mid.opens ≡ counted host.opens
-  pub said : mid.said ≡ host.said
-  pub say_faults : mid.say_faults ≡ host.say_faults
-  pub rose : Rose (host.open_faults job.name) (mid.open_faults job.name)
+-- the files in front were opened, the open of the next one failed, and that was said
+pub record Unopened {W : Type 0} (tells : W → WireTold) (job : Job) (host mid now : HostTold) (wires after : List W) (before : Done) (sources : List SourceTold) : Type 0 where
+  pub lefts : List (Option (List ℕ))
+  pub zeros : List ℕ
+  pub fails : FailsToOpen job.names host mid lefts zeros
+  pub refused : IsRefused (OpenFault (length sources)) (outside mid wires tells) (outside now after tells) before
+  pub as_many : length lefts ≡ length sources
+  pub files_are : files_of sources ≡ range_with_len 0 (length sources)
 
--- what is so at one name and at the others is so at each
-at_each : (name : List ℕ) (old new : List ℕ → Option (List ℕ)) → ((other : List ℕ) → other ≢ name → new other ≡ old other) → new name ≡ old name → (other : List ℕ) → new other ≡ old other
-at_each name old new others own other =
-    ⊎_elim
-    (λ is. subst (λ n. new n ≡ old n) ((bytes_decides name other).0 is) own)
-    (λ differs. others other (λ same. absurd (let is = (bytes_decides name other).1 (sym same) in cc)))
-    (cases_Bool (same_bytes name other))
-
-module _ {W : Type 0} (tells : W → WireTold) (task : Task) (job : Job) (host mid now : HostTold) (wires after : List W) (done : Done) (u : Unopened tells task job host mid now wires after done) where
-  two : done.status ≡ 2
+module _ {W : Type 0} (tells : W → WireTold) (task : Task) (job : Job) (host mid now : HostTold) (wires after : List W) (before : Done) (sources : List SourceTold)
+    (t : IsTask task job wires) (u : Unopened tells job host mid now wires after before sources) where
+  two : before.status ≡ 2
   two = u.refused.status
 
-  rose_since : Rose (host.open_faults job.name) (now.open_faults job.name)
-  rose_since = subst (Rose (host.open_faults job.name)) (sym (u.refused.files.open_faults job.name)) u.rose
+  name_is : slice_get job.names (length sources) ≡ Some u.fails.name
+  name_is = ap (slice_get job.names) (sym u.as_many) ∙ u.fails.name_is
 
-  unopened_untouched : Untouched task (outside host wires tells) (outside now after tells) done
+  rose_since : Rose (host.open_faults u.fails.name) (now.open_faults u.fails.name)
+  rose_since =
+      subst (λ n. Rose n (now.open_faults u.fails.name)) (u.fails.opened.open_faults u.fails.name)
+      (subst (Rose (u.fails.between.open_faults u.fails.name)) (sym (u.refused.files.open_faults u.fails.name)) u.fails.unopened.rose)
+
+  open_failed : OpenFailed job.names before.detail host now
+  open_failed = subst (λ d. OpenFailed job.names d host now) (sym u.refused.detail)
+      (subst (λ o. IsSomeAnd o (λ name. Rose (host.open_faults name) (now.open_faults name))) (sym name_is) rose_since)
+
+  holds_since : (other : List ℕ) → AreOther other (take (length sources) job.names) → now.holds other ≡ host.holds other
+  holds_since other all =
+      u.refused.files.holds other ∙ u.fails.unopened.holds other ∙ u.fails.opened.holds other (subst (λ n. AreOther other (take n job.names)) (sym u.as_many) all)
+
+  opens_since : now.opens ≡ counted_times (suc (length sources)) host.opens
+  opens_since = u.refused.files.opens ∙ u.fails.unopened.opens ∙ ap counted (u.fails.opened.opens ∙ ap (λ n. counted_times n host.opens) (sym u.fails.opened.as_many ∙ u.as_many))
+
+  unopened_untouched : Untouched (Some job) (outside host wires tells) (outside now after tells) (record before { sources = sources })
   unopened_untouched = record {
     wires = λ none. u.refused.wires;
     journal = λ none. u.refused.journal;
     pool = λ none. (u.refused.pool, u.refused.held);
     refused = λ status. u.refused.ends;
-    sources = λ status. u.refused.sources;
-    holds = λ status other. u.refused.files.holds other ∙ at_each job.name host.holds mid.holds u.others u.own other;
-    other_files = λ other differs. u.refused.files.holds other ∙ at_each job.name host.holds mid.holds u.others u.own other;
+    sources = λ one. absurd (omega (arith, one, two));
+    holds = λ one. absurd (omega (arith, one, two));
+    other_files = holds_since;
     unopened = λ one. absurd (omega (arith, one, two));
-    opens = inr (u.refused.files.opens ∙ u.opens);
+    opens = opens_since ∙ ap (λ s. counted_times (if s == 2 then suc (length sources) else length sources) host.opens) (sym two);
   }
 
-  bad : IsNone (Some job) ⊎ (wires ≡ []) → done.status ≡ 1
-  bad (inl none) = absurd (cc none)
-  bad (inr none) = absurd (u.some_wire none)
-
-  not_served : {P : Type 0} → (done.status ≡ 0) ⊎ (done.status ≡ 3) ⊎ (done.status ≡ 4) ⊎ (done.status ≡ 5) → P
-  not_served (inl is) = absurd (omega (arith, is, two))
-  not_served (inr (inl is)) = absurd (omega (arith, is, two))
-  not_served (inr (inr (inl is))) = absurd (omega (arith, is, two))
-  not_served (inr (inr (inr is))) = absurd (omega (arith, is, two))
-
-  not_written : {P : Type 0} → (done.status ≡ 0) ⊎ (done.status ≡ 3) ⊎ (done.status ≡ 4) → P
-  not_written (inl is) = absurd (omega (arith, is, two))
-  not_written (inr (inl is)) = absurd (omega (arith, is, two))
-  not_written (inr (inr is)) = absurd (omega (arith, is, two))
-
-  unopened_causes : Causes task (outside host wires tells) (outside now after tells) done
-  unopened_causes = subst (λ t. Causes t (outside host wires tells) (outside now after tells) done) (sym u.task_is) (record {
+  unopened_causes : Causes (Some job) (outside host wires tells) (outside now after tells) (record before { sources = sources })
+  unopened_causes = record {
     statuses = inr (inr (inl two));
-    served = λ status. not_served status;
-    one_session = omega (arith, ap length u.refused.ends);
+    served = λ status. not_served before.status (inl two) status;
+    sessions = inl u.refused.ends;
     by_end = λ some. absurd (some u.refused.ends);
     bad_words = λ one. absurd (omega (arith, one, two));
-    refused = λ other. bad;
-    open_fault = λ is. rose_since;
+    refused = λ other bad. not_refusable tells task job host wires t bad;
+    open_fault = λ is. open_failed;
     opened = λ other. absurd (other two);
     reads = λ some. absurd (some u.refused.ends);
     write_fault = λ five. absurd (omega (arith, five, two));
-    written = λ status. not_written status;
+    written = λ status. not_written before.status (inl two) status;
     detail = λ is. u.refused.detail;
     no_detail = λ other. absurd (other two);
-    one_source = omega (arith, ap length u.refused.sources);
-    first_file = subst (All (λ (s : SourceTold). s.file ≡ 0)) (sym u.refused.sources) (All-from_recursion (λ (s : SourceTold). s.file ≡ 0) [] tt);
-  })
-
-  unopened_complete : Complete task (outside host wires tells) (outside now after tells) done
-  unopened_complete = subst (λ t. Complete t (outside host wires tells) (outside now after tells) done) (sym u.task_is) (record { whole = λ some nothing. absurd (nothing.opens rose_since) })
-
-  unopened_said : Said task (outside host wires tells) (outside now after tells) done
-  unopened_said = record {
-    text = λ other. subst (λ text. Says text host now) (sym (ap (λ status. text_of status done.ends done.held) two)) (says_since _ host mid now u.said u.say_faults u.refused.said);
+    sources = omega (arith, u.as_many, u.fails.opened.as_many, length-take (length u.lefts) job.names);
+    in_order = u.files_are;
   }
 
-  pub unopened_all : Clauses tells task host now wires after done
-  unopened_all = record {
+  unopened_complete : Complete (Some job) (outside host wires tells) (outside now after tells) (record before { sources = sources })
+  unopened_complete = record {
+    whole = λ enough distinct nothing whole. absurd (at_place (λ (name : List ℕ). Rose (host.open_faults name) (now.open_faults name) → ⊥) job.names (length sources) u.fails.name
+        (recursion_from_All (λ (name : List ℕ). Rose (host.open_faults name) (now.open_faults name) → ⊥) job.names nothing.opens) name_is rose_since);
+  }
+
+  text_is : text_of before.status before.detail before.ends before.held ≡ text_of 2 (File (length sources)) before.ends before.held
+  text_is = ap (λ s. text_of s before.detail before.ends before.held) two ∙ ap (λ d. text_of 2 d before.ends before.held) u.refused.detail
+
+  unopened_said : Said (Some job) (outside host wires tells) (outside now after tells) (record before { sources = sources })
+  unopened_said = record {
+    text = λ other. subst (λ text. Says text host now) (sym text_is)
+        (says_since _ host mid now (u.fails.unopened.said ∙ u.fails.opened.said) (u.fails.unopened.say_faults ∙ u.fails.opened.say_faults) u.refused.said);
+  }
+
+  pub unopened_all : Clauses tells task host now wires after (record before { sources = sources })
+  unopened_all = subst (λ t. Clauses tells t host now wires after (record before { sources = sources })) (sym t.task_is) (record {
     served = λ some. absurd (some u.refused.ends);
     untouched = unopened_untouched;
     causes = unopened_causes;
     complete = unopened_complete;
     said = unopened_said;
-  }
+  })

@@ -1,91 +1,76 @@
--- What a run says that opened its file, and for which memory was wanting before the first read.
-use Rattle.std.proofs.Common.{◌≡◌, ◌≢◌, ◌⊎◌, inl, inr, ℕ, List, [], ◌∷◌, Option, Some, IsNone, All, length, arith, ap, sym, ◌∙◌, subst}
-use Rattle.std.proofs.lemmas.List.Elements.{All-from_recursion}
-use Rattle.flake_base.specs.Calls.{counted}
+-- What a run says that opened its files, and for which memory was wanting before the first read.
+use Rattle.std.proofs.Common.{◌≡◌, inl, inr, ℕ, suc, ◌==◌, if◌then◌else◌, List, Option, Some, length, take, arith, ap, sym, ◌∙◌, subst}
+use Rattle.std.specs.List.{range_with_len}
+use Rattle.std.proofs.lemmas.List.{take_all}
 use Rattle.flake_base.specs.Told.{HostTold, WireTold}
-use Rattle.flake_program.specs.Task.{Job, Task, names_of}
+use Rattle.flake_program.specs.Opening.{AreOpened, counted_times}
+use Rattle.flake_program.specs.Task.{Job, Task, AreOther}
 use Rattle.flake_program.specs.Outside.{outside}
-use Rattle.flake_program.specs.Outcome.{Done, SourceTold}
+use Rattle.flake_program.specs.Outcome.{Done, SourceTold, files_of}
 use Rattle.flake_program.specs.Refusals.{IsRefused}
 use Rattle.flake_program.specs.Untouched.{Untouched}
 use Rattle.flake_program.specs.Causes.{Causes}
-use Rattle.flake_program.specs.Complete.{Complete}
-use Rattle.flake_program.specs.Said.{Said}
-use Rattle.flake_program.proofs.Ran.{Clauses}
 use Rattle.flake_program.specs.declared.outcome.Refusal.TheVariants.{Memory}
+use Rattle.flake_program.proofs.Ran.{Clauses, IsTask, sources_are}
+use Rattle.flake_program.proofs.Stopped.{not_served, not_written, not_refusable}
 
--- the file was opened, and want of memory was said
-pub record Unserved {W : Type 0} (tells : W → WireTold) (task : Task) (job : Job) (host mid now : HostTold) (wires after : List W) (done : Done) (source : SourceTold) : Type 0 where
-  pub task_is : task ≡ Some job
-  pub some_wire : wires ≢ []
-  pub refused : IsRefused Memory (outside mid wires tells) (outside now after tells) done
-  pub others : (other : List ℕ) → other ≢ job.name → mid.holds other ≡ host.holds other
-  pub opens : mid.opens ≡ counted host.opens
-  pub file_is : source.file ≡ 0
+-- the files were opened, and want of memory was said
+pub record Unserved {W : Type 0} (tells : W → WireTold) (job : Job) (host mid now : HostTold) (wires after : List W) (before : Done) (sources : List SourceTold) : Type 0 where
+  pub lefts : List (Option (List ℕ))
+  pub zeros : List ℕ
+  pub opened : AreOpened job.names host mid lefts zeros
+  pub refused : IsRefused Memory (outside mid wires tells) (outside now after tells) before
+  pub files_are : files_of sources ≡ range_with_len 0 (length job.names)
 
-module _ {W : Type 0} (tells : W → WireTold) (task : Task) (job : Job) (host mid now : HostTold) (wires after : List W) (before : Done) (source : SourceTold) (u : Unserved tells task job host mid now wires after before source) where
-  done : Done
-  done = record before { sources = source ∷ [] }
-
+module _ {W : Type 0} (tells : W → WireTold) (task : Task) (job : Job) (host mid now : HostTold) (wires after : List W) (before : Done) (sources : List SourceTold)
+    (t : IsTask task job wires) (u : Unserved tells job host mid now wires after before sources) where
   six : before.status ≡ 6
   six = u.refused.status
 
-  no_refusal : {P : Type 0} → (before.status ≡ 1) ⊎ (before.status ≡ 2) → P
-  no_refusal (inl is) = absurd (omega (arith, is, six))
-  no_refusal (inr is) = absurd (omega (arith, is, six))
+  as_many : length sources ≡ length job.names
+  as_many = sources_are sources (length job.names) u.files_are
 
-  not_served : {P : Type 0} → (before.status ≡ 0) ⊎ (before.status ≡ 3) ⊎ (before.status ≡ 4) ⊎ (before.status ≡ 5) → P
-  not_served (inl is) = absurd (omega (arith, is, six))
-  not_served (inr (inl is)) = absurd (omega (arith, is, six))
-  not_served (inr (inr (inl is))) = absurd (omega (arith, is, six))
-  not_served (inr (inr (inr is))) = absurd (omega (arith, is, six))
+  all_names : take (length sources) job.names ≡ job.names
+  all_names = take_all (length sources) job.names (omega (arith, as_many))
 
-  not_written : {P : Type 0} → (before.status ≡ 0) ⊎ (before.status ≡ 3) ⊎ (before.status ≡ 4) → P
-  not_written (inl is) = absurd (omega (arith, is, six))
-  not_written (inr (inl is)) = absurd (omega (arith, is, six))
-  not_written (inr (inr is)) = absurd (omega (arith, is, six))
-
-  bad : IsNone (Some job) ⊎ (wires ≡ []) → before.status ≡ 1
-  bad (inl none) = absurd (cc none)
-  bad (inr none) = absurd (u.some_wire none)
-
-  unserved_untouched : Untouched task (outside host wires tells) (outside now after tells) (record before { sources = source ∷ [] })
+  unserved_untouched : Untouched (Some job) (outside host wires tells) (outside now after tells) (record before { sources = sources })
   unserved_untouched = record {
     wires = λ none. u.refused.wires;
     journal = λ none. u.refused.journal;
     pool = λ none. (u.refused.pool, u.refused.held);
-    refused = λ status. no_refusal status;
-    sources = λ status. no_refusal status;
-    holds = λ status. no_refusal status;
-    other_files = λ other differs. u.refused.files.holds other ∙ u.others other (λ same. differs (ap names_of u.task_is ∙ ap (λ n. n ∷ []) (sym same)));
+    refused = λ status. u.refused.ends;
+    sources = λ one. absurd (omega (arith, one, six));
+    holds = λ one. absurd (omega (arith, one, six));
+    other_files = λ other differs. u.refused.files.holds other ∙ u.opened.holds other (subst (AreOther other) all_names differs);
     unopened = λ one. absurd (omega (arith, one, six));
-    opens = inr (u.refused.files.opens ∙ u.opens);
+    opens = u.refused.files.opens ∙ u.opened.opens ∙ ap (λ n. counted_times n host.opens) (sym as_many)
+        ∙ ap (λ s. counted_times (if s == 2 then suc (length sources) else length sources) host.opens) (sym six);
   }
 
-  unserved_causes : Causes task (outside host wires tells) (outside now after tells) (record before { sources = source ∷ [] })
-  unserved_causes = subst (λ t. Causes t (outside host wires tells) (outside now after tells) (record before { sources = source ∷ [] })) (sym u.task_is) (record {
+  unserved_causes : Causes (Some job) (outside host wires tells) (outside now after tells) (record before { sources = sources })
+  unserved_causes = record {
     statuses = inr (inr (inr (inr (inr (inr six)))));
-    served = λ status. not_served status;
-    one_session = omega (arith, ap length u.refused.ends);
+    served = λ status. not_served before.status (inr six) status;
+    sessions = inl u.refused.ends;
     by_end = λ some. absurd (some u.refused.ends);
     bad_words = λ one. absurd (omega (arith, one, six));
-    refused = λ other. bad;
+    refused = λ other bad. not_refusable tells task job host wires t bad;
     open_fault = λ two. absurd (omega (arith, two, six));
     opened = λ two other. absurd (other six);
     reads = λ some. absurd (some u.refused.ends);
     write_fault = λ five. absurd (omega (arith, five, six));
-    written = λ status. not_written status;
+    written = λ status. not_written before.status (inr six) status;
     detail = λ two. absurd (omega (arith, two, six));
     no_detail = λ other. u.refused.detail;
-    one_source = omega arith;
-    first_file = All-from_recursion (λ (s : SourceTold). s.file ≡ 0) (source ∷ []) (u.file_is, tt);
-  })
+    sources = omega (arith, as_many);
+    in_order = u.files_are ∙ ap (range_with_len 0) (sym as_many);
+  }
 
-  pub unserved_all : Clauses tells task host now wires after (record before { sources = source ∷ [] })
-  unserved_all = record {
+  pub unserved_all : Clauses tells task host now wires after (record before { sources = sources })
+  unserved_all = subst (λ t. Clauses tells t host now wires after (record before { sources = sources })) (sym t.task_is) (record {
     served = λ some. absurd (some u.refused.ends);
     untouched = unserved_untouched;
     causes = unserved_causes;
-    complete = subst (λ t. Complete t (outside host wires tells) (outside now after tells) (record before { sources = source ∷ [] })) (sym u.task_is) (record { whole = λ some nothing. absurd (nothing.memory six) });
+    complete = record { whole = λ enough distinct nothing whole. absurd (nothing.memory six) };
     said = record { text = λ other. absurd (other six) };
-  }
+  })

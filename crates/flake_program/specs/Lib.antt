@@ -1,4 +1,5 @@
 pub mod Serving
+pub mod Opening
 pub mod Refusals
 pub mod Task
 pub mod Outside

@@ -1,5 +1,5 @@
 -- What a run says to its host.
-use Rattle.std.specs.Prelude.{◌≢◌, ℕ, ◌==◌, ◌++◌, ◌∷◌, if◌then◌else◌, true, false, List, codes}
+use Rattle.std.specs.Prelude.{◌≢◌, ℕ, ◌==◌, ◌++◌, ◌∷◌, if◌then◌else◌, true, false, List, [], codes}
 use Rattle.std.specs.Fmt.{decimal}
 use Rattle.flake_base.specs.Causes.{Rose}
 use Rattle.flake_base.specs.Growth.{Grew}
@@ -10,6 +10,8 @@ use Rattle.pin_core.specs.declared.class.Held.{Held}
 use Rattle.flake_program.specs.Task.{Task}
 use Rattle.flake_program.specs.Outside.{Outside}
 use Rattle.flake_program.specs.Outcome.{Done}
+use Rattle.flake_program.specs.declared.outcome.Detail.{Detail}
+use Rattle.flake_program.specs.declared.outcome.Detail.TheVariants.{Nothing, File}
 
 -- a text was said, or a front of it where a say failed
 pub record Says (text : List ℕ) (old new : HostTold) : Type 0 where
@@ -24,12 +26,18 @@ held_line held = said_line (codes "held " ++ decimal held.small ++ 32 ∷ decima
 abbrev pub summary_of : List SessionEnd → Held → List ℕ
 summary_of ends held = summary_from 0 ends ++ held_line held
 
+-- which file did not open
+abbrev pub unopened_text : Detail → List ℕ
+unopened_text Nothing = []
+unopened_text (File file) = said_line (codes "cannot open " ++ decimal file)
+
 -- what is said with a status: why nothing was served, or the summary
-abbrev pub text_of : ℕ → List SessionEnd → Held → List ℕ
-text_of status ends held =
+abbrev pub text_of : ℕ → Detail → List SessionEnd → Held → List ℕ
+text_of status detail ends held =
     if status == 1 then said_line (codes "bad words") else
-    if status == 2 then said_line (codes "cannot open 0") else summary_of ends held
+    if status == 2 then unopened_text detail else summary_of ends held
 
 pub record Said {W : Type 0} (task : Task) (before after : Outside W) (done : Done) : Type 0 where
   -- the text of the status, unless memory was wanting
-  pub text : done.status ≢ 6 → Says (text_of done.status done.ends done.held) before.host after.host
+  pub text : done.status ≢ 6
+      → Says (text_of done.status done.detail done.ends done.held) before.host after.host

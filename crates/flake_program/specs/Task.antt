@@ -1,18 +1,20 @@
 -- What the words of the command line ask for.
-use Rattle.std.specs.Prelude.{ℕ, List, [], ◌∷◌, Option, Some, None, String}
+use Rattle.std.specs.Prelude.{◌≢◌, ℕ, List, [], ◌∷◌, Option, Some, None, String, length, map}
 use Rattle.std.specs.Global.{Global}
-use Rattle.std.specs.Option.{option_and_then, option_map_or}
+use Rattle.std.specs.List.{AllByRecursion}
+use Rattle.std.specs.Option.{option_map, option_map_or}
 use Rattle.pin_core.specs.declared.sizes.Sizes as pool
-use Rattle.serve_one.specs.Opened.{pool_sizes}
-use Rattle.serve_one.specs.declared.sizes.Sizes.{Sizes}
+use Rattle.serve_inputs.specs.Opened.{pool_sizes}
+use Rattle.serve_inputs.specs.declared.sizes.Sizes.{Sizes}
 use Rattle.serve_words.specs.Task as words
 use Rattle.serve_words.specs.declared.sizes.Sizes as typed
-use Rattle.flake_program.specs.declared.words.FileTask.{FileTask}
+use Rattle.flake_program.specs.declared.words.FilesTask.{FilesTask}
 
--- the name of a file that is to be served, and the sizes to serve it with
+-- the names of the files that are to be served, the sizes to serve them with, and how many workers do it
 pub record Job : Type 0 where
-  pub name : List ℕ
+  pub names : List (List ℕ)
   pub sizes : Sizes
+  pub workers : ℕ
 
 -- none where the words are bad words
 abbrev pub Task : Type 0
@@ -27,28 +29,37 @@ sizes_of sizes = record {
   threshold = sizes.threshold;
 }
 
--- a run serves one file
-abbrev pub job_of : List (List ℕ) → Sizes → Task
-job_of [] sizes = None
-job_of (name ∷ []) sizes = Some (record { name = name; sizes = sizes })
-job_of (name ∷ other ∷ names) sizes = None
-
-abbrev pub only_file : words.Task → Task
-only_file task = job_of task.files (sizes_of task.sizes)
+abbrev pub job_of : words.Task → Job
+job_of task = record { names = task.files; sizes = sizes_of task.sizes; workers = task.workers }
 
 abbrev pub task_of : List (String Global) → Task
-task_of typed = option_and_then only_file (words.task_of (words.texts_of typed))
+task_of typed = option_map job_of (words.task_of (words.texts_of typed))
 
 -- the task, as the code holds it
-abbrev pub shown_task : FileTask → Job
-shown_task task = record { name = task.file.now; sizes = task.sizes }
+abbrev pub shown_task : FilesTask → Job
+shown_task task = record {
+  names = map (λ file. file.now) task.files.items;
+  sizes = task.sizes;
+  workers = task.workers;
+}
 
 abbrev pub names_of : Task → List (List ℕ)
 names_of None = []
-names_of (Some job) = job.name ∷ []
+names_of (Some job) = job.names
+
+-- none of the names is this one
+abbrev pub AreOther : List ℕ → List (List ℕ) → Type 0
+AreOther name names = AllByRecursion (λ other. other ≢ name) names
+
+-- no name stands twice
+abbrev pub AreDistinct : List (List ℕ) → Type 0
+AreDistinct [] = Unit {0}
+AreDistinct (name ∷ names) = AreOther name names × AreDistinct names
 
 abbrev pub pool_of : Task → pool.Sizes
-pool_of task = option_map_or (λ (job : Job). pool_sizes job.sizes) task (record { small = 0; large = 0; credits = 0 })
+pool_of task =
+    option_map_or (λ (job : Job). pool_sizes (length job.names) job.sizes) task
+    (record { small = 0; large = 0; credits = 0 })
 
 abbrev pub shards_of : Task → ℕ
 shards_of task = option_map_or (λ (job : Job). job.sizes.shards) task 0

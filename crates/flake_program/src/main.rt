@@ -1,6 +1,7 @@
 //! A key-value server over files: requests from a file, replies to a wire.
 #![tactic(auto)]
 
+mod opening;
 mod outcome;
 mod run;
 mod source;
@@ -14,11 +15,13 @@ use crate::outcome::{OUT_OF_MEMORY, Refusal};
 use crate::run::run;
 use file_outside::{FileHost, FileWire};
 use flake_base::{Memory, Wire};
+use session_pass::NoGate;
 use std::alloc::AllocError;
 use std::env;
 use std::io::ErrorKind;
 use std::process::ExitCode;
 use std::sync::Wait;
+use std::thread::Threads;
 
 // The words behind the program's name; none where one is no text, which makes them bad words.
 fn command_line(rt: &HostRuntime) -> Result<Vec<String>, AllocError> {
@@ -35,16 +38,19 @@ fn command_line(rt: &HostRuntime) -> Result<Vec<String>, AllocError> {
     }
 }
 
-// Session 0 writes to `out0.resp` in the folder where the program runs.
-fn serve<R: Wait>(waits: &R, rt: &HostRuntime) -> Result<u8, Memory> {
+// Session k writes to `outk.resp` in the folder where the program runs.
+fn serve<R: Threads + Wait + Sync>(runs: &R, rt: &HostRuntime) -> Result<u8, Memory> {
     let alloc = rt.alloc();
     let words = command_line(rt)?;
-    let name = String::from_str(alloc, "out0.resp")?;
-    let mut wires: Vec<Box<dyn Wire>> = Vec::with_capacity(alloc, 1)?;
-    let wire = FileWire::new(rt.clone()?, alloc, name)?;
-    wires.push(Box::new(alloc, wire)?)?;
+    let mut wires: Vec<Box<dyn Wire>> = Vec::with_capacity(alloc, 16)?;
+    for session in 0..16 {
+        let name = format!(in alloc; "out{session}.resp")?;
+        let wire = FileWire::new(rt.clone()?, alloc, name)?;
+        wires.push(Box::new(alloc, wire)?)?;
+    }
     let mut host = FileHost::new(rt.clone()?, alloc)?;
-    Ok(run(waits, alloc, words.as_slice(), &mut host, wires).status)
+    let outcome = run(runs, alloc, words.as_slice(), &mut host, wires, &NoGate);
+    Ok(outcome.status)
 }
 
 fn main(rt: HostRuntime) -> ExitCode {

@@ -1,3 +1,6 @@
+ghost use Rattle.std.specs.Prelude.{◌≡◌, ◌<◌, length};
+ghost use Rattle.flake_program.specs.Said.{unopened_text};
+
 use flake_base::{Ends, Journal, Wire};
 use pin_core::Held;
 use pinned_pool::PoolEnd;
@@ -35,20 +38,21 @@ pub const OUT_OF_MEMORY: u8 = 6;
 #[derive(Clone, Copy, Debug, PartialEq, Eq)]
 pub enum Refusal {
     BadWords,
-    OpenFault,
+    /// The file of this number did not open.
+    OpenFault(u16),
     Memory,
 }
 
 impl Refusal {
     ghost use Rattle.std.specs.Prelude.{◌≡◌, ◌<◌, length};
-    ghost use Rattle.flake_program.specs.Refusals.{status_of, detail_of, refusal_text};
+    ghost use Rattle.flake_program.specs.Refusals.{IsNumbered, status_of, detail_of, refusal_text};
 
     pub fn status(self) -> u8
         ensures { result ≡ status_of self }
     {
         match self {
             Refusal::BadWords => 1,
-            Refusal::OpenFault => 2,
+            Refusal::OpenFault(_) => 2,
             Refusal::Memory => OUT_OF_MEMORY,
         }
     }
@@ -57,20 +61,48 @@ impl Refusal {
         ensures { result ≡ detail_of self }
     {
         match self {
-            Refusal::OpenFault => Detail::File(0),
+            Refusal::OpenFault(file) => Detail::File(file),
             Refusal::BadWords | Refusal::Memory => Detail::Nothing,
         }
     }
 
     pub fn text(self) -> &'static str
+        requires { IsNumbered self }
         ensures text { result.now ≡ refusal_text self }
         ensures some { 0 < length result.now }
     {
         match self {
             Refusal::BadWords => "bad words\n",
-            Refusal::OpenFault => "cannot open 0\n",
+            Refusal::OpenFault(file) => unopened_text(file),
             Refusal::Memory => "out of memory\n",
         }
+    }
+}
+
+// Needs no memory.
+fn unopened_text(file: u16) -> &'static str
+    requires { file < 16 }
+    ensures text { result.now ≡ unopened_text (Detail.File file) }
+    ensures some { 0 < length result.now }
+{
+    match file {
+        0 => "cannot open 0\n",
+        1 => "cannot open 1\n",
+        2 => "cannot open 2\n",
+        3 => "cannot open 3\n",
+        4 => "cannot open 4\n",
+        5 => "cannot open 5\n",
+        6 => "cannot open 6\n",
+        7 => "cannot open 7\n",
+        8 => "cannot open 8\n",
+        9 => "cannot open 9\n",
+        10 => "cannot open 10\n",
+        11 => "cannot open 11\n",
+        12 => "cannot open 12\n",
+        13 => "cannot open 13\n",
+        14 => "cannot open 14\n",
+        15 => "cannot open 15\n",
+        _ => unreachable!(),
     }
 }
 

@@ -9,21 +9,26 @@ ghost use Rattle.flake_program.specs.Causes.{Causes};
 ghost use Rattle.flake_program.specs.Complete.{Complete};
 ghost use Rattle.flake_program.specs.Said.{Said};
 
-use crate::outcome::{Detail, Opened, Outcome, Refusal};
-use crate::source::serve_source;
+use crate::opening::{numbered, open_files};
+use crate::outcome::{Detail, Outcome, Refusal};
+use crate::source::serve_sources;
 use crate::tell::{refuse, report};
-use crate::words::file_task;
-use flake_base::{Ends, Host, Memory, Source, Wire};
+use crate::words::files_task;
+use flake_base::{Host, Memory, Source, Wire};
+use session_pass::Gate;
 use std::alloc::Global;
 use std::sync::Wait;
+use std::thread::Threads;
 
-/// Serves the file that the words name, with the sizes that they ask for: its requests' replies go to the first wire.
-pub fn run<R: Wait, H: Host>(
+/// Serves the files that the words name, with the sizes and by as many workers as they ask for: the replies to a file's
+/// requests go to the wire at its place.
+pub fn run<R: Threads + Wait + Sync, H: Host, G: Gate>(
     rt: &R,
     alloc: Global,
     words: &[String],
     host: &mut H,
     wires: Vec<Box<dyn Wire>>,
+    gate: &G,
 ) -> Outcome<H::In>
     // The headline, where something was served.
     ensures served { result.ends.items ≢ [] → Served (task_of words.now)
@@ -56,42 +61,47 @@ pub fn run<R: Wait, H: Host>(
         (done result.status result.detail result.ends.items result.journal.items result.held result.pool
         (map (λ s. source_told s.file (H.In.left s.source) (H.In.read_faults s.source)) result.sources.items)) }
 {
-    let task = match file_task(alloc, words) {
-        Ok(task) => task,
+    let task = match files_task(alloc, words) {
+        Ok(Some(task)) => task,
+        Ok(None) => return refuse(alloc, host, Refusal::BadWords, wires),
         Err(Memory) => return refuse(alloc, host, Refusal::Memory, wires),
     };
-    let (Some(task), false) = (task, wires.is_empty()) else {
+    let count = task.files.len();
+    if wires.len() < count {
         return refuse(alloc, host, Refusal::BadWords, wires);
-    };
-    let (Ok(mut sources), Ok(ends)) = (Vec::with_capacity(alloc, 1), Ends::with_room(alloc, 1))
-    else {
+    }
+    let (Ok(room), Ok(places)) = (
+        Vec::with_capacity(alloc, count),
+        Vec::with_capacity(alloc, count),
+    ) else {
         return refuse(alloc, host, Refusal::Memory, wires);
     };
-    let Ok(source) = host.open(task.file) else {
-        return refuse(alloc, host, Refusal::OpenFault, wires);
+    let sources = match open_files(host, task.files.as_slice(), room) {
+        Ok(sources) => sources,
+        Err(sources) => {
+            let refusal = Refusal::OpenFault(sources.len() as u16);
+            let mut outcome = refuse(alloc, host, refusal, wires);
+            outcome.sources = numbered(sources, places);
+            return outcome;
+        }
     };
-    match serve_source(rt, alloc, &task.sizes, source, ends, wires) {
+    match serve_sources(rt, alloc, &task.sizes, task.workers, sources, wires, gate) {
         Ok(ran) => {
             let held = ran.pool.held();
-            let _ = sources.push(Opened {
-                file: 0,
-                source: ran.source,
-            });
             Outcome {
-                status: report(alloc, host, &ran.end, held),
+                status: report(alloc, host, ran.ends.as_slice(), held),
                 detail: Detail::Nothing,
                 ends: ran.ends,
                 journal: ran.journal,
                 held,
                 pool: Some(ran.pool),
-                sources,
+                sources: numbered(ran.sources, places),
                 wires: ran.wires,
             }
         }
-        Err((source, wires)) => {
+        Err((sources, wires)) => {
             let mut outcome = refuse(alloc, host, Refusal::Memory, wires);
-            let _ = sources.push(Opened { file: 0, source });
-            outcome.sources = sources;
+            outcome.sources = numbered(sources, places);
             outcome
         }
     }

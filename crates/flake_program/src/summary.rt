@@ -1,5 +1,5 @@
 // What is said of sessions.
-ghost use Rattle.std.specs.Prelude.{◌≡◌, [], ◌∷◌, IfOk, string_bytes};
+ghost use Rattle.std.specs.Prelude.{◌≡◌, ◌≤◌, length, IfOk, string_bytes};
 ghost use Rattle.flake_program.specs.Said.{summary_of};
 
 use flake_base::{End, Memory, SessionEnd};
@@ -88,14 +88,21 @@ impl fmt::Display for HeldLine {
     }
 }
 
-/// The line of a run's only session, and that of what is held.
-pub fn summary(alloc: Global, end: &SessionEnd, held: Held) -> Result<String, Memory>
-    ensures { IfOk result (λ text. string_bytes text ≡ summary_of (end.now ∷ []) held) }
+/// The line of each session, and that of what is held.
+pub fn summary(alloc: Global, ends: &[SessionEnd], held: Held) -> Result<String, Memory>
+    requires { length ends.now ≤ 16 }
+    ensures { IfOk result (λ text. string_bytes text ≡ summary_of ends.now held) }
 {
-    let line = SessionLine {
-        session: 0,
-        end: *end,
-    };
-    let held = HeldLine(held);
-    Ok(format!(in alloc; "{line}{held}")?)
+    let mut text = String::new(alloc);
+    for (session, end) in ends.iter().enumerate() {
+        let line = SessionLine {
+            session: session as u16,
+            end: *end,
+        };
+        let line = format!(in alloc; "{line}")?;
+        text.push_str(line.as_str())?;
+    }
+    let held = format!(in alloc; "{}", HeldLine(held))?;
+    text.push_str(held.as_str())?;
+    Ok(text)
 }

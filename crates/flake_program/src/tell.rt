@@ -1,10 +1,11 @@
 // What is said.
-ghost use Rattle.std.specs.Prelude.{◌≡◌, ◌≢◌, ◌<◌, ◌⊎◌, ◌∷◌, [], length, map, true, false};
+ghost use Rattle.std.specs.Prelude.{◌≡◌, ◌≢◌, ◌<◌, ◌≤◌, ◌⊎◌, length, map, true, false};
+ghost use Rattle.std.specs.List.{list_any};
 ghost use Rattle.flake_base.specs.Causes.{Rose, HasCause};
-ghost use Rattle.flake_program.specs.Causes.{status_by};
+ghost use Rattle.flake_program.specs.Causes.{status_by, highest_by};
 ghost use Rattle.flake_program.specs.Outside.{LeavesFiles, outside};
-ghost use Rattle.flake_program.specs.Outcome.{done, source_told};
-ghost use Rattle.flake_program.specs.Refusals.{IsRefused};
+ghost use Rattle.flake_program.specs.Outcome.{done, source_told, ways};
+ghost use Rattle.flake_program.specs.Refusals.{IsNumbered, IsRefused};
 ghost use Rattle.flake_program.specs.Said.{Says, summary_of};
 
 use crate::outcome::{
@@ -31,6 +32,7 @@ pub fn refuse<H: Host>(
     refusal: Refusal,
     wires: Vec<Box<dyn Wire>>,
 ) -> Outcome<H::In>
+    requires { IsNumbered refusal }
     ensures { IsRefused refusal (outside (H.host_told host.old) wires.items (λ w. wire_told w))
         (outside (H.host_told host.new) result.wires.items (λ w. wire_told w))
         (done result.status result.detail result.ends.items result.journal.items result.held result.pool
@@ -52,22 +54,44 @@ fn status_by_end(end: End) -> u8
     }
 }
 
-/// Says how a session ended, and answers the status.
-pub fn report<H: Host>(alloc: Global, host: &mut H, end: &SessionEnd, held: Held) -> u8
-    ensures said { result ≢ 6 → Says (summary_of (end.now ∷ []) held) (H.host_told host.old) (H.host_told host.new) }
+// The highest of the sessions' statuses.
+fn status_by_ends(ends: &[SessionEnd]) -> u8
+    ensures highest { result ≡ highest_by (ways ends.now) }
+    ensures statuses { (result ≡ 0) ⊎ (result ≡ 3) ⊎ (result ≡ 4) ⊎ (result ≡ 6) }
+{
+    let mut status = SERVED;
+    for end in ends {
+        status = status.max(status_by_end(end.end));
+    }
+    status
+}
+
+// Whether a put on a session's wire failed.
+fn some_failed(ends: &[SessionEnd]) -> bool
+    ensures { result ≡ list_any (λ end. end.failed) ends.now }
+{
+    ends.iter().any(|end| end.failed)
+}
+
+/// Says how each session ended, and answers the status.
+pub fn report<H: Host>(alloc: Global, host: &mut H, ends: &[SessionEnd], held: Held) -> u8
+    requires { length ends.now ≤ 16 }
+    ensures said { result ≢ 6 → Says (summary_of ends.now held) (H.host_told host.old) (H.host_told host.new) }
     ensures files { LeavesFiles (H.host_told host.old) (H.host_told host.new) }
-    ensures by_end { result ≢ 5 → result ≢ 6 → (result ≡ status_by end.now.end) × (end.now.failed ≡ false)
+    ensures by_end { result ≢ 5 → result ≢ 6 → (result ≡ highest_by (ways ends.now))
+        × (list_any (λ end. end.failed) ends.now ≡ false)
         × ((H.host_told host.new).say_faults ≡ (H.host_told host.old).say_faults) }
-    ensures failed { result ≡ 5 → (status_by end.now.end ≢ 6)
-        × ((end.now.failed ≡ true) ⊎ Rose (H.host_told host.old).say_faults (H.host_told host.new).say_faults) }
+    ensures failed { result ≡ 5 → (highest_by (ways ends.now) ≢ 6) × ((list_any (λ end. end.failed) ends.now ≡ true)
+        ⊎ Rose (H.host_told host.old).say_faults (H.host_told host.new).say_faults) }
     ensures statuses { (result ≡ 0) ⊎ (result ≡ 3) ⊎ (result ≡ 4) ⊎ (result ≡ 5) ⊎ (result ≡ 6) }
 {
-    let Ok(text) = summary(alloc, end, held) else {
+    let Ok(text) = summary(alloc, ends, held) else {
         return OUT_OF_MEMORY;
     };
     let said = tell(host, text.as_str());
-    let status = status_by_end(end.end);
-    if status != OUT_OF_MEMORY && (end.failed || said.is_err()) {
+    let status = status_by_ends(ends);
+    let failed = some_failed(ends);
+    if status != OUT_OF_MEMORY && (failed || said.is_err()) {
         return WRITE_FAULT;
     }
     status

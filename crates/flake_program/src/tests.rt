@@ -3,10 +3,12 @@ ghost use Rattle.std.specs.Prelude.{None};
 use crate::outcome::Detail;
 use crate::run::run;
 use flake_base::{Bytes, Entry, Failed, Fails, Files, Journal, MemoryHost, MemoryWire, Wire};
+use session_pass::NoGate;
 use std::alloc::Global;
 use std::process::Abort;
 use std::sync::Wait;
 use std::test::Fail;
+use std::thread::Threads;
 
 /// A SET and a GET of one key.
 const PAIR: &[u8] = b"*3\r\n$3\r\nSET\r\n$1\r\na\r\n$1\r\n1\r\n*2\r\n$3\r\nGET\r\n$1\r\na\r\n";
@@ -82,14 +84,14 @@ struct Seen {
 }
 
 // The only call of `run`. It has no clauses, so that no assertion carries those of `run`.
-fn ran<R: Abort + Wait>(
+fn ran<R: Abort + Threads + Wait + Sync>(
     rt: &R,
     alloc: Global,
     words: &[String],
     host: &mut MemoryHost,
     wires: Vec<Box<dyn Wire>>,
 ) -> Seen {
-    let outcome = run(rt, alloc, words, host, wires);
+    let outcome = run(rt, alloc, words, host, wires, &NoGate);
     Seen {
         status: outcome.status,
         detail: outcome.detail,
@@ -175,7 +177,7 @@ fn expect_journal(rt: &impl Abort, journal: &Journal, shards: u16, parts: Option
 }
 
 // Serves an input in place of the row's own.
-fn check_input<R: Abort + Wait>(
+fn check_input<R: Abort + Threads + Wait + Sync>(
     rt: &R,
     alloc: Global,
     row: &Row,
@@ -199,11 +201,15 @@ fn check_input<R: Abort + Wait>(
     Ok(())
 }
 
-fn check<R: Abort + Wait>(rt: &R, alloc: Global, row: &Row) -> Result<(), Fail> {
+fn check<R: Abort + Threads + Wait + Sync>(rt: &R, alloc: Global, row: &Row) -> Result<(), Fail> {
     check_input(rt, alloc, row, Bytes::from_slice(alloc, row.input)?)
 }
 
-fn check_all<R: Abort + Wait>(rt: &R, alloc: Global, rows: &[Row]) -> Result<(), Fail> {
+fn check_all<R: Abort + Threads + Wait + Sync>(
+    rt: &R,
+    alloc: Global,
+    rows: &[Row],
+) -> Result<(), Fail> {
     for row in rows {
         check(rt, alloc, row)?;
     }
@@ -211,7 +217,7 @@ fn check_all<R: Abort + Wait>(rt: &R, alloc: Global, rows: &[Row]) -> Result<(),
 }
 
 // Each row, its input in pieces of at most so many bytes.
-fn check_in_steps<R: Abort + Wait>(
+fn check_in_steps<R: Abort + Threads + Wait + Sync>(
     rt: &R,
     alloc: Global,
     rows: &[Row],
@@ -595,8 +601,9 @@ fn files_that_do_not_open(rt: HostRuntime) -> Result<(), Fail> {
     check_all(&rt, rt.alloc(), &UNOPENED)
 }
 
-/// Words that are no command, sizes that are too small, too large or no multiple of 8, and two files.
-static NO_COMMANDS: [&[&str]; 12] = [
+/// Words that are no command, sizes that are too small, too large or no multiple of 8, too few or too many workers, and
+/// two files for one wire.
+static NO_COMMANDS: [&[&str]; 14] = [
     &[],
     &["serve"],
     &["FLY"],
@@ -609,9 +616,11 @@ static NO_COMMANDS: [&[&str]; 12] = [
     &["serve", "--ring", "1164", "in.resp"],
     &["serve", "--threshold", "in.resp"],
     &["serve", "--fly", "1", "in.resp"],
+    &["serve", "--workers", "0", "in.resp"],
+    &["serve", "--workers", "17", "in.resp"],
 ];
 
-fn check_bad_words<R: Abort + Wait>(
+fn check_bad_words<R: Abort + Threads + Wait + Sync>(
     rt: &R,
     alloc: Global,
     words: &'static [&'static str],
@@ -671,7 +680,7 @@ impl Wire for KeepingWire {
 }
 
 // A run over one wire that keeps back what is put.
-fn check_flush<R: Abort + Wait>(
+fn check_flush<R: Abort + Threads + Wait + Sync>(
     rt: &R,
     alloc: Global,
     flush_fails: bool,
@@ -980,5 +989,141 @@ fn values_of_many_lengths(rt: HostRuntime) -> Result<(), Fail> {
         };
         assert_eq!(rt; sent.len(), 898_429);
     }
+    Ok(())
+}
+
+/// The files that several sessions serve.
+static NAMES: [&str; 3] = ["in0.resp", "in1.resp", "in2.resp"];
+
+// A host that holds these inputs under the names, in order.
+fn files_host(alloc: Global, inputs: &[&[u8]]) -> Result<MemoryHost, Fail> {
+    let mut files = Files::with_room(alloc, 3)?;
+    for (name, input) in NAMES.iter().zip(inputs) {
+        files.push((
+            String::from_str(alloc, name)?,
+            Bytes::from_slice(alloc, input)?,
+        ))?;
+    }
+    Ok(MemoryHost::new(alloc, files, 4096, Fails::new(alloc))?)
+}
+
+fn memory_wires(alloc: Global, count: usize) -> Result<Vec<Box<dyn Wire>>, Fail> {
+    let mut wires: Vec<Box<dyn Wire>> = Vec::new(alloc);
+    for _ in 0..count {
+        let wire = MemoryWire::new(alloc, 4096, Fails::new(alloc))?;
+        wires.push(Box::new(alloc, wire)?)?;
+    }
+    Ok(wires)
+}
+
+/// A SET and a GET of a key of its own in each.
+static OWN_KEYS: [&[u8]; 3] = [
+    b"*3\r\n$3\r\nSET\r\n$2\r\nx0\r\n$1\r\n1\r\n*2\r\n$3\r\nGET\r\n$2\r\nx0\r\n",
+    b"*3\r\n$3\r\nSET\r\n$2\r\nx1\r\n$1\r\n1\r\n*2\r\n$3\r\nGET\r\n$2\r\nx1\r\n",
+    b"*3\r\n$3\r\nSET\r\n$2\r\nx2\r\n$1\r\n1\r\n*2\r\n$3\r\nGET\r\n$2\r\nx2\r\n",
+];
+
+// Three sessions with so many workers.
+fn check_own_keys<R: Abort + Threads + Wait + Sync>(
+    rt: &R,
+    alloc: Global,
+    workers: &str,
+) -> Result<(), Fail> {
+    let mut host = files_host(alloc, &OWN_KEYS)?;
+    let words = typed(
+        alloc,
+        &[
+            "serve",
+            "in0.resp",
+            "in1.resp",
+            "in2.resp",
+            "--workers",
+            workers,
+        ],
+    )?;
+    let wires = memory_wires(alloc, 3)?;
+    let seen = ran(rt, alloc, words.as_slice(), &mut host, wires);
+    assert_eq!(rt; seen.status, 0);
+    assert_eq!(rt; seen.sources, 3);
+    assert_eq!(rt;
+        host.said(),
+        b"session 0 clean taken 49 replies 2 wire whole\n\
+            session 1 clean taken 49 replies 2 wire whole\n\
+            session 2 clean taken 49 replies 2 wire whole\nheld 3 0\n"
+            .as_slice()
+    );
+    expect_sent(rt, seen.wires.as_slice(), b"+OK\r\n$1\r\n1\r\n");
+    Ok(())
+}
+
+#[test]
+fn sessions_with_keys_of_their_own(rt: HostRuntime) -> Result<(), Fail> {
+    for workers in ["1", "2", "3"] {
+        check_own_keys(&rt, rt.alloc(), workers)?;
+    }
+    Ok(())
+}
+
+/// SET a x, and GET a.
+static ONE_KEY: [&[u8]; 2] = [
+    b"*3\r\n$3\r\nSET\r\n$1\r\na\r\n$1\r\nx\r\n",
+    b"*2\r\n$3\r\nGET\r\n$1\r\na\r\n",
+];
+
+// The GET finds the value exactly where it stands behind the SET in the shard's history.
+#[test]
+fn sessions_that_share_a_key(rt: HostRuntime) -> Result<(), Fail> {
+    let alloc = rt.alloc();
+    let mut host = files_host(alloc, &ONE_KEY)?;
+    let words = typed(alloc, &["serve", "in0.resp", "in1.resp"])?;
+    let wires = memory_wires(alloc, 2)?;
+    let seen = ran(&rt, alloc, words.as_slice(), &mut host, wires);
+    assert_eq!(rt; seen.status, 0);
+    assert_eq!(rt; seen.journal.len(), 8);
+    let [first, second] = seen.journal.get(4).as_slice() else {
+        return Err("the history has two entries".into());
+    };
+    assert!(rt; first.session != second.session);
+    let [set, get] = seen.wires.as_slice() else {
+        return Err("there are two wires".into());
+    };
+    assert_eq!(rt; set.shown(), Some(b"+OK\r\n".as_slice()));
+    let found = if first.session == 0 {
+        b"$1\r\nx\r\n".as_slice()
+    } else {
+        b"$-1\r\n".as_slice()
+    };
+    assert_eq!(rt; get.shown(), Some(found));
+    Ok(())
+}
+
+// The file behind one that doesn't open isn't opened.
+#[test]
+fn a_second_file_that_does_not_open(rt: HostRuntime) -> Result<(), Fail> {
+    let alloc = rt.alloc();
+    let mut host = files_host(alloc, &OWN_KEYS)?;
+    let words = typed(alloc, &["serve", "in0.resp", "missing", "in2.resp"])?;
+    let wires = memory_wires(alloc, 3)?;
+    let seen = ran(&rt, alloc, words.as_slice(), &mut host, wires);
+    assert_eq!(rt; seen.status, 2);
+    assert_eq!(rt; seen.detail, Detail::File(1));
+    assert!(rt; seen.is_unserved);
+    assert_eq!(rt; seen.sources, 1);
+    assert_eq!(rt; host.opens(), 2);
+    assert_eq!(rt; host.said(), b"cannot open 1\n".as_slice());
+    expect_sent(&rt, seen.wires.as_slice(), b"");
+    Ok(())
+}
+
+#[test]
+fn fewer_wires_than_files(rt: HostRuntime) -> Result<(), Fail> {
+    let alloc = rt.alloc();
+    let mut host = files_host(alloc, &OWN_KEYS)?;
+    let words = typed(alloc, &["serve", "in0.resp", "in1.resp", "in2.resp"])?;
+    let wires = memory_wires(alloc, 2)?;
+    let seen = ran(&rt, alloc, words.as_slice(), &mut host, wires);
+    assert_eq!(rt; seen.status, 1);
+    assert_eq!(rt; host.opens(), 0);
+    assert_eq!(rt; host.said(), b"bad words\n".as_slice());
     Ok(())
 }

@@ -1,45 +1,45 @@
 // The words of the command line.
-ghost use Rattle.std.specs.Prelude.{◌≡◌, IfOk, IfSome};
+ghost use Rattle.std.specs.Prelude.{◌≡◌, ◌<◌, ◌≤◌, length, IfOk, IfSome};
 ghost use Rattle.std.specs.Option.{option_map};
-ghost use Rattle.serve_one.specs.Opened.{IsSized};
+ghost use Rattle.serve_inputs.specs.Opened.{IsSized};
 ghost use Rattle.serve_words.specs.Task.{IsAllowed, shown};
-ghost use Rattle.flake_program.specs.Task.{only_file, shown_task, sizes_of, task_of};
+ghost use Rattle.flake_program.specs.Task.{job_of, shown_task, sizes_of, task_of};
 
 use flake_base::Memory;
-use serve_one::Sizes;
+use serve_inputs::Sizes;
 use serve_words::{ServeTask, serve_task};
 use std::alloc::Global;
 
-/// The file that is to be served, and the sizes to serve it with.
-#[derive(Clone, Copy, Debug)]
-pub struct FileTask<'a> {
-    pub file: &'a str,
+/// The files that are to be served, the sizes to serve them with, and how many workers do it.
+#[derive(Debug, Drop)]
+pub struct FilesTask<'a> {
+    pub files: Vec<&'a str>,
     pub sizes: Sizes,
+    pub workers: u16,
 }
 
 /// The task that the words ask for; none where they are bad words.
-pub fn file_task<'a>(alloc: Global, words: &'a [String]) -> Result<Option<FileTask<'a>>, Memory>
+pub fn files_task<'a>(alloc: Global, words: &'a [String]) -> Result<Option<FilesTask<'a>>, Memory>
     ensures value { IfOk result (λ task. option_map shown_task task ≡ task_of words.entry.now) }
-    ensures sized { IfOk result (λ task. IfSome task (λ t. IsSized t.sizes)) }
+    ensures sized { IfOk result (λ task. IfSome task (λ t. IsSized (length t.files.items) t.sizes)) }
+    ensures workers { IfOk result (λ task. IfSome task (λ t. (0 < t.workers) × (t.workers ≤ 16))) }
 {
     match serve_task(alloc, words)? {
-        Some(task) => Ok(only_file(&task)),
+        Some(task) => Ok(Some(sized_task(task))),
         None => Ok(None),
     }
 }
 
-// A run serves one file.
-fn only_file<'a>(task: &ServeTask<'a>) -> Option<FileTask<'a>>
-    requires { IsAllowed (shown task.now) }
-    ensures value { option_map shown_task result ≡ only_file (shown task.now) }
-    ensures sized { IfSome result (λ t. IsSized t.sizes) }
+fn sized_task<'a>(task: ServeTask<'a>) -> FilesTask<'a>
+    requires { IsAllowed (shown task) }
+    ensures value { shown_task result ≡ job_of (shown task.entry) }
+    ensures sized { IsSized (length result.files.items) result.sizes }
+    ensures workers { (0 < result.workers) × (result.workers ≤ 16) }
 {
-    match task.files.as_slice() {
-        [file] => Some(FileTask {
-            file: *file,
-            sizes: sizes_of(&task.sizes),
-        }),
-        _ => None,
+    FilesTask {
+        sizes: sizes_of(&task.sizes),
+        workers: task.workers,
+        files: task.files,
     }
 }
 

@@ -1,4 +1,4 @@
--- The command line of `serve`, as a command of the kit's `clap`: five options, and files.
+-- The command line of `serve`, as a command of the kit's `clap`: six options, and files.
 use Rattle.std.specs.Prelude.{ℕ, List, Option, Some, None, codes, if◌then◌else◌, true}
 use Rattle.clap.specs.Walk.{Row, Rule, is_empty}
 use Rattle.clap.specs.Simple.{App, matches_of, new_app, new_rule, on_top, with_rule}
@@ -19,9 +19,9 @@ bare_command = on_top (λ shape. record shape { disable_help_flag = true; disabl
     (new_app (codes "serve"))
 
 abbrev pub sized_command : App
-sized_command = with_rule (with_rule (with_rule (with_rule (with_rule bare_command
+sized_command = with_rule (with_rule (with_rule (with_rule (with_rule (with_rule bare_command
     (option_rule (codes "shards"))) (option_rule (codes "small"))) (option_rule (codes "large")))
-    (option_rule (codes "ring"))) (option_rule (codes "threshold"))
+    (option_rule (codes "ring"))) (option_rule (codes "threshold"))) (option_rule (codes "workers"))
 
 abbrev pub serve_command : App
 serve_command = with_rule sized_command file_rule

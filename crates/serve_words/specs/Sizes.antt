@@ -32,6 +32,10 @@ ring_limits = record { least = 1160; most = 4096; usual = 1160 }
 abbrev pub threshold_limits : Limits
 threshold_limits = record { least = 1; most = 512; usual = 512 }
 
+-- without a word for it, there are as many workers as files
+abbrev pub workers_limits : ℕ → Limits
+workers_limits files = record { least = 1; most = 16; usual = files }
+
 -- all sizes; a ring is a multiple of 8
 abbrev pub all_sizes : Option ℕ → Option ℕ → Option ℕ → Option ℕ → Option ℕ → Option Sizes
 all_sizes (Some shards) (Some small) (Some large) (Some ring) (Some threshold) =

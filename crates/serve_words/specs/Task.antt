@@ -2,31 +2,38 @@
 use Rattle.std.specs.Prelude.{ℕ, Bool, List, [], ◌∷◌, Option, Some, None, codes, if◌then◌else◌, map, length, unwrap_or}
 use Rattle.std.specs.Prelude.{◌≤◌, ◌*◌, ◌&&◌, false, nat_le, String, string_bytes}
 use Rattle.std.specs.Global.{Global}
-use Rattle.std.specs.Option.{option_and_then}
+use Rattle.std.specs.Option.{option_and_then, option_map}
 use Rattle.std.specs.Str.{bytes_eq}
 use Rattle.clap.specs.Walk.{Row, all_of}
 use Rattle.serve_words.specs.Command.{rows_in}
-use Rattle.serve_words.specs.Sizes.{AreAllowed, sizes_in}
+use Rattle.serve_words.specs.Sizes.{AreAllowed, size_in, sizes_in, workers_limits}
 use Rattle.serve_words.specs.declared.sizes.Sizes.{Sizes}
 use Rattle.serve_words.specs.declared.task.ServeTask.{ServeTask}
 
--- the names of the files that are to be served, in order, and the sizes to serve them with
+-- the names of the files that are to be served, in order, the sizes to serve them with, and how many workers do it
 pub record Task : Type 0 where
   pub files : List (List ℕ)
   pub sizes : Sizes
+  pub workers : ℕ
 
 -- there are 1 to 16 files, and 128 small buffers for each
 abbrev pub fits : List (List ℕ) → Sizes → Bool
 fits files sizes = nat_le 1 (length files) && nat_le (length files) 16 && nat_le (128 * length files) sizes.small
 
-abbrev pub task_for : List (List ℕ) → Sizes → Option Task
-task_for files sizes = if fits files sizes then Some (record { files = files; sizes = sizes }) else None
+abbrev pub workers_in : List (List ℕ) → List Row → Option ℕ
+workers_in files rows = size_in (codes "workers") (workers_limits (length files)) rows
+
+abbrev pub task_for : List (List ℕ) → List Row → Sizes → Option Task
+task_for files rows sizes =
+    if fits files sizes
+    then option_map (λ workers. record { files = files; sizes = sizes; workers = workers }) (workers_in files rows)
+    else None
 
 abbrev pub files_in : List Row → List (List ℕ)
 files_in rows = unwrap_or (all_of (codes "file") rows) []
 
 abbrev pub task_in : List Row → Option Task
-task_in rows = option_and_then (task_for (files_in rows)) (sizes_in rows)
+task_in rows = option_and_then (task_for (files_in rows) rows) (sizes_in rows)
 
 -- the first word is `serve`
 abbrev pub is_serve : List (List ℕ) → Bool
@@ -42,10 +49,15 @@ texts_of words = map (λ word. string_bytes word) words
 
 -- the task, as the code holds it
 abbrev pub shown : ServeTask → Task
-shown task = record { files = map (λ file. file.now) task.files.items; sizes = task.sizes }
+shown task = record {
+  files = map (λ file. file.now) task.files.items;
+  sizes = task.sizes;
+  workers = task.workers;
+}
 
 -- a task that a run can be given
 pub record IsAllowed (task : Task) : Type 0 where
   pub sizes : AreAllowed task.sizes
   pub files : (1 ≤ length task.files) × (length task.files ≤ 16)
+  pub workers : (1 ≤ task.workers) × (task.workers ≤ 16)
   pub small : 128 * length task.files ≤ task.sizes.small

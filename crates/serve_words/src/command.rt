@@ -44,7 +44,8 @@ fn sized_command<'a>(alloc: Global) -> Result<Command<'a>, AllocError>
         .arg(size_option(alloc, "small"))?
         .arg(size_option(alloc, "large"))?
         .arg(size_option(alloc, "ring"))?
-        .arg(size_option(alloc, "threshold"))?;
+        .arg(size_option(alloc, "threshold"))?
+        .arg(size_option(alloc, "workers"))?;
     Ok(command)
 }
 

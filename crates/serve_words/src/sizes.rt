@@ -1,8 +1,8 @@
-ghost use Rattle.std.specs.Prelude.{◌≡◌, ◌≤◌, IfSome, Some, None};
+ghost use Rattle.std.specs.Prelude.{◌≡◌, ◌≤◌, IfSome, Some, None, codes};
 ghost use Rattle.clap.specs.Matches.{found_of};
 ghost use Rattle.clap.specs.Walk.{rows_of};
 ghost use Rattle.flake_model.specs.Range.{signed_of};
-ghost use Rattle.serve_words.specs.Sizes.{AreAllowed, size_in, sizes_in, within};
+ghost use Rattle.serve_words.specs.Sizes.{AreAllowed, size_in, sizes_in, within, workers_limits};
 
 use clap::ArgMatches;
 use range_pick::read_signed;
@@ -52,6 +52,12 @@ const RING: Limits = Limits {
     usual: 1160,
 };
 
+const WORKERS: Limits = Limits {
+    least: 1,
+    most: 16,
+    usual: 1,
+};
+
 const THRESHOLD: Limits = Limits {
     least: 1,
     most: 512,
@@ -78,6 +84,20 @@ pub(crate) fn sizes_in(matches: &ArgMatches<'_>) -> Option<Sizes>
         ring,
         threshold,
     })
+}
+
+/// How many workers serve so many files: one for each, where the words don't say.
+pub(crate) fn workers_in(matches: &ArgMatches<'_>, files: u16) -> Option<u16>
+    requires { (1 ≤ files) × (files ≤ 16) }
+    ensures value { result ≡ size_in (codes "workers") (workers_limits files) (rows_of (found_of matches.now)) }
+    ensures within { IfSome result (λ workers. (1 ≤ workers) × (workers ≤ 16)) }
+{
+    let limits = Limits {
+        usual: u32::from(files),
+        ..WORKERS
+    };
+    let workers = size_in(matches, "workers", limits)?;
+    Some(workers as u16)
 }
 
 // The size that an option gives.

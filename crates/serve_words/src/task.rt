@@ -3,17 +3,18 @@ ghost use Rattle.clap.specs.Matches.{found_of};
 ghost use Rattle.clap.specs.Walk.{rows_of};
 ghost use Rattle.serve_words.specs.Task.{IsAllowed, files_in, fits, shown, task_in};
 
-use crate::sizes::{Sizes, sizes_in};
+use crate::sizes::{Sizes, sizes_in, workers_in};
 use clap::ArgMatches;
 use flake_base::Memory;
 use std::alloc::{AllocError, Global};
 
-/// The files that are to be served, and the sizes to serve them with.
+/// The files that are to be served, the sizes to serve them with, and how many workers do it.
 #[derive(Debug, Drop)]
 pub struct ServeTask<'a> {
     /// Their names, in the order of the words.
     pub files: Vec<&'a str>,
     pub sizes: Sizes,
+    pub workers: u16,
 }
 
 /// The task that the words ask for, if their sizes and the number of files fit.
@@ -28,11 +29,17 @@ pub(crate) fn task_in<'a>(
         return Ok(None);
     };
     let files = files_in(alloc, matches)?;
-    if fits(files.as_slice(), &sizes) {
-        Ok(Some(ServeTask { files, sizes }))
-    } else {
-        Ok(None)
+    if !fits(files.as_slice(), &sizes) {
+        return Ok(None);
     }
+    let Some(workers) = workers_in(matches, files.len() as u16) else {
+        return Ok(None);
+    };
+    Ok(Some(ServeTask {
+        files,
+        sizes,
+        workers,
+    }))
 }
 
 fn files_in<'a>(alloc: Global, matches: &ArgMatches<'a>) -> Result<Vec<&'a str>, AllocError>

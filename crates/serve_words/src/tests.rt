@@ -18,28 +18,33 @@ struct Row {
     words: &'static [&'static str],
     files: &'static [&'static str],
     sizes: Sizes,
+    workers: u16,
 }
 
-static ACCEPTED: [Row; 12] = [
+static ACCEPTED: [Row; 14] = [
     Row {
         words: &["serve", "in.resp"],
         files: &["in.resp"],
         sizes: USUAL,
+        workers: 1,
     },
     Row {
         words: &["serve", "b", "a", "b"],
         files: &["b", "a", "b"],
         sizes: USUAL,
+        workers: 3,
     },
     Row {
         words: &["serve", "serve", "-", ""],
         files: &["serve", "-", ""],
         sizes: USUAL,
+        workers: 3,
     },
     Row {
         words: &["serve", "--", "--ring", "--", "none"],
         files: &["--ring", "--", "none"],
         sizes: USUAL,
+        workers: 3,
     },
     Row {
         words: &[
@@ -65,6 +70,7 @@ static ACCEPTED: [Row; 12] = [
             ring: 4096,
             threshold: 1,
         },
+        workers: 2,
     },
     Row {
         words: &[
@@ -84,6 +90,7 @@ static ACCEPTED: [Row; 12] = [
             ring: 1160,
             threshold: 512,
         },
+        workers: 1,
     },
     Row {
         words: &["serve", "--ring=1168", "a"],
@@ -92,6 +99,7 @@ static ACCEPTED: [Row; 12] = [
             ring: 1168,
             ..USUAL
         },
+        workers: 1,
     },
     Row {
         words: &["serve", "--threshold", "10", "a"],
@@ -100,11 +108,13 @@ static ACCEPTED: [Row; 12] = [
             threshold: 10,
             ..USUAL
         },
+        workers: 1,
     },
     Row {
         words: &["serve", "--large", "2", "a"],
         files: &["a"],
         sizes: Sizes { large: 2, ..USUAL },
+        workers: 1,
     },
     Row {
         words: &["serve", "--small", "128", "a"],
@@ -113,6 +123,7 @@ static ACCEPTED: [Row; 12] = [
             small: 128,
             ..USUAL
         },
+        workers: 1,
     },
     Row {
         words: &["serve", "--shards", "16", "a"],
@@ -121,6 +132,7 @@ static ACCEPTED: [Row; 12] = [
             shards: 16,
             ..USUAL
         },
+        workers: 1,
     },
     Row {
         words: &[
@@ -134,11 +146,24 @@ static ACCEPTED: [Row; 12] = [
             small: 2048,
             ..USUAL
         },
+        workers: 16,
+    },
+    Row {
+        words: &["serve", "--workers", "1", "a", "b"],
+        files: &["a", "b"],
+        sizes: USUAL,
+        workers: 1,
+    },
+    Row {
+        words: &["serve", "a", "--workers=16", "b"],
+        files: &["a", "b"],
+        sizes: USUAL,
+        workers: 16,
     },
 ];
 
 /// Words that ask for nothing.
-static REFUSED: [&[&str]; 43] = [
+static REFUSED: [&[&str]; 49] = [
     &[],
     &[""],
     &["serve"],
@@ -181,6 +206,12 @@ static REFUSED: [&[&str]; 43] = [
     &["serve", "--large", "0", "a"],
     &["serve", "--large", "16385", "a"],
     &["serve", "--large", "18446744073709551617", "a"],
+    &["serve", "--workers", "0", "a"],
+    &["serve", "--workers", "17", "a"],
+    &["serve", "--workers", "01", "a"],
+    &["serve", "--workers=", "a"],
+    &["serve", "--worker", "1", "a"],
+    &["serve", "--workers", "1", "--workers", "1", "a"],
     &[
         "serve", "a", "b", "c", "d", "e", "f", "g", "h", "i", "j", "k", "l", "m", "n", "o", "p",
         "q",
@@ -206,6 +237,7 @@ fn words_that_ask_for_a_task(rt: HostRuntime) -> Result<(), Fail> {
         let words = typed(rt.alloc(), row.words)?;
         let task = asked(rt.alloc(), words.as_slice())?.ok_or("refused")?;
         assert_eq!(rt; task.sizes, row.sizes);
+        assert_eq!(rt; task.workers, row.workers);
         assert_eq!(rt; task.files.as_slice(), row.files);
     }
     Ok(())

@@ -41,7 +41,7 @@ use mathlib.Core.Logic.{dite}
 use native.Mathlib.Decide.{ℕ_discrete}
 use Rattle.std.specs.List.{AllZip}
 use Rattle.std.proofs.lemmas.List.{get_or-set_same, get_or-set_other, length-replicate}
-use Rattle.std.proofs.lemmas.List.Elements.{All-nil, All-cons, All-head}
+use Rattle.std.proofs.lemmas.List.Elements.{All-nil, All-cons, All-head, All-tail}
 use Rattle.std.proofs.lemmas.Slice.Zip.{AllZip-long}
 use Rattle.std.proofs.Math.Seq.{take-append_seam}
 use Rattle.view_sums.specs.Total.{same}
@@ -53,6 +53,16 @@ use Rattle.work_queue.proofs.Deals.{times-append}
 module _ {A : Type 0} where
   pub all-first : (P : A → Type 0) (xs ys : List A) (x : A) → All P xs → xs ≡ x ∷ ys → P x
   all-first P xs ys x all is = All-head P x ys (subst (All P) is all)
+
+  -- what is true of each is true of the one at a number
+  pub all-at : (P : A → Type 0) (xs : List A) (n : ℕ) (x : A) → All P xs → IsAt xs n x → P x
+  all-at P [] n x all at = absurd (omega (arith, at.0))
+  all-at P (y ∷ ys) zero x all at = subst P (at.1 y) (All-head P y ys all)
+  all-at P (y ∷ ys) (suc n) x all at = all-at P ys n x (All-tail P y ys all) (omega (arith, at.0), at.1)
+
+  pub all-always : (P : A → Type 0) → ((x : A) → P x) → (xs : List A) → All P xs
+  all-always P h [] = All-nil P
+  all-always P h (x ∷ xs) = All-cons P x xs (h x) (all-always P h xs)
 
   pub zip-at : (R : A → A → Type 0) (xs ys : List A) → length ys ≡ length xs
       → ((k : ℕ) (d : A) → k < length xs → R (slice_index_or xs k d) (slice_index_or ys k d)) → AllZip R xs ys

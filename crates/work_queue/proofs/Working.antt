@@ -62,15 +62,17 @@ module _ {T X : Type 0} (gives : T → X → Type 0) where
       All-cons (λ (d : Done X). d.number < length all) d ds given.0.1.0 (given-below all ds given.1)
 
   module _ {Q A : Type 0} (q : Slotted (Option (Numbered T)) (Doing (Numbered T) (Hand T)) Q A) (jobs : List T) where
-    new-ready : (d : Desk T X) → IsNew q jobs d → IsReady q d
-    new-ready d h = record {
+    new-ready : (may : T → Type 0) → All may jobs → (d : Desk T X) → IsNew q jobs d → IsReady q may d
+    new-ready may calls d h = record {
       pass = h.pass;
       parts = omega (arith, ap (λ (v : Hand T). v.parts) h.is);
       done = (h.done.0, omega (arith, h.done.1, ap (λ (v : Hand T). length v.all) h.is));
+      calls = subst (λ (v : Hand T). All may v.all) (sym h.is) calls;
     }
 
-    pub all-ready : (ds : List (Desk T X)) → All (IsNew q jobs) ds → All (IsReady q) ds
-    all-ready ds all = All-weaker (IsNew q jobs) (IsReady q) new-ready ds all
+    pub all-ready : (may : T → Type 0) → All may jobs → (ds : List (Desk T X)) → All (IsNew q jobs) ds
+        → All (IsReady q may) ds
+    all-ready may calls ds all = All-weaker (IsNew q jobs) (IsReady q may) (new-ready may calls) ds all
 
     -- a desk that was new, and what was done there
     this-given : (old new : Desk T X) → IsNew q jobs old → IsLeft q gives old new → Given gives jobs new.done.items

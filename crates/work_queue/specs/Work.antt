@@ -39,11 +39,12 @@ module _ {T X : Type 0} where
       pub is : view d.pass ≡ hand 1 all []
       pub done : IsRoomy (length all) d.done
 
-    -- a desk at which work may begin
-    pub record IsReady (d : Desk T X) : Type 0 where
+    -- a desk at which work may begin, by a call that may be made at each job
+    pub record IsReady (may : T → Type 0) (d : Desk T X) : Type 0 where
       pub pass : IsPassOf q d.pass
       pub parts : 0 < (view d.pass).parts
       pub done : IsRoomy (length (view d.pass).all) d.done
+      pub calls : All may (view d.pass).all
 
     -- a desk at which work was done
     pub record IsLeft (gives : T → X → Type 0) (old new : Desk T X) : Type 0 where

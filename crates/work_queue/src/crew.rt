@@ -32,7 +32,7 @@ pub(crate) fn by_workers<
     requires room { (vec_len dones ≤ 16) × (desks.items ≡ []) × (vec_len dones ≤ vec_capacity desks) }
     requires dones { All (IsRoomy (length (view pass.old).all)) dones.items }
     requires slots { slots.old ≡ replicate (length (view pass.old).all) None }
-    requires calls { F.IsAlwaysCallable f.now }
+    requires calls { All (λ job. F.pre f.now job) (view pass.old).all }
     ensures pass { IsPassOf queue.now pass.new }
     ensures parts { (view pass.new).parts ≡ 1024 }
     ensures all { (view pass.new).all ≡ (view pass.old).all }
@@ -54,7 +54,7 @@ fn worked<R: Threads + Wait + Sync, T: Send + Drop, X: Send + Drop, F: Fn(T) -> 
     requires pass { IsPassOf queue.now pass.old × (vec_len dones < (view pass.old).parts) }
     requires room { (desks.items ≡ []) × (vec_len dones ≤ vec_capacity desks) }
     requires dones { All (IsRoomy (length (view pass.old).all)) dones.items }
-    requires calls { F.IsAlwaysCallable f.now }
+    requires calls { All (λ job. F.pre f.now job) (view pass.old).all }
     ensures pass { HasLent queue.now (vec_len dones) pass.old pass.new }
     ensures desks { Gathered queue.now (λ job r. F.post f.now job r) (view pass.old).all (vec_len dones) result.items }
 {
@@ -75,7 +75,7 @@ pub(crate) fn finish<R: Wait, T: Send + Drop, X: Drop, F: Fn(T) -> X>(
     requires pass { IsPassOf queue.now pass × ((view pass).parts ≡ 1024) }
     requires done { IsRoomy (length (view pass).all) done }
     requires slots { Filled (λ job r. F.post f.now job r) (view pass).all (view pass).taken slots.old }
-    requires calls { F.IsAlwaysCallable f.now }
+    requires calls { All (λ job. F.pre f.now job) (view pass).all }
     ensures { AllFilled (λ job r. F.post f.now job r) (view pass).all slots.new }
 {
     let mut last = Desk { pass, done };

@@ -23,8 +23,7 @@ pub(crate) fn work<R: Wait, T: Send + Drop, X: Drop, F: Fn(T) -> X>(
     desk: &mut Desk<T, X>,
     f: &F,
 )
-    requires ready { IsReady queue.now desk.old }
-    requires calls { F.IsAlwaysCallable f.now }
+    requires { IsReady queue.now (λ job. F.pre f.now job) desk.old }
     ensures { IsLeft queue.now (λ job r. F.post f.now job r) desk.old desk.new }
 {
     for _ in rt.forever() {
@@ -43,8 +42,7 @@ pub(crate) fn all_work<
     X: Send + Drop,
     F: Fn(T) -> X + Sync,
 >(rt: &R, queue: &Jobs<T>, desks: &mut [Desk<T, X>], f: &F)
-    requires ready { All (IsReady queue.now) desks.old }
-    requires calls { F.IsAlwaysCallable f.now }
+    requires { All (IsReady queue.now (λ job. F.pre f.now job)) desks.old }
     ensures { AllZip (IsLeft queue.now (λ job r. F.post f.now job r)) desks.old desks.new }
 {
     if desks.is_empty() {
@@ -56,7 +54,7 @@ pub(crate) fn all_work<
         desks,
         threads,
         &|_place: usize, desk: &mut Desk<T, X>|
-            requires { IsReady queue.now desk.old × F.IsAlwaysCallable f.now }
+            requires { IsReady queue.now (λ job. F.pre f.now job) desk.old }
             ensures { IsLeft queue.entry.now (λ job r. F.post f.entry.now job r) desk.old desk.new }
         { work(rt, queue, desk, f) },
     );

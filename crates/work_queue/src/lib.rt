@@ -11,4 +11,4 @@ mod slots;
 mod tests;
 mod workers;
 
-pub use workers::in_workers;
+pub use workers::{in_workers, jobs_in_workers};

@@ -1,5 +1,5 @@
 // All the memory, and then all the work.
-ghost use Rattle.std.specs.Prelude.{◌≡◌, ◌<◌, [], ◌≤◌, vec_len, IfOk, IfErr};
+ghost use Rattle.std.specs.Prelude.{◌≡◌, ◌<◌, [], ◌≤◌, All, vec_len, IfOk, IfErr};
 ghost use Rattle.std.specs.List.{AllZip};
 ghost use Rattle.crossbeam_queue.specs.Passes.{view, IsPassOf, ruled_capacity};
 ghost use Rattle.work_queue.specs.Dealt.{hand};
@@ -34,6 +34,21 @@ pub fn in_workers<R: Threads + Wait + Sync, T: Send + Drop, X: Send + Drop, F: F
     ensures each { IfOk result (λ results. AllZip (λ job r. F.post f.now job r) jobs.items results.items) }
     ensures back { IfErr result (λ back. back ≡ jobs) }
 {
+    jobs_in_workers(rt, alloc, jobs, workers, f)
+}
+
+/// As `in_workers`, for an `f` that asks something of a job, which is true of each of these.
+pub fn jobs_in_workers<
+    R: Threads + Wait + Sync,
+    T: Send + Drop,
+    X: Send + Drop,
+    F: Fn(T) -> X + Sync,
+>(rt: &R, alloc: Global, jobs: Vec<T>, workers: u16, f: &F) -> Result<Vec<X>, Vec<T>>
+    requires workers { (0 < workers) × (workers ≤ 16) }
+    requires calls { All (λ job. F.pre f.now job) jobs.items }
+    ensures each { IfOk result (λ results. AllZip (λ job r. F.post f.now job r) jobs.items results.items) }
+    ensures back { IfErr result (λ back. back ≡ jobs) }
+{
     if jobs.is_empty() {
         return Ok(Vec::new(alloc));
     }
@@ -59,7 +74,7 @@ fn run<R: Threads + Wait + Sync, T: Send + Drop, X: Send + Drop, F: Fn(T) -> X +
     requires pass { IsPassOf queue.now pass × (view pass ≡ hand 1024 [] []) }
     requires queue { vec_len jobs ≤ ruled_capacity queue.now }
     requires room { (vec_len room.dones ≤ 16) × HasRoom (vec_len room.dones) (vec_len jobs) room }
-    requires calls { F.IsAlwaysCallable f.now }
+    requires calls { All (λ job. F.pre f.now job) jobs.items }
     ensures { AllZip (λ job r. F.post f.now job r) jobs.items result.items }
 {
     let Room {

@@ -19,13 +19,23 @@ use Rattle.work_queue.specs.Dealt.{Given, IsAt}
 use Rattle.work_queue.specs.declared.hand.Done.{Done}
 use Rattle.work_queue.specs.declared.hand.Hand.{Hand}
 use Rattle.work_queue.proofs.Deals.{pops, learns, given-more}
+use Rattle.work_queue.proofs.Placing.{all-at}
 use Rattle.work_queue.proofs.desk.work.Goals as goal
 
 pub pop_as-requires-clause-rule : goal.pop_as-requires-clause-rule
 pop_as-requires-clause-rule g c = (
-  pops _ _ (omega (arith, c.requires.ready.parts, c.loop.invariant.parts)),
+  pops _ _ (omega (arith, c.requires.parts, c.loop.invariant.parts)),
   learns _ _,
 )
+
+pub f-result-requires : goal.f-result-requires
+f-result-requires g c =
+    let said = c.in-Some-pop_as.ensures.rule in
+    let number = c.in-Some-pop_as.field-0.number in
+    let job = c.in-Some-pop_as.field-0.job in
+    let there = subst (λ t. IsAt t number job) c.loop.invariant.all said.1 in
+    let may : g.row.T.Denot → Type 0 = λ x. goal.F-pre g c.args.f.now x in
+    all-at may (view c.args.desk.now.pass).all number job c.requires.calls there
 
 pub loop-preserved : goal.loop-preserved
 loop-preserved g c =

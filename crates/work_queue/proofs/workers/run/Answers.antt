@@ -27,3 +27,9 @@ returns g c =
     let empty = c.requires.room.1.slots ∙ ap (λ n. replicate n None) count in
     let back = row-back gives jobs now c.args.room.slots.items c.args.room.slots.len filled empty (search rules) in
     each-result gives jobs now c.emptied.result.items (c.emptied.ensures ∙ back) filled
+
+pub finish-requires-clause-calls : goal.finish-requires-clause-calls
+finish-requires-clause-calls g c κs within =
+    let may : g.row.T.Denot → Type 0 = λ job. goal.F-pre g c.args.f.now job in
+    let all = c.by_workers.ensures.all ∙ ap (λ (v : Hand g.row.T.Denot). v.all) c.push_all-pass.ensures.1 in
+    subst (All may) (sym all) c.requires.calls

@@ -1,0 +1,17 @@
+use Rattle.std.proofs.Common.{◌++◌, ◌≡◌, ◌+◌, ◌≤◌, All, length, vec_len, vec_capacity}
+use Rattle.std.specs.List.{AllZip}
+use Rattle.std.specs.Vec.Iter.{into_iter_items, into_iter_len}
+use Rattle.session_workers.specs.Jobs.{IsNewJob, IsDone}
+use Rattle.serve_inputs.proofs.jobs.serve_here.Given as goal
+
+abbrev pub invariant-loop-job : goal.invariant-loop-job
+invariant-loop-job g l = record {
+  all : l.yielded ++ into_iter_items l.job-iterator ≡ l.fn.jobs.items;
+  left : into_iter_len l.job-iterator ≡ length (into_iter_items l.job-iterator);
+  done : AllZip (λ job done. IsDone (λ w p r. goal.PUT-post g l.put w p r) (λ w r. goal.FLUSH-post g l.flush w r)
+      g.P.PoolName.sizes g.N.BookName.sizes.shards job.line.session job.line.pump job.wire done.account.end
+      done.account.mine done.account.seat done.account.pump done.wire) l.yielded l.dones.items;
+  rest : All (λ job. IsNewJob g.P.PoolName.sizes job.line.session job.line.pump job.line.device.end
+      job.line.device.failed) (into_iter_items l.job-iterator);
+  room : vec_len l.dones + length (into_iter_items l.job-iterator) ≤ vec_capacity l.dones;
+}

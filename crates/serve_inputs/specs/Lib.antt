@@ -1,0 +1,5 @@
+pub mod Ran
+pub mod Opened
+pub mod Joined
+pub mod Passing
+pub mod Together

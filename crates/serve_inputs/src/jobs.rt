@@ -1,0 +1,137 @@
+// The sessions with their sources and wires, before they are served and after.
+ghost use Rattle.std.specs.Prelude.{◌≡◌, ◌<◌, ◌≤◌, ◌++◌, [], All, length, map, vec_len, vec_capacity};
+ghost use Rattle.std.specs.List.{AllZip};
+ghost use Rattle.std.specs.Vec.Iter.{into_iter_items};
+ghost use Rattle.session_workers.specs.Jobs.{IsNewJob, IsDone};
+ghost use Rattle.serve_inputs.specs.Opened.{IsDesk};
+
+use crate::desk::Desk;
+use command_exec::Shop;
+use command_pump::Pump;
+use flake_base::Source;
+use order_book::BookName;
+use pinned_pool::PoolName;
+use session_pass::Gate;
+use session_serve::{Line, serve_in_turns};
+use session_workers::{Done, Job, serve_all};
+use std::alloc::Global;
+use std::sync::Wait;
+use std::thread::Threads;
+use std::vec::IntoIter;
+
+/// Each desk gets the source and the wire at its place. Wires past them are left.
+pub(crate) fn line_up<N: BookName, P: PoolName + Send, S: Source + Drop, W: Drop>(
+    alloc: Global,
+    desks: Vec<Desk<N, P>>,
+    sources: Vec<S>,
+    wires: Vec<W>,
+    jobs: Vec<Job<N, P, S, W>>,
+) -> (Vec<Job<N, P, S, W>>, IntoIter<W>)
+    requires desks { All (λ d. IsDesk P.sizes d.session d.device.end d.device.failed) desks.items }
+    requires sources { length sources.items ≡ length desks.items }
+    requires wires { length desks.items ≤ length wires.items }
+    requires room { (jobs.items ≡ []) × (length desks.items ≤ vec_capacity jobs) }
+    ensures fresh { All (λ job. IsNewJob P.sizes job.line.session job.line.pump job.line.device.end
+        job.line.device.failed) result.0.items }
+    ensures sessions { map (λ job. job.line.session) result.0.items ≡ map (λ d. d.session) desks.items }
+    ensures lefts { map (λ job. job.line.pump.left) result.0.items ≡ map (λ s. S.left s) sources.items }
+    ensures faults { map (λ job. job.line.pump.faults) result.0.items ≡ map (λ s. S.read_faults s) sources.items }
+    ensures wires { map (λ job. job.wire) result.0.items ++ into_iter_items result.1 ≡ wires.items }
+{
+    let mut jobs = jobs;
+    let mut more_sources = sources.into_iter();
+    let mut more_wires = wires.into_iter();
+    for desk in desks {
+        let Some(source) = more_sources.next() else {
+            unreachable!()
+        };
+        let Some(wire) = more_wires.next() else {
+            unreachable!()
+        };
+        let Desk {
+            session,
+            device,
+            room,
+        } = desk;
+        let pump = Pump::new(alloc, source);
+        let line = Line {
+            session,
+            pump,
+            device,
+        };
+        jobs.push_reserved(Job { line, room, wire });
+    }
+    (jobs, more_wires)
+}
+
+// One after another on this thread.
+fn serve_here<
+    R: Wait,
+    N: BookName,
+    P: PoolName + Send,
+    S: Source + Drop,
+    G: Gate,
+    W: Drop,
+    PUT: Fn(W, &[u8]) -> (W, bool),
+    FLUSH: Fn(W) -> (W, bool),
+>(
+    rt: &R,
+    shop: &Shop<'_, N, P>,
+    jobs: Vec<Job<N, P, S, W>>,
+    dones: Vec<Done<N, P, S, W>>,
+    gate: &G,
+    put: &PUT,
+    flush: &FLUSH,
+) -> Vec<Done<N, P, S, W>>
+    requires calls { PUT.IsAlwaysCallable put.now × FLUSH.IsAlwaysCallable flush.now }
+    requires fresh { All (λ job. IsNewJob P.sizes job.line.session job.line.pump job.line.device.end
+        job.line.device.failed) jobs.items }
+    requires room { (dones.items ≡ []) × (length jobs.items ≤ vec_capacity dones) }
+    ensures { AllZip (λ job done. IsDone (λ w p r. PUT.post put.now w p r)
+        (λ w r. FLUSH.post flush.now w r) P.sizes N.sizes.shards job.line.session job.line.pump job.wire
+        done.account.end done.account.mine done.account.seat done.account.pump done.wire) jobs.items result.items }
+{
+    let mut dones = dones;
+    for job in jobs {
+        let Job { line, room, wire } = job;
+        let (wire, account) = serve_in_turns(rt, shop, line, room, gate, wire, put, flush);
+        dones.push_reserved(Done { account, wire });
+    }
+    dones
+}
+
+/// All jobs are done: by the workers, and where memory is wanting for these, on this thread.
+pub(crate) fn serve_jobs<
+    R: Threads + Wait + Sync,
+    N: BookName + Send + Sync,
+    P: PoolName + Send + Sync,
+    S: Source + Send + Drop,
+    G: Gate,
+    W: Send + Drop,
+    PUT: Fn(W, &[u8]) -> (W, bool) + Sync,
+    FLUSH: Fn(W) -> (W, bool) + Sync,
+>(
+    rt: &R,
+    alloc: Global,
+    shop: &Shop<'_, N, P>,
+    jobs: Vec<Job<N, P, S, W>>,
+    dones: Vec<Done<N, P, S, W>>,
+    workers: u16,
+    gate: &G,
+    put: &PUT,
+    flush: &FLUSH,
+) -> Vec<Done<N, P, S, W>>
+    requires calls { PUT.IsAlwaysCallable put.now × FLUSH.IsAlwaysCallable flush.now }
+    requires workers { (0 < workers) × (workers ≤ 16) }
+    requires fresh { All (λ job. IsNewJob P.sizes job.line.session job.line.pump job.line.device.end
+        job.line.device.failed) jobs.items }
+    requires room { (dones.items ≡ []) × (length jobs.items ≤ vec_capacity dones) }
+    ensures { AllZip (λ job done. IsDone (λ w p r. PUT.post put.now w p r)
+        (λ w r. FLUSH.post flush.now w r) P.sizes N.sizes.shards job.line.session job.line.pump job.wire
+        done.account.end done.account.mine done.account.seat done.account.pump done.wire) jobs.items result.items }
+{
+    match serve_all(rt, alloc, shop, jobs, workers, gate, put, flush) {
+        Ok(dones) => dones,
+        Err(jobs) => serve_here(rt, shop, jobs, dones, gate, put, flush),
+    }
+}

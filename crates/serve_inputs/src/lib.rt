@@ -1,0 +1,20 @@
+//! Sources, from one to 16, served by workers over a new pool, book and store, and over a ring, a session and a device
+//! for each: all is opened, the sources are served to their ends, all is closed, and what that says together stands in
+//! one record.
+#![tactic(auto)]
+
+mod closing;
+mod crop;
+mod desk;
+mod house;
+mod jobs;
+mod passing;
+mod run;
+mod seating;
+mod serving;
+mod sizes;
+mod space;
+
+pub use run::serve_inputs;
+pub use serving::Served;
+pub use sizes::Sizes;

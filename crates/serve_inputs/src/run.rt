@@ -1,0 +1,118 @@
+// Some sources, from nothing to nothing.
+ghost use Rattle.std.specs.Prelude.{◌≡◌, ◌≢◌, ◌<◌, ◌≤◌, All, length, map, IfOk, IfErr};
+ghost use Rattle.shard_store.specs.Journals.{histories};
+ghost use Rattle.serve_inputs.specs.Opened.{IsSized, IsPool, IsBook, pool_sizes};
+ghost use Rattle.serve_inputs.specs.Ran.{AreReads, RanAll};
+
+use crate::house::open_house;
+use crate::passing::SESSION_CREDITS;
+use crate::serving::{Room, Served, serve_house};
+use crate::sizes::Sizes;
+use flake_base::{End, Source};
+use order_book::{BookBlank, BookName};
+use pinned_pool::{PoolBlank, PoolName};
+use session_pass::Gate;
+use std::alloc::Global;
+use std::marker::Brand;
+use std::sync::Wait;
+use std::thread::Threads;
+
+// The names of pool and book are the caller's pick.
+fn serve_named<
+    R: Threads + Wait + Sync,
+    N: BookName + Send + Sync,
+    P: PoolName + Send + Sync,
+    S: Source + Send + Drop,
+    G: Gate,
+    W: Send + Drop,
+    PUT: Fn(W, &[u8]) -> (W, bool) + Sync,
+    FLUSH: Fn(W) -> (W, bool) + Sync,
+>(
+    rt: &R,
+    alloc: Global,
+    sizes: &Sizes,
+    workers: u16,
+    pool: PoolBlank,
+    book: BookBlank,
+    sources: Vec<S>,
+    wires: Vec<W>,
+    gate: &G,
+    put: &PUT,
+    flush: &FLUSH,
+) -> Result<Served<S, W>, (Vec<S>, Vec<W>)>
+    requires calls { PUT.IsAlwaysCallable put.now × FLUSH.IsAlwaysCallable flush.now }
+    requires sized { IsSized (length sources.items) sizes.now }
+    requires workers { (0 < workers) × (workers ≤ 16) }
+    requires wires { length sources.items ≤ length wires.items }
+    requires pool { (P.table ≡ pool.table) × (P.sizes ≡ pool.sizes)
+        × IsPool (length sources.items) sizes.now P.sizes }
+    requires book { (N.table ≡ book.table) × (N.sizes ≡ book.sizes)
+        × IsBook (length sources.items) sizes.now N.sizes }
+    ensures ran { IfOk result (λ r. RanAll (λ w p r. PUT.post put.now w p r) (λ w r. FLUSH.post flush.now w r)
+        (pool_sizes (length sources.items) sizes.now) (map (λ s. S.left s) sources.items)
+        (map (λ s. S.left s) r.sources.items) r.ends.items (histories r.journal.items) r.pool wires.items
+        r.wires.items) }
+    ensures shards { IfOk result (λ r. length r.journal.items ≡ sizes.now.shards) }
+    ensures reads { IfOk result (λ r. AreReads r.ends.items (map (λ s. S.read_faults s) sources.items)
+        (map (λ s. S.read_faults s) r.sources.items)) }
+    ensures to_the_end { IfOk result (λ r. All (λ end. end.end ≢ End.Left) r.ends.items) }
+    ensures refused { IfErr result (λ e. (e.0.items ≡ sources.items) × (e.1.items ≡ wires.items)) }
+{
+    let Ok(space) = Room::<N, P, S, W>::taken(alloc, sources.len(), wires.len()) else {
+        return Err((sources, wires));
+    };
+    let Ok(house) = open_house::<N, P>(alloc, sizes, sources.len(), pool, book) else {
+        return Err((sources, wires));
+    };
+    Ok(serve_house(
+        rt, alloc, sizes, workers, house, space, sources, wires, gate, put, flush,
+    ))
+}
+
+/// Serves the requests of each source to its end, or until memory is wanting, by so many workers, and puts the replies
+/// on its wire; wires past the sources come back as they are. Where memory is wanting before anything is read, the
+/// sources and the wires come back.
+pub fn serve_inputs<
+    R: Threads + Wait + Sync,
+    S: Source + Send + Drop,
+    G: Gate,
+    W: Send + Drop,
+    PUT: Fn(W, &[u8]) -> (W, bool) + Sync,
+    FLUSH: Fn(W) -> (W, bool) + Sync,
+>(
+    rt: &R,
+    alloc: Global,
+    sizes: &Sizes,
+    workers: u16,
+    sources: Vec<S>,
+    wires: Vec<W>,
+    gate: &G,
+    put: &PUT,
+    flush: &FLUSH,
+) -> Result<Served<S, W>, (Vec<S>, Vec<W>)>
+    requires calls { PUT.IsAlwaysCallable put.now × FLUSH.IsAlwaysCallable flush.now }
+    requires sized { IsSized (length sources.items) sizes.now }
+    requires workers { (0 < workers) × (workers ≤ 16) }
+    requires wires { length sources.items ≤ length wires.items }
+    ensures ran { IfOk result (λ r. RanAll (λ w p r. PUT.post put.now w p r) (λ w r. FLUSH.post flush.now w r)
+        (pool_sizes (length sources.items) sizes.now) (map (λ s. S.left s) sources.items)
+        (map (λ s. S.left s) r.sources.items) r.ends.items (histories r.journal.items) r.pool wires.items
+        r.wires.items) }
+    ensures shards { IfOk result (λ r. length r.journal.items ≡ sizes.now.shards) }
+    ensures reads { IfOk result (λ r. AreReads r.ends.items (map (λ s. S.read_faults s) sources.items)
+        (map (λ s. S.read_faults s) r.sources.items)) }
+    ensures to_the_end { IfOk result (λ r. All (λ end. end.end ≢ End.Left) r.ends.items) }
+    ensures refused { IfErr result (λ e. (e.0.items ≡ sources.items) × (e.1.items ≡ wires.items)) }
+{
+    let count = sources.len();
+    let credits = SESSION_CREDITS * count as u64 + u64::from(sizes.shards) + 1;
+    let Ok(pool) = PoolBlank::open(alloc, sizes.small, sizes.large, credits) else {
+        return Err((sources, wires));
+    };
+    let Ok(book) = BookBlank::open(alloc, sizes.shards, count as u16) else {
+        return Err((sources, wires));
+    };
+    serve_named::<R, Brand, Brand, S, G, W, PUT, FLUSH>(
+        rt, alloc, sizes, workers, pool, book, sources, wires, gate, put, flush,
+    )
+}

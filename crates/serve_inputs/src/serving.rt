@@ -1,0 +1,116 @@
+// Sources are served in what was opened.
+ghost use Rattle.std.specs.Prelude.{◌≡◌, ◌≢◌, ◌<◌, ◌≤◌, [], All, length, map, vec_capacity};
+ghost use Rattle.std.specs.List.{range_with_len};
+ghost use Rattle.serve_model.specs.Seats.{IsSpare};
+ghost use Rattle.shard_store.specs.Journals.{histories};
+ghost use Rattle.serve_inputs.specs.Opened.{IsPool, IsBook, IsDesk, pool_sizes};
+ghost use Rattle.serve_inputs.specs.Ran.{AreReads, RanAll};
+
+use crate::closing::{Closed, close_all};
+use crate::crop::{Crop, bring_in};
+use crate::house::House;
+use crate::jobs::{line_up, serve_jobs};
+use crate::sizes::Sizes;
+use crate::space::Space;
+use command_exec::Shop;
+use flake_base::{End, Ends, Journal, Source};
+use order_book::BookName;
+use pinned_pool::{PoolEnd, PoolName};
+use session_pass::Gate;
+use session_workers::{Done, Job};
+use std::alloc::Global;
+use std::sync::Wait;
+use std::thread::Threads;
+
+/// Room for a run.
+pub(crate) type Room<N, P, S, W> = Space<Job<N, P, S, W>, Done<N, P, S, W>, N, S, W>;
+
+/// What a run leaves. Ends, sources and wires stand at their sources' places.
+#[derive(Drop)]
+pub struct Served<S, W> {
+    pub ends: Ends,
+    pub journal: Journal,
+    pub pool: PoolEnd,
+    pub sources: Vec<S>,
+    pub wires: Vec<W>,
+}
+
+/// Serves each source to its end or until memory is wanting, and closes all.
+pub(crate) fn serve_house<
+    R: Threads + Wait + Sync,
+    N: BookName + Send + Sync,
+    P: PoolName + Send + Sync,
+    S: Source + Send + Drop,
+    G: Gate,
+    W: Send + Drop,
+    PUT: Fn(W, &[u8]) -> (W, bool) + Sync,
+    FLUSH: Fn(W) -> (W, bool) + Sync,
+>(
+    rt: &R,
+    alloc: Global,
+    sizes: &Sizes,
+    workers: u16,
+    house: House<N, P>,
+    space: Room<N, P, S, W>,
+    sources: Vec<S>,
+    wires: Vec<W>,
+    gate: &G,
+    put: &PUT,
+    flush: &FLUSH,
+) -> Served<S, W>
+    requires calls { PUT.IsAlwaysCallable put.now × FLUSH.IsAlwaysCallable flush.now }
+    requires workers { (0 < workers) × (workers ≤ 16) }
+    requires pool { IsPool (length sources.items) sizes.now P.sizes }
+    requires book { IsBook (length sources.items) sizes.now N.sizes }
+    requires wires { length sources.items ≤ length wires.items }
+    requires main { IsSpare house.main × (house.main.credits ≡ 1) }
+    requires desks { All (λ d. IsDesk P.sizes d.session d.device.end d.device.failed) house.desks.items }
+    requires numbers { map (λ d. d.session.pass.list.number) house.desks.items
+        ≡ range_with_len 0 (length sources.items) }
+    requires jobs { (space.jobs.items ≡ []) × (length sources.items ≤ vec_capacity space.jobs) }
+    requires dones { (space.dones.items ≡ []) × (length sources.items ≤ vec_capacity space.dones) }
+    requires ends { (space.crop.ends.items ≡ []) × (length sources.items ≤ space.crop.ends.spare) }
+    requires lists { (space.crop.lists.items ≡ []) × (length sources.items ≤ space.crop.lists.spare) }
+    requires room { (space.crop.sources.items ≡ []) × (length sources.items ≤ vec_capacity space.crop.sources) }
+    requires wire_room { (space.crop.wires.items ≡ []) × (length wires.items ≤ vec_capacity space.crop.wires) }
+    ensures ran { RanAll (λ w p r. PUT.post put.now w p r) (λ w r. FLUSH.post flush.now w r)
+        (pool_sizes (length sources.items) sizes.now) (map (λ s. S.left s) sources.items)
+        (map (λ s. S.left s) result.sources.items) result.ends.items (histories result.journal.items) result.pool
+        wires.items result.wires.items }
+    ensures shards { length result.journal.items ≡ sizes.now.shards }
+    ensures reads { AreReads result.ends.items (map (λ s. S.read_faults s) sources.items)
+        (map (λ s. S.read_faults s) result.sources.items) }
+    ensures to_the_end { All (λ end. end.end ≢ End.Left) result.ends.items }
+{
+    let House {
+        pool,
+        book,
+        store,
+        mut main,
+        desks,
+    } = house;
+    let Space { jobs, dones, crop } = space;
+    let (jobs, past) = line_up(alloc, desks, sources, wires, jobs);
+    let shop = Shop {
+        pool: &pool,
+        book: &book,
+        store: &store,
+    };
+    let dones = serve_jobs(rt, alloc, &shop, jobs, dones, workers, gate, put, flush);
+    let parts = store.into_parts(&pool);
+    let Crop {
+        ends,
+        lists,
+        sources,
+        wires,
+    } = bring_in(&pool, &mut main, dones, past, crop);
+    let Closed { journal, end: pool } = close_all(pool, book, parts, main, lists);
+    let _ = sizes;
+    Served {
+        ends,
+        journal,
+        pool,
+        sources,
+        wires,
+    }
+}

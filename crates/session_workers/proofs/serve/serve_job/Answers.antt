@@ -1,0 +1,12 @@
+use Rattle.session_workers.proofs.serve.serve_job.Goals as goal
+
+pub returns : goal.returns
+returns g c =
+    let said = c.serve_in_turns-wire.ensures in
+    record {
+      served = said.served;
+      reads = said.reads;
+      to_the_end = said.to_the_end;
+      credits = said.credits;
+      looks = said.looks;
+    }

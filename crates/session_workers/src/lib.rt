@@ -1,0 +1,8 @@
+//! Several sessions, each from its source to its wire, by workers that take them from one queue.
+#![tactic(auto)]
+
+mod job;
+mod serve;
+
+pub use job::{Done, Job, Waiting};
+pub use serve::serve_all;
