@@ -8,6 +8,7 @@ SIZES = {
     "--threshold": (1, 512),
     "--workers": (1, 16),
 }
+FLAGS = ("--journal",)
 MOST_FILES = 16
 USUAL_SMALL = 4096
 STAGE = 128
@@ -21,7 +22,7 @@ def is_size(option, text):
 
 
 def served_files(words):
-    """Returns the files that are served, or None where the words aren't `serve`, sizes and 1 to 16 files."""
+    """Returns the files that are served, or None where the words aren't `serve`, options and 1 to 16 files."""
     places = served_places(words)
     return None if places is None else [words[place] for place in places]
 
@@ -36,6 +37,8 @@ def served_places(words):
         option, is_joined, text = words[place].partition("=")
         if words[place] == "--":
             files += rest
+        elif words[place] in FLAGS and words[place] not in given:
+            given[words[place]] = True
         elif option in SIZES and option not in given:
             text = text if is_joined else words[next(rest, 0)]
             if not is_size(option, text):
