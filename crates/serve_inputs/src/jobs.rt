@@ -12,7 +12,7 @@ use flake_base::Source;
 use order_book::BookName;
 use pinned_pool::PoolName;
 use session_pass::Gate;
-use session_serve::{Line, serve_in_turns};
+use session_serve::{Line, serve_beside};
 use session_workers::{Done, Job, serve_all};
 use std::alloc::Global;
 use std::sync::Wait;
@@ -66,14 +66,14 @@ pub(crate) fn line_up<N: BookName, P: PoolName + Send, S: Source + Drop, W: Drop
 
 // One after another on this thread.
 fn serve_here<
-    R: Wait,
+    R: Threads + Wait + Sync,
     N: BookName,
-    P: PoolName + Send,
+    P: PoolName + Send + Sync,
     S: Source + Drop,
     G: Gate,
-    W: Drop,
-    PUT: Fn(W, &[u8]) -> (W, bool),
-    FLUSH: Fn(W) -> (W, bool),
+    W: Send + Drop,
+    PUT: Fn(W, &[u8]) -> (W, bool) + Sync,
+    FLUSH: Fn(W) -> (W, bool) + Sync,
 >(
     rt: &R,
     shop: &Shop<'_, N, P>,
@@ -94,7 +94,7 @@ fn serve_here<
     let mut dones = dones;
     for job in jobs {
         let Job { line, room, wire } = job;
-        let (wire, account) = serve_in_turns(rt, shop, line, room, gate, wire, put, flush);
+        let (wire, account) = serve_beside(rt, shop, line, room, gate, wire, put, flush);
         dones.push_reserved(Done { account, wire });
     }
     dones

@@ -1,3 +1,4 @@
 pub mod Gathering
 pub mod Calling
 pub mod Serving
+pub mod Sides

@@ -1,3 +1,4 @@
 pub mod Wires
 pub mod Working
 pub mod Served
+pub mod Beside

@@ -1,7 +1,9 @@
 -- What serving a session gives.
-use Rattle.std.specs.Prelude.{ℕ, Bool, false, List, Option}
+use Rattle.std.specs.Prelude.{◌≡◌, ◌≢◌, ℕ, Bool, false, List, Option}
 use Rattle.std.specs.Borrow.{Bor}
+use Rattle.flake_base.specs.declared.session.End.TheVariants.{Left}
 use Rattle.flake_base.specs.declared.session.SessionEnd.{SessionEnd}
+use Rattle.command_pump.specs.Pump.{PumpState, EndFaults}
 use Rattle.pin_core.specs.declared.sizes.Sizes.{Sizes}
 use Rattle.pinned_pool.specs.declared.view.View.{View}
 use Rattle.order_book.specs.Pages.{SessionList}
@@ -16,3 +18,12 @@ module _ {W : Type 0} (put_may : W → Bor (List ℕ) → (W × Bool) → Type 0
     pub text : List ℕ
     pub ran : HasRun z shards session.pass.list.number input left end list last text
     pub sends : SendsOut put_may flush_may false end.failed text old new
+
+  -- and this is true of what it leaves
+  pub record HasServed (z : Sizes) (shards : ℕ) (session : SessionView) (pump : PumpState) (old : W) (end : SessionEnd)
+      (mine : SessionList) (seat : View) (left : PumpState) (new : W) : Type 0 where
+    pub served : IsServed z shards session pump.left left.left end mine seat old new
+    pub reads : EndFaults end.end pump.faults left.faults
+    pub to_the_end : end.end ≢ Left
+    pub credits : seat.credits ≡ session.opened.credits
+    pub looks : mine.looks ≡ session.pass.list.looks

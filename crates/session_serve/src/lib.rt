@@ -1,13 +1,19 @@
-//! A session that is served on one thread, from its source to its wire.
+//! A session that is served from its source to its wire, its device beside it.
 #![tactic(auto)]
 
+mod beside;
 mod close;
+mod inlet;
 pub mod laws;
 mod line;
+mod meeting;
+mod naps;
+mod outlet;
 mod room;
 mod serve;
 mod turn;
+mod waiting;
 
+pub use beside::serve_beside;
 pub use line::{Account, Line};
 pub use room::{MOST_FRAGMENTS, MOST_SEGMENTS, Room};
-pub use serve::serve_in_turns;

@@ -9,7 +9,7 @@ use flake_base::Source;
 use order_book::BookName;
 use pinned_pool::PoolName;
 use session_pass::Gate;
-use session_serve::serve_in_turns;
+use session_serve::serve_beside;
 use std::alloc::Global;
 use std::sync::Wait;
 use std::thread::Threads;
@@ -66,14 +66,14 @@ pub fn serve_all<
 
 // One session, by the worker that took it.
 fn serve_job<
-    R: Wait,
+    R: Threads + Wait + Sync,
     N: BookName,
-    P: PoolName + Send,
-    S: Source,
+    P: PoolName + Send + Sync,
+    S: Source + Drop,
     G: Gate,
-    W: Drop,
-    PUT: Fn(W, &[u8]) -> (W, bool),
-    FLUSH: Fn(W) -> (W, bool),
+    W: Send + Drop,
+    PUT: Fn(W, &[u8]) -> (W, bool) + Sync,
+    FLUSH: Fn(W) -> (W, bool) + Sync,
 >(
     rt: &R,
     shop: &Shop<'_, N, P>,
@@ -89,6 +89,6 @@ fn serve_job<
         result.account.pump result.wire }
 {
     let Job { line, room, wire } = job;
-    let (wire, account) = serve_in_turns(rt, shop, line, room, gate, wire, put, flush);
+    let (wire, account) = serve_beside(rt, shop, line, room, gate, wire, put, flush);
     Done { account, wire }
 }

@@ -3,8 +3,8 @@ use Rattle.session_workers.specs.Jobs.{IsNewJob, IsDone}
 use Rattle.serve_inputs.proofs.Lists.{all_first, all_rest, all_as, all_given, given_on, zip_more, zip_as}
 use Rattle.serve_inputs.proofs.jobs.serve_here.Goals as goal
 
-pub serve_in_turns-wire-requires-clause-fresh : goal.serve_in_turns-wire-requires-clause-fresh
-serve_in_turns-wire-requires-clause-fresh g c = λ _ _.
+pub serve_beside-wire-requires-clause-fresh : goal.serve_beside-wire-requires-clause-fresh
+serve_beside-wire-requires-clause-fresh g c = λ _ _.
     (all_first _ _ c.in-Some.job (λ job. IsNewJob g.P.PoolName.sizes job.line.session job.line.pump
     job.line.device.end job.line.device.failed) c.in-Some.ensures.steps.0 c.loop-job.invariant.rest).fresh
 
@@ -12,7 +12,7 @@ pub loop-job-preserved : goal.loop-job-preserved
 loop-job-preserved g c =
     let before = c.loop-job.invariant in
     let steps = c.in-Some.ensures.steps in
-    let is = c.serve_in_turns-wire.ensures in
+    let is = c.serve_beside-wire.ensures in
     record {
       all = given_on c.loop-job.yielded _ _ _ _ before.all steps.0;
       left = omega (arith, before.left, steps.1, ap length steps.0);

@@ -2,7 +2,7 @@ use Rattle.session_workers.proofs.serve.serve_job.Goals as goal
 
 pub returns : goal.returns
 returns g c =
-    let said = c.serve_in_turns-wire.ensures in
+    let said = c.serve_beside-wire.ensures in
     record {
       served = said.served;
       reads = said.reads;

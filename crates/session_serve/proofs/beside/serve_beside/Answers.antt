@@ -1,0 +1,8 @@
+use Rattle.std.proofs.Common.{sym, subst}
+use Rattle.session_serve.proofs.Sides.{fresh-told}
+use Rattle.session_serve.specs.Working.{IsFresh}
+use Rattle.session_serve.proofs.beside.serve_beside.Goals as goal
+
+pub serve_sides-requires-clause-fresh : goal.serve_sides-requires-clause-fresh
+serve_sides-requires-clause-fresh g c κs within =
+    subst (λ s. IsFresh _ s c.args.line.pump) (sym c.both_ends.ensures.session) (fresh-told _ _ _ _ c.requires.fresh)

@@ -1,0 +1,59 @@
+-- A session and its device that run beside each other: what each of them does.
+use Rattle.std.specs.Prelude.{◌≡◌, ℕ, Bool, List, ◌++◌, length}
+use Rattle.std.specs.Borrow.{Bor}
+use Rattle.pin_core.specs.declared.sizes.Sizes.{Sizes}
+use Rattle.pinned_pool.specs.declared.view.View.{View}
+use Rattle.order_book.specs.Pages.{SessionList}
+use Rattle.flake_base.specs.declared.segment.Seg.{Seg}
+use Rattle.flake_base.specs.declared.session.End.{End}
+use Rattle.flake_model.specs.Command.{Command}
+use Rattle.command_pump.specs.Pump.{PumpState}
+use Rattle.any_wire.specs.Sends.{Flushes}
+use Rattle.tx_ring.specs.Shown.{closed_ring, closed_view}
+use Rattle.tx_ring.specs.declared.closed.ClosedDriver.{ClosedDriver}
+use Rattle.reply_planner.specs.Parcels.{Sent}
+use Rattle.device_model.specs.Devices.{Forwards}
+use Rattle.session_pass.specs.Calls.{KeepsAll, CallPosts, CallRefused}
+use Rattle.session_pass.specs.Views.{SessionView}
+use Rattle.session_serve.specs.Working.{HasStopped, IsLeft}
+
+-- the session gave some replies back, and did nothing else
+pub record HasWaited (old new : SessionView) : Type 0 where
+  pub gone : List Sent
+  pub reaped : new.reaped ≡ old.reaped ++ gone
+  pub keeps : KeepsAll old new
+
+-- it waited, and then a call was executed and its reply posted
+pub record CallsAtLast (z : Sizes) (shards : ℕ) (command : Command) (old new : SessionView) : Type 0 where
+  pub rested : SessionView
+  pub waited : HasWaited old rested
+  pub call : ℕ
+  pub freed : ℕ
+  pub sent : List Seg
+  pub stored : List Seg
+  pub posts : CallPosts z shards command rested new call freed sent stored
+
+-- it waited, and then memory was wanting in a call
+pub record BreaksAtLast (z : Sizes) (shards : ℕ) (command : Command) (old new : SessionView) : Type 0 where
+  pub rested : SessionView
+  pub waited : HasWaited old rested
+  pub refused : CallRefused z shards command rested new
+
+-- From its first command to its end: its replies were given back, and its ring was closed.
+pub record RanToTheEnd (z : Sizes) (shards : ℕ) (first : SessionView) (unread : PumpState) (how : End) (replies : ℕ)
+    (seat : View) (mine : SessionList) (pump : PumpState) (closed : ClosedDriver Sent) : Type 0 where
+  -- as it stood behind its last call
+  pub session : SessionView
+  pub stopped : HasStopped z shards first unread.left unread.faults how session pump
+  pub left : IsLeft session seat mine
+  pub replies_are : replies ≡ length session.posted
+  pub ring : closed_ring closed ≡ first.ring
+  pub posted : (closed_view closed).posted ≡ session.posted
+
+module _ {W : Type 0} (put_may : W → Bor (List ℕ) → (W × Bool) → Type 0) (flush_may : W → (W × Bool) → Type 0) where
+  -- some replies more were completed and put, and last of all the wire was flushed, where nothing has failed
+  pub record ForwardsOut (failed now : Bool) (before after : List Sent) (old new : W) : Type 0 where
+    pub between : Bool
+    pub middle : W
+    pub forwards : Forwards put_may flush_may failed between before after old middle
+    pub flushed : Flushes flush_may between now middle new

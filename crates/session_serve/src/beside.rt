@@ -1,0 +1,255 @@
+// A session and its device beside each other.
+ghost use Rattle.std.specs.Prelude.{◌≡◌, ◌≢◌, [], true, false, IfOk, IfErr};
+ghost use Rattle.command_pump.specs.Pump.{EndFaults, ended_at};
+ghost use Rattle.tx_ring.specs.Shown.{closed_ring, closed_view, device_ring, completed, ended};
+ghost use Rattle.session_serve.specs.Beside.{ForwardsOut, RanToTheEnd};
+ghost use Rattle.session_serve.specs.Served.{IsServed, HasServed};
+ghost use Rattle.session_serve.specs.Working.{IsFresh};
+
+use crate::inlet::{Ended, Inlet};
+use crate::line::{Account, Line};
+use crate::meeting::Meeting;
+use crate::outlet::Outlet;
+use crate::room::Room;
+use crate::serve::serve_in_turns;
+use crate::waiting::Remains;
+use command_exec::Shop;
+use flake_base::{End, SessionEnd, Source};
+use order_book::BookName;
+use pinned_pool::PoolName;
+use session_pass::{Gate, laws};
+use std::sync::Wait;
+use std::thread;
+use std::thread::Threads;
+
+/// Runs the commands of a source in order, each behind the gate, to the source's end or until memory is wanting. The
+/// session's device puts the replies meanwhile, on a thread of its own; where none can be started for it, each reply is
+/// put before the next command is read. Last the wire is flushed. After a failed put or flush nothing more is put, and
+/// all commands are still run.
+pub fn serve_beside<
+    R: Threads + Wait + Sync,
+    N: BookName,
+    P: PoolName + Send + Sync,
+    S: Source + Drop,
+    G: Gate,
+    W: Send + Drop,
+    PUT: Fn(W, &[u8]) -> (W, bool) + Sync,
+    FLUSH: Fn(W) -> (W, bool) + Sync,
+>(
+    rt: &R,
+    shop: &Shop<'_, N, P>,
+    line: Line<N, P, S>,
+    room: Room,
+    gate: &G,
+    wire: W,
+    put: &PUT,
+    flush: &FLUSH,
+) -> (W, Account<N, P, S>)
+    requires calls { PUT.IsAlwaysCallable put.now × FLUSH.IsAlwaysCallable flush.now }
+    requires fresh { IsFresh P.sizes line.session line.pump }
+    requires ring { device_ring line.device.end ≡ line.session.ring }
+    requires unfailed { line.device.failed ≡ false }
+    ensures served { IsServed (λ w p r. PUT.post put.now w p r) (λ w r. FLUSH.post flush.now w r) P.sizes
+        N.sizes.shards line.session line.pump.left result.1.pump.left result.1.end result.1.mine result.1.seat wire
+        result.0 }
+    ensures reads { EndFaults result.1.end.end line.pump.faults result.1.pump.faults }
+    ensures to_the_end { result.1.end.end ≢ End.Left }
+    ensures credits { result.1.seat.credits ≡ line.session.opened.credits }
+    ensures looks { result.1.mine.looks ≡ line.session.pass.list.looks }
+{
+    let mut line = line;
+    laws::both_ends(&mut line.session, &mut line.device);
+    let Line {
+        session,
+        pump,
+        device,
+    } = line;
+    let inlet = Inlet {
+        session,
+        pump,
+        room,
+    };
+    let outlet = Outlet { device, wire };
+    serve_sides(rt, shop, inlet, gate, outlet, put, flush)
+}
+
+// The two sides run beside each other, or where that can't be they take turns.
+fn serve_sides<
+    R: Threads + Wait + Sync,
+    N: BookName,
+    P: PoolName + Send + Sync,
+    S: Source + Drop,
+    G: Gate,
+    W: Send + Drop,
+    PUT: Fn(W, &[u8]) -> (W, bool) + Sync,
+    FLUSH: Fn(W) -> (W, bool) + Sync,
+>(
+    rt: &R,
+    shop: &Shop<'_, N, P>,
+    inlet: Inlet<N, P, S>,
+    gate: &G,
+    outlet: Outlet<P, W>,
+    put: &PUT,
+    flush: &FLUSH,
+) -> (W, Account<N, P, S>)
+    requires calls { PUT.IsAlwaysCallable put.now × FLUSH.IsAlwaysCallable flush.now }
+    requires fresh { IsFresh P.sizes inlet.session inlet.pump }
+    requires ring { device_ring outlet.device.end ≡ inlet.session.ring }
+    requires unfailed { outlet.device.failed ≡ false }
+    requires none { completed outlet.device.end ≡ [] }
+    ensures { HasServed (λ w p r. PUT.post put.now w p r) (λ w r. FLUSH.post flush.now w r) P.sizes N.sizes.shards
+        inlet.session inlet.pump outlet.wire result.1.end result.1.mine result.1.seat result.1.pump result.0 }
+{
+    let (went, came) = both_sides(rt, shop, inlet, gate, outlet, put, flush, &Meeting::new());
+    match came {
+        Ok(ended) => match went {
+            Ok(outlet) => settled(ended, outlet),
+            Err(outlet) => {
+                let outlet = outlet.forward_all(rt, shop.pool, put, flush);
+                settled(ended, outlet)
+            }
+        },
+        Err(mut inlet) => match went {
+            Ok(mut outlet) => {
+                // The device has found the ring closed, so this can't be.
+                laws::both_ends(&mut inlet.session, &mut outlet.device);
+                unreachable!()
+            }
+            Err(outlet) => take_turns(rt, shop, inlet, gate, outlet, put, flush),
+        },
+    }
+}
+
+// Both run until the session has ended and its device has found the ring closed; or neither begins.
+fn both_sides<
+    R: Threads + Wait + Sync,
+    N: BookName,
+    P: PoolName + Send + Sync,
+    S: Source + Drop,
+    G: Gate,
+    W: Send + Drop,
+    PUT: Fn(W, &[u8]) -> (W, bool) + Sync,
+    FLUSH: Fn(W) -> (W, bool) + Sync,
+>(
+    rt: &R,
+    shop: &Shop<'_, N, P>,
+    inlet: Inlet<N, P, S>,
+    gate: &G,
+    outlet: Outlet<P, W>,
+    put: &PUT,
+    flush: &FLUSH,
+    meeting: &Meeting,
+) -> (
+    Result<Outlet<P, W>, Outlet<P, W>>,
+    Result<Ended<N, P, S>, Inlet<N, P, S>>,
+)
+    requires calls { PUT.IsAlwaysCallable put.now × FLUSH.IsAlwaysCallable flush.now }
+    requires fresh { IsFresh P.sizes inlet.session inlet.pump }
+    ensures out { IfOk result.0 (λ o. (device_ring o.device.end ≡ device_ring outlet.device.end)
+        × (ended o.device.end ≡ true) × ForwardsOut (λ w p r. PUT.post put.now w p r)
+        (λ w r. FLUSH.post flush.now w r) outlet.device.failed o.device.failed (completed outlet.device.end)
+        (completed o.device.end) outlet.wire o.wire) }
+    ensures idle { IfErr result.0 (λ o. o ≡ outlet) }
+    ensures ran { IfOk result.1 (λ e. RanToTheEnd P.sizes N.sizes.shards inlet.session inlet.pump e.end e.replies
+        e.remains.seat e.remains.mine e.pump e.remains.closed) }
+    ensures back { IfErr result.1 (λ i. i ≡ inlet) }
+{
+    let pool = shop.pool;
+    thread::join(
+        rt,
+        move || -> Result<Outlet<P, W>, Outlet<P, W>>
+            requires { PUT.IsAlwaysCallable put.now × FLUSH.IsAlwaysCallable flush.now }
+            ensures { IfOk result (λ o. (device_ring o.device.end ≡ device_ring outlet.device.end)
+                × (ended o.device.end ≡ true) × ForwardsOut (λ w p r. PUT.post put.entry.now w p r)
+                (λ w r. FLUSH.post flush.entry.now w r) outlet.device.failed o.device.failed
+                (completed outlet.device.end) (completed o.device.end) outlet.wire o.wire)
+                × IfErr result (λ o. o ≡ outlet) }
+        { outlet.beside(rt, pool, put, flush, meeting) },
+        move || -> Result<Ended<N, P, S>, Inlet<N, P, S>>
+            requires { IsFresh P.sizes inlet.session inlet.pump }
+            ensures { IfOk result (λ e. RanToTheEnd P.sizes N.sizes.shards inlet.session inlet.pump e.end e.replies
+                e.remains.seat e.remains.mine e.pump e.remains.closed) × IfErr result (λ i. i ≡ inlet) }
+        { inlet.beside(rt, shop, gate, meeting) },
+    )
+}
+
+// On this thread alone.
+fn take_turns<
+    R: Wait,
+    N: BookName,
+    P: PoolName + Send,
+    S: Source,
+    G: Gate,
+    W: Drop,
+    PUT: Fn(W, &[u8]) -> (W, bool),
+    FLUSH: Fn(W) -> (W, bool),
+>(
+    rt: &R,
+    shop: &Shop<'_, N, P>,
+    inlet: Inlet<N, P, S>,
+    gate: &G,
+    outlet: Outlet<P, W>,
+    put: &PUT,
+    flush: &FLUSH,
+) -> (W, Account<N, P, S>)
+    requires calls { PUT.IsAlwaysCallable put.now × FLUSH.IsAlwaysCallable flush.now }
+    requires fresh { IsFresh P.sizes inlet.session inlet.pump }
+    requires ring { device_ring outlet.device.end ≡ inlet.session.ring }
+    requires unfailed { outlet.device.failed ≡ false }
+    ensures { HasServed (λ w p r. PUT.post put.now w p r) (λ w r. FLUSH.post flush.now w r) P.sizes N.sizes.shards
+        inlet.session inlet.pump outlet.wire result.1.end result.1.mine result.1.seat result.1.pump result.0 }
+{
+    let Inlet {
+        session,
+        pump,
+        room,
+    } = inlet;
+    let Outlet { device, wire } = outlet;
+    let line = Line {
+        session,
+        pump,
+        device,
+    };
+    serve_in_turns(rt, shop, line, room, gate, wire, put, flush)
+}
+
+// With both ends of the ring at hand.
+fn settled<N: BookName, P: PoolName + Send, S: Source, W: Drop>(
+    ended: Ended<N, P, S>,
+    outlet: Outlet<P, W>,
+) -> (W, Account<N, P, S>)
+    requires { device_ring outlet.device.end ≡ closed_ring ended.remains.closed }
+    ensures all { completed outlet.device.end ≡ (closed_view ended.remains.closed).posted }
+    ensures end { result.1.end ≡ ended_at ended.end ended.pump.taken ended.replies outlet.device.failed }
+    ensures seat { result.1.seat ≡ ended.remains.seat }
+    ensures mine { result.1.mine ≡ ended.remains.mine }
+    ensures pump { result.1.pump ≡ ended.pump }
+    ensures wire { result.0 ≡ outlet.wire }
+{
+    let Ended {
+        end,
+        replies,
+        remains,
+        pump,
+    } = ended;
+    let Remains {
+        seat,
+        mine,
+        mut closed,
+    } = remains;
+    let Outlet { mut device, wire } = outlet;
+    device.settle(&mut closed);
+    let end = SessionEnd {
+        end,
+        taken: pump.taken(),
+        replies,
+        failed: device.failed(),
+    };
+    let account = Account {
+        end,
+        seat,
+        mine,
+        pump,
+    };
+    (wire, account)
+}

@@ -1,0 +1,42 @@
+// Waiting between looks.
+use std::sync::Wait;
+use std::sync::atomic::AtomicU64;
+use std::thread;
+use std::time::Duration;
+
+// So many looks follow one another at once, and so many more after a short sleep.
+const BUSY_LOOKS: u32 = 100;
+
+/// What a thread does that found nothing to do.
+#[derive(Drop)]
+pub(crate) struct Naps {
+    looks: u32,
+    // Nobody writes it, so a sleep on it ends by its time.
+    still: AtomicU64,
+}
+
+impl Naps {
+    pub fn new() -> Self {
+        Naps {
+            looks: 0,
+            still: AtomicU64::new(0),
+        }
+    }
+
+    /// Something was found.
+    pub fn found(&mut self) {
+        self.looks = 0;
+    }
+
+    /// Waits before the next look: the longer, the more looks found nothing.
+    pub fn wait<R: Wait>(&mut self, rt: &R) {
+        if self.looks < BUSY_LOOKS {
+            thread::yield_now();
+        } else if self.looks < 2 * BUSY_LOOKS {
+            self.still.park_timeout(rt, 0, Duration::from_micros(20));
+        } else {
+            self.still.park_timeout(rt, 0, Duration::from_micros(500));
+        }
+        self.looks = self.looks.saturating_add(1);
+    }
+}

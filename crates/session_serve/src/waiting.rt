@@ -1,0 +1,76 @@
+// Calls of a session whose device runs beside it.
+ghost use Rattle.std.specs.Prelude.{◌≡◌, ◌+◌, ◌≤◌, length, OnOk, OnErr};
+ghost use Rattle.flake_model.specs.Resp.{judged_bytes};
+ghost use Rattle.tx_ring.specs.Shown.{closed_ring, closed_view};
+ghost use Rattle.session_serve.specs.Beside.{CallsAtLast, BreaksAtLast};
+ghost use Rattle.session_serve.specs.Working.{IsLeft};
+
+use crate::naps::Naps;
+use crate::room::Room;
+use command_exec::Shop;
+use command_parts::Command;
+use flake_base::Memory;
+use order_book::{BookName, SessionSeat};
+use pinned_pool::{PoolName, PoolSeat};
+use reply_planner::Parcel;
+use session_pass::{CallError, Finish, Session};
+use std::sync::Wait;
+use tx_descriptor::Framed;
+use tx_ring::ClosedDriver;
+
+/// What is left of a session that has ended.
+#[derive(Drop)]
+pub(crate) struct Remains<N: BookName, P: PoolName + Send>
+where
+    Parcel<P>: Framed,
+{
+    pub seat: PoolSeat<P>,
+    pub mine: SessionSeat<N>,
+    pub closed: ClosedDriver<Parcel<P>>,
+}
+
+/// Runs a command and posts its reply. Where ring or stage is full it waits for the device, and makes the call again.
+pub(crate) fn call<R: Wait, N: BookName, P: PoolName + Send>(
+    rt: &R,
+    shop: &Shop<'_, N, P>,
+    session: &mut Session<N, P>,
+    command: &Command,
+    room: &mut Room,
+) -> Result<(), Memory>
+    requires { length session.old.posted ≤ judged_bytes + 1 }
+    ensures posted { OnOk result (CallsAtLast P.sizes N.sizes.shards command.now session.old session.new) }
+    ensures memory { OnErr result (BreaksAtLast P.sizes N.sizes.shards command.now session.old session.new) }
+{
+    let mut naps = Naps::new();
+    for _ in rt.forever() {
+        match session.call(rt, shop, command, &mut room.sent, &mut room.stored) {
+            Ok(_) => return Ok(()),
+            Err(CallError::Memory) => return Err(Memory),
+            Err(CallError::RingFull { .. }) => naps.wait(rt),
+            Err(CallError::StageFull { .. }) => naps.wait(rt),
+        }
+    }
+    unreachable!()
+}
+
+/// Waits until all replies are sent, gives them back, and closes ring and pass.
+pub(crate) fn finish<R: Wait, N: BookName, P: PoolName + Send>(
+    rt: &R,
+    shop: &Shop<'_, N, P>,
+    session: Session<N, P>,
+) -> Remains<N, P>
+    ensures left { IsLeft session result.seat result.mine }
+    ensures ring { closed_ring result.closed ≡ session.ring }
+    ensures posted { (closed_view result.closed).posted ≡ session.posted }
+{
+    let mut session = session;
+    let mut naps = Naps::new();
+    for _ in rt.forever() {
+        match session.finish(shop) {
+            Finish::Done { seat, mine, closed } => return Remains { seat, mine, closed },
+            Finish::NotYet(back) => session = back,
+        }
+        naps.wait(rt);
+    }
+    unreachable!()
+}
