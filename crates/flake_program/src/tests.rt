@@ -1,5 +1,7 @@
 ghost use Rattle.std.specs.Prelude.{None};
 
+mod journals;
+
 use crate::outcome::Detail;
 use crate::run::run;
 use flake_base::{Bytes, Entry, Failed, Fails, Files, Journal, MemoryHost, MemoryWire, Wire};
