@@ -1,11 +1,12 @@
 -- What is known of a run that served its files, and the clauses that this gives.
-use Rattle.std.proofs.Common.{◌≡◌, ◌≢◌, ◌⊎◌, ◌≤◌, ◌<◌, ℕ, false, true, List, [], ◌∷◌, Option, Some, All, length, map, refl, sym, ap, ◌∙◌, subst}
+use Rattle.std.proofs.Common.{◌≡◌, ◌≢◌, ◌⊎◌, ◌≤◌, ◌<◌, ℕ, Bool, false, true, List, [], ◌∷◌, Option, Some, All, length, map, refl, sym, ap, ◌∙◌, subst}
 use Rattle.std.specs.List.{range_with_len, list_any}
 use Rattle.std.proofs.lemmas.List.{length-map}
 use Rattle.std.proofs.lemmas.List.FromFn.{length-range_with_len}
 use Rattle.flake_base.specs.Causes.{Rose}
 use Rattle.flake_base.specs.Growth.{Grew}
 use Rattle.flake_base.specs.Told.{HostTold, WireTold}
+use Rattle.flake_base.specs.declared.journal.Entry.{Entry}
 use Rattle.flake_base.specs.declared.session.End.TheVariants.{Left}
 use Rattle.flake_base.specs.declared.session.SessionEnd.{SessionEnd}
 use Rattle.flake_model.specs.Session.{Session}
@@ -23,7 +24,7 @@ use Rattle.flake_program.specs.Served.{Served}
 use Rattle.flake_program.specs.Untouched.{Untouched}
 use Rattle.flake_program.specs.Causes.{Causes, AreCountsOf, highest_by}
 use Rattle.flake_program.specs.Complete.{Complete}
-use Rattle.flake_program.specs.Said.{Said, Says, summary_of}
+use Rattle.flake_program.specs.Said.{Said, Says, served_text}
 
 -- the statuses of what was served
 abbrev pub IsServedStatus : ℕ → Type 0
@@ -52,7 +53,7 @@ pub record Ran {W : Type 0} (tells : W → WireTold) (job : Job) (host now : Hos
   pub shards : length done.journal ≡ job.sizes.shards
   pub reads : AreCountsOf (ways done.ends) (read_faults_of done.sources)
   pub to_the_end : All (λ way. way ≢ Left) (ways done.ends)
-  pub said : done.status ≢ 6 → Says (summary_of done.ends done.held) host now
+  pub said : done.status ≢ 6 → Says (served_text job.journal done.journal done.ends done.held) host now
   pub statuses : IsServedStatus done.status
   pub by_end : done.status ≢ 5 → done.status ≢ 6 → (done.status ≡ highest_by (ways done.ends))
       × (list_any (λ (end : SessionEnd). end.failed) done.ends ≡ false) × (now.say_faults ≡ host.say_faults)
@@ -96,8 +97,8 @@ counts_from (end ∷ ends) (name ∷ names) [] reads = absurd reads
 counts_from (end ∷ ends) (name ∷ names) (now ∷ nows) reads = (reads.0, counts_from ends names nows reads.1)
 
 -- what a report of sessions has said and answered
-pub record Reported (old new : HostTold) (status : ℕ) (ends : List SessionEnd) (held : Held) : Type 0 where
-  pub said : status ≢ 6 → Says (summary_of ends held) old new
+pub record Reported (old new : HostTold) (status : ℕ) (shows : Bool) (journal : List (List Entry)) (ends : List SessionEnd) (held : Held) : Type 0 where
+  pub said : status ≢ 6 → Says (served_text shows journal ends held) old new
   pub statuses : IsServedStatus status
   pub by_end : status ≢ 5 → status ≢ 6 → (status ≡ highest_by (ways ends))
       × (list_any (λ (end : SessionEnd). end.failed) ends ≡ false) × (new.say_faults ≡ old.say_faults)

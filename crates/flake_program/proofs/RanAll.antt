@@ -17,5 +17,5 @@ ran_all tells task job host now wires after done t r = record {
   untouched = ran_untouched tells task job host now wires after done t r;
   causes = ran_causes tells task job host now wires after done t r;
   complete = ran_complete tells task job host now wires after done t r;
-  said = ran_said tells task job host now wires after done r;
+  said = ran_said tells task job host now wires after done t r;
 }

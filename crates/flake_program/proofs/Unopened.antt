@@ -1,5 +1,5 @@
 -- What a run says of which a file did not open.
-use Rattle.std.proofs.Common.{◌≡◌, inl, inr, ℕ, suc, ◌==◌, if◌then◌else◌, List, Option, Some, IsSomeAnd, length, take, slice_get, arith, ap, sym, ◌∙◌, subst}
+use Rattle.std.proofs.Common.{◌≡◌, inl, inr, ℕ, suc, ◌==◌, if◌then◌else◌, List, [], Option, Some, IsSomeAnd, length, take, slice_get, arith, ap, sym, ◌∙◌, subst}
 use Rattle.std.specs.List.{range_with_len}
 use Rattle.std.proofs.lemmas.List.{length-take}
 use Rattle.std.proofs.lemmas.List.Elements.{recursion_from_All}
@@ -14,7 +14,7 @@ use Rattle.flake_program.specs.Refusals.{IsRefused}
 use Rattle.flake_program.specs.Untouched.{Untouched}
 use Rattle.flake_program.specs.Causes.{Causes, OpenFailed}
 use Rattle.flake_program.specs.Complete.{Complete}
-use Rattle.flake_program.specs.Said.{Said, Says, text_of}
+use Rattle.flake_program.specs.Said.{Said, Says, served_text, text_of}
 use Rattle.flake_program.specs.declared.outcome.Detail.TheVariants.{File}
 use Rattle.flake_program.specs.declared.outcome.Refusal.TheVariants.{OpenFault}
 use Rattle.flake_program.proofs.Ran.{Clauses, IsTask, says_since}
@@ -91,8 +91,9 @@ module _ {W : Type 0} (tells : W → WireTold) (task : Task) (job : Job) (host m
         (recursion_from_All (λ (name : List ℕ). Rose (host.open_faults name) (now.open_faults name) → ⊥) job.names nothing.opens) name_is rose_since);
   }
 
-  text_is : text_of before.status before.detail before.ends before.held ≡ text_of 2 (File (length sources)) before.ends before.held
-  text_is = ap (λ s. text_of s before.detail before.ends before.held) two ∙ ap (λ d. text_of 2 d before.ends before.held) u.refused.detail
+  text_is : text_of before.status before.detail (served_text job.journal before.journal before.ends before.held) ≡ text_of 2 (File (length sources)) []
+  text_is = ap (λ s. text_of s before.detail (served_text job.journal before.journal before.ends before.held)) two
+      ∙ ap (λ d. text_of 2 d (served_text job.journal before.journal before.ends before.held)) u.refused.detail
 
   unopened_said : Said (Some job) (outside host wires tells) (outside now after tells) (record before { sources = sources })
   unopened_said = record {

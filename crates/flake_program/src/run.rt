@@ -89,7 +89,14 @@ pub fn run<R: Threads + Wait + Sync, H: Host, G: Gate>(
         Ok(ran) => {
             let held = ran.pool.held();
             Outcome {
-                status: report(alloc, host, ran.ends.as_slice(), held),
+                status: report(
+                    alloc,
+                    host,
+                    task.journal,
+                    &ran.journal,
+                    ran.ends.as_slice(),
+                    held,
+                ),
                 detail: Detail::Nothing,
                 ends: ran.ends,
                 journal: ran.journal,

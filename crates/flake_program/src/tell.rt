@@ -1,28 +1,30 @@
 // What is said.
-ghost use Rattle.std.specs.Prelude.{◌≡◌, ◌≢◌, ◌<◌, ◌≤◌, ◌⊎◌, length, map, true, false};
+ghost use Rattle.std.specs.Prelude.{◌≡◌, ◌≢◌, ◌<◌, ◌≤◌, ◌⊎◌, length, map, true, false, IfOk};
 ghost use Rattle.std.specs.List.{list_any};
 ghost use Rattle.flake_base.specs.Causes.{Rose, HasCause};
 ghost use Rattle.flake_program.specs.Causes.{status_by, highest_by};
 ghost use Rattle.flake_program.specs.Outside.{LeavesFiles, outside};
 ghost use Rattle.flake_program.specs.Outcome.{done, source_told, ways};
 ghost use Rattle.flake_program.specs.Refusals.{IsNumbered, IsRefused};
-ghost use Rattle.flake_program.specs.Said.{Says, summary_of};
+ghost use Rattle.flake_program.specs.Said.{Says, served_text};
+ghost use Rattle.shard_store.specs.Journals.{histories};
 
 use crate::outcome::{
     BAD_SESSION, OUT_OF_MEMORY, Outcome, READ_FAULT, Refusal, SERVED, WRITE_FAULT,
 };
 use crate::summary::summary;
-use flake_base::{End, Failed, Host, SessionEnd, Source, Wire};
+use flake_base::{Bytes, End, Failed, Host, Journal, Memory, SessionEnd, Source, Wire};
+use journal_text::journal_text;
 use pin_core::Held;
 use std::alloc::Global;
 
-fn tell<H: Host>(host: &mut H, text: &str) -> Result<(), Failed>
+fn tell<H: Host>(host: &mut H, text: &[u8]) -> Result<(), Failed>
     requires { 0 < length text.now }
     ensures said { Says text.now (H.host_told host.old) (H.host_told host.new) }
     ensures files { LeavesFiles (H.host_told host.old) (H.host_told host.new) }
     ensures cause { HasCause (H.host_told host.old).say_faults (H.host_told host.new).say_faults result }
 {
-    host.say(text.as_bytes())
+    host.say(text)
 }
 
 /// Says why nothing is served, and answers that. Where saying it fails, the host has counted it.
@@ -38,7 +40,7 @@ pub fn refuse<H: Host>(
         (done result.status result.detail result.ends.items result.journal.items result.held result.pool
         (map (λ s. source_told s.file (H.In.left s.source) (H.In.read_faults s.source)) result.sources.items)) }
 {
-    let _ = tell(host, refusal.text());
+    let _ = tell(host, refusal.text().as_bytes());
     Outcome::unserved(alloc, refusal, wires)
 }
 
@@ -73,10 +75,38 @@ fn some_failed(ends: &[SessionEnd]) -> bool
     ends.iter().any(|end| end.failed)
 }
 
-/// Says how each session ended, and answers the status.
-pub fn report<H: Host>(alloc: Global, host: &mut H, ends: &[SessionEnd], held: Held) -> u8
+// The journal's text, or how each session ended and what is held.
+fn served_text(
+    alloc: Global,
+    shows_journal: bool,
+    journal: &Journal,
+    ends: &[SessionEnd],
+    held: Held,
+) -> Result<Bytes, Memory>
     requires { length ends.now ≤ 16 }
-    ensures said { result ≢ 6 → Says (summary_of ends.now held) (H.host_told host.old) (H.host_told host.new) }
+    ensures text { IfOk result (λ text.
+        text.items ≡ served_text shows_journal (histories journal.now.items) ends.now held) }
+    ensures some { IfOk result (λ text. 0 < length text.items) }
+{
+    if shows_journal {
+        return journal_text(alloc, journal);
+    }
+    let text = summary(alloc, ends, held)?;
+    Bytes::from_slice(alloc, text.as_bytes())
+}
+
+/// Says the journal, or how each session ended, and answers the status.
+pub fn report<H: Host>(
+    alloc: Global,
+    host: &mut H,
+    shows_journal: bool,
+    journal: &Journal,
+    ends: &[SessionEnd],
+    held: Held,
+) -> u8
+    requires { length ends.now ≤ 16 }
+    ensures said { result ≢ 6 → Says (served_text shows_journal (histories journal.now.items) ends.now held)
+        (H.host_told host.old) (H.host_told host.new) }
     ensures files { LeavesFiles (H.host_told host.old) (H.host_told host.new) }
     ensures by_end { result ≢ 5 → result ≢ 6 → (result ≡ highest_by (ways ends.now))
         × (list_any (λ end. end.failed) ends.now ≡ false)
@@ -85,10 +115,10 @@ pub fn report<H: Host>(alloc: Global, host: &mut H, ends: &[SessionEnd], held: H
         ⊎ Rose (H.host_told host.old).say_faults (H.host_told host.new).say_faults) }
     ensures statuses { (result ≡ 0) ⊎ (result ≡ 3) ⊎ (result ≡ 4) ⊎ (result ≡ 5) ⊎ (result ≡ 6) }
 {
-    let Ok(text) = summary(alloc, ends, held) else {
+    let Ok(text) = served_text(alloc, shows_journal, journal, ends, held) else {
         return OUT_OF_MEMORY;
     };
-    let said = tell(host, text.as_str());
+    let said = tell(host, text.as_slice());
     let status = status_by_ends(ends);
     let failed = some_failed(ends);
     if status != OUT_OF_MEMORY && (failed || said.is_err()) {

@@ -2,6 +2,7 @@ ghost use Rattle.std.specs.Prelude.{None};
 
 mod commands;
 mod faults;
+mod journals;
 mod limits;
 mod pool;
 mod sessions;

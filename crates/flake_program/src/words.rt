@@ -10,12 +10,14 @@ use serve_inputs::Sizes;
 use serve_words::{ServeTask, serve_task};
 use std::alloc::Global;
 
-/// The files that are to be served, the sizes to serve them with, and how many workers do it.
+/// The files that are to be served, the sizes to serve them with, how many workers do it, and whether the journal is
+/// what is said of it.
 #[derive(Debug, Drop)]
 pub struct FilesTask<'a> {
     pub files: Vec<&'a str>,
     pub sizes: Sizes,
     pub workers: u16,
+    pub journal: bool,
 }
 
 /// The task that the words ask for; none where they are bad words.
@@ -39,6 +41,7 @@ fn sized_task<'a>(task: ServeTask<'a>) -> FilesTask<'a>
     FilesTask {
         sizes: sizes_of(&task.sizes),
         workers: task.workers,
+        journal: task.journal,
         files: task.files,
     }
 }

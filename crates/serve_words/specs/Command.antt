@@ -1,31 +1,40 @@
--- The command line of `serve`, as a command of the kit's `clap`: six options, and files.
+-- The command lines of `serve` and `check`, as commands of the kit's `clap`.
 use Rattle.std.specs.Prelude.{ℕ, List, Option, Some, None, codes, if◌then◌else◌, true}
 use Rattle.clap.specs.Walk.{Row, Rule, is_empty}
 use Rattle.clap.specs.Simple.{App, matches_of, new_app, new_rule, on_top, with_rule}
 use Rattle.clap.specs.Faults.{fault_of}
-use Rattle.clap.specs.declared.builder.action.ArgAction.TheVariants.{Append}
+use Rattle.clap.specs.declared.builder.action.ArgAction.TheVariants.{Append, SetTrue}
 
 -- an option `--name VALUE`
 abbrev pub option_rule : List ℕ → Rule
 option_rule name = record (new_rule name) { long = Some name }
+
+-- an option `--name` without a value
+abbrev pub flag_rule : List ℕ → Rule
+flag_rule name = record (option_rule name) { action = Some SetTrue }
 
 -- words that are no options are files, any number of them
 abbrev pub file_rule : Rule
 file_rule = record (new_rule (codes "file")) { action = Some Append }
 
 -- neither help nor a version is offered
-abbrev pub bare_command : App
-bare_command = on_top (λ shape. record shape { disable_help_flag = true; disable_version_flag = true })
-    (new_app (codes "serve"))
+abbrev pub bare_command : List ℕ → App
+bare_command name = on_top (λ shape. record shape { disable_help_flag = true; disable_version_flag = true })
+    (new_app name)
 
 abbrev pub sized_command : App
-sized_command = with_rule (with_rule (with_rule (with_rule (with_rule (with_rule bare_command
+sized_command = with_rule (with_rule (with_rule (with_rule (with_rule (with_rule (bare_command (codes "serve"))
     (option_rule (codes "shards"))) (option_rule (codes "small"))) (option_rule (codes "large")))
     (option_rule (codes "ring"))) (option_rule (codes "threshold"))) (option_rule (codes "workers"))
 
+-- `serve`: six options, a flag, and files
 abbrev pub serve_command : App
-serve_command = with_rule sized_command file_rule
+serve_command = with_rule (with_rule sized_command (flag_rule (codes "journal"))) file_rule
+
+-- `check`: files alone
+abbrev pub check_command : App
+check_command = with_rule (bare_command (codes "check")) file_rule
 
 -- what stands behind each name, where the words fit the command
-abbrev pub rows_in : List (List ℕ) → Option (List Row)
-rows_in words = if is_empty (fault_of serve_command words) then Some (matches_of serve_command words) else None
+abbrev pub rows_by : App → List (List ℕ) → Option (List Row)
+rows_by command words = if is_empty (fault_of command words) then Some (matches_of command words) else None

@@ -1,3 +1,5 @@
+pub mod Check
 pub mod Command
+pub mod Named
 pub mod Sizes
 pub mod Task

@@ -2,19 +2,21 @@
 use Rattle.std.specs.Prelude.{ℕ, Bool, List, [], ◌∷◌, Option, Some, None, codes, if◌then◌else◌, map, length, unwrap_or}
 use Rattle.std.specs.Prelude.{◌≤◌, ◌*◌, ◌&&◌, false, nat_le, String, string_bytes}
 use Rattle.std.specs.Global.{Global}
-use Rattle.std.specs.Option.{option_and_then, option_map}
+use Rattle.std.specs.Option.{option_and_then, option_map, option_map_or}
 use Rattle.std.specs.Str.{bytes_eq}
-use Rattle.clap.specs.Walk.{Row, all_of}
-use Rattle.serve_words.specs.Command.{rows_in}
+use Rattle.clap.specs.Walk.{Row, all_of, first_of}
+use Rattle.serve_words.specs.Command.{rows_by, serve_command}
 use Rattle.serve_words.specs.Sizes.{AreAllowed, size_in, sizes_in, workers_limits}
 use Rattle.serve_words.specs.declared.sizes.Sizes.{Sizes}
 use Rattle.serve_words.specs.declared.task.ServeTask.{ServeTask}
 
--- the names of the files that are to be served, in order, the sizes to serve them with, and how many workers do it
+-- the names of the files that are to be served, in order, the sizes to serve them with, how many workers do it, and
+-- whether the journal is what is said of it
 pub record Task : Type 0 where
   pub files : List (List ℕ)
   pub sizes : Sizes
   pub workers : ℕ
+  pub journal : Bool
 
 -- there are 1 to 16 files, and 128 small buffers for each
 abbrev pub fits : List (List ℕ) → Sizes → Bool
@@ -23,11 +25,17 @@ fits files sizes = nat_le 1 (length files) && nat_le (length files) 16 && nat_le
 abbrev pub workers_in : List (List ℕ) → List Row → Option ℕ
 workers_in files rows = size_in (codes "workers") (workers_limits (length files)) rows
 
+-- whether a flag is there
+abbrev pub flag_in : List ℕ → List Row → Bool
+flag_in name rows = option_map_or (λ text. bytes_eq text (codes "true")) (first_of name rows) false
+
+abbrev pub task_by : List (List ℕ) → List Row → Sizes → ℕ → Task
+task_by files rows sizes workers =
+    record { files = files; sizes = sizes; workers = workers; journal = flag_in (codes "journal") rows }
+
 abbrev pub task_for : List (List ℕ) → List Row → Sizes → Option Task
 task_for files rows sizes =
-    if fits files sizes
-    then option_map (λ workers. record { files = files; sizes = sizes; workers = workers }) (workers_in files rows)
-    else None
+    if fits files sizes then option_map (task_by files rows sizes) (workers_in files rows) else None
 
 abbrev pub files_in : List Row → List (List ℕ)
 files_in rows = unwrap_or (all_of (codes "file") rows) []
@@ -42,7 +50,7 @@ is_serve (command ∷ words) = bytes_eq command (codes "serve")
 
 -- the task that the words ask for; none where they are bad words
 abbrev pub task_of : List (List ℕ) → Option Task
-task_of words = if is_serve words then option_and_then task_in (rows_in words) else None
+task_of words = if is_serve words then option_and_then task_in (rows_by serve_command words) else None
 
 abbrev pub texts_of : List (String Global) → List (List ℕ)
 texts_of words = map (λ word. string_bytes word) words
@@ -53,6 +61,7 @@ shown task = record {
   files = map (λ file. file.now) task.files.items;
   sizes = task.sizes;
   workers = task.workers;
+  journal = task.journal;
 }
 
 -- a task that a run can be given

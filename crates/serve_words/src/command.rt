@@ -1,9 +1,11 @@
-// The command line of `serve`, as a command.
-ghost use Rattle.std.specs.Prelude.{◌≡◌, IfOk, false, option_map};
+// The command lines, as commands.
+ghost use Rattle.std.specs.Prelude.{◌≡◌, IfOk, true, false, codes, option_map};
+ghost use Rattle.clap.specs.Faults.{is_simple_and_free};
 ghost use Rattle.clap.specs.Matches.{found_of};
-ghost use Rattle.clap.specs.Simple.{app_of};
+ghost use Rattle.clap.specs.Simple.{app_of, is_simple};
 ghost use Rattle.clap.specs.Walk.{rows_of, rule_of};
-ghost use Rattle.serve_words.specs.Command.{bare_command, option_rule, rows_in, serve_command, sized_command};
+ghost use Rattle.serve_words.specs.Command.{bare_command, check_command, file_rule, flag_rule, option_rule};
+ghost use Rattle.serve_words.specs.Command.{rows_by, serve_command, sized_command};
 ghost use Rattle.serve_words.specs.Task.{texts_of};
 
 use clap::error::ErrorKind;
@@ -11,15 +13,38 @@ use clap::{Arg, ArgAction, ArgMatches, Command};
 use flake_base::Memory;
 use std::alloc::{AllocError, Global};
 
-/// What the words say, by the names of the options; none where they don't fit the command.
-pub(crate) fn matches_of_words<'a>(
+/// What the words say to `serve`, by the names of the options; none where they don't fit the command.
+pub(crate) fn serve_matches<'a>(
     alloc: Global,
     words: &'a [String],
 ) -> Result<Option<ArgMatches<'a>>, Memory>
     ensures { IfOk result (λ matches. option_map (λ m. rows_of (found_of m)) matches
-        ≡ rows_in (texts_of words.entry.now)) }
+        ≡ rows_by serve_command (texts_of words.entry.now)) }
 {
-    let command = serve_command(alloc)?;
+    matches_by(serve_command(alloc)?, words)
+}
+
+/// What the words say to `check`; none where they don't fit the command.
+pub(crate) fn check_matches<'a>(
+    alloc: Global,
+    words: &'a [String],
+) -> Result<Option<ArgMatches<'a>>, Memory>
+    ensures { IfOk result (λ matches. option_map (λ m. rows_of (found_of m)) matches
+        ≡ rows_by check_command (texts_of words.entry.now)) }
+{
+    matches_by(check_command(alloc)?, words)
+}
+
+// What the words say to a command of plain options and files.
+fn matches_by<'a>(
+    command: Command<'a>,
+    words: &'a [String],
+) -> Result<Option<ArgMatches<'a>>, Memory>
+    requires simple { is_simple (app_of command) ≡ true }
+    requires free { is_simple_and_free (app_of command) ≡ true }
+    ensures { IfOk result (λ matches. option_map (λ m. rows_of (found_of m)) matches
+        ≡ rows_by (app_of command.entry) (texts_of words.entry.now)) }
+{
     match command.try_get_matches_from(words) {
         Ok(matches) => Ok(Some(matches)),
         Err(error) => match error.kind() {
@@ -32,14 +57,22 @@ pub(crate) fn matches_of_words<'a>(
 fn serve_command<'a>(alloc: Global) -> Result<Command<'a>, AllocError>
     ensures { IfOk result (λ command. app_of command ≡ serve_command) }
 {
-    let file = Arg::new(alloc, "file").action(ArgAction::Append);
-    sized_command(alloc)?.arg(file)
+    let command = sized_command(alloc)?
+        .arg(flag(alloc, "journal"))?
+        .arg(files(alloc))?;
+    Ok(command)
+}
+
+fn check_command<'a>(alloc: Global) -> Result<Command<'a>, AllocError>
+    ensures { IfOk result (λ command. app_of command ≡ check_command) }
+{
+    bare_command(alloc, "check").arg(files(alloc))
 }
 
 fn sized_command<'a>(alloc: Global) -> Result<Command<'a>, AllocError>
     ensures { IfOk result (λ command. app_of command ≡ sized_command) }
 {
-    let command = bare_command(alloc)
+    let command = bare_command(alloc, "serve")
         .arg(size_option(alloc, "shards"))?
         .arg(size_option(alloc, "small"))?
         .arg(size_option(alloc, "large"))?
@@ -50,10 +83,10 @@ fn sized_command<'a>(alloc: Global) -> Result<Command<'a>, AllocError>
 }
 
 // Neither help nor a version is offered.
-fn bare_command<'a>(alloc: Global) -> Command<'a>
-    ensures { app_of result ≡ bare_command }
+fn bare_command<'a>(alloc: Global, name: &'a str) -> Command<'a>
+    ensures { app_of result ≡ bare_command name.entry.now }
 {
-    Command::new(alloc, "serve")
+    Command::new(alloc, name)
         .disable_help_flag(true)
         .disable_version_flag(true)
 }
@@ -64,4 +97,20 @@ fn size_option<'a>(alloc: Global, name: &'a str) -> Arg<'a>
     ensures local { result.global ≡ false }
 {
     Arg::new(alloc, name).long(name)
+}
+
+// An option `--name`.
+fn flag<'a>(alloc: Global, name: &'a str) -> Arg<'a>
+    ensures rule { rule_of result ≡ flag_rule name.entry.now }
+    ensures local { result.global ≡ false }
+{
+    Arg::new(alloc, name).long(name).action(ArgAction::SetTrue)
+}
+
+// All words that are no options.
+fn files<'a>(alloc: Global) -> Arg<'a>
+    ensures rule { rule_of result ≡ file_rule }
+    ensures local { result.global ≡ false }
+{
+    Arg::new(alloc, "file").action(ArgAction::Append)
 }

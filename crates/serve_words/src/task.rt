@@ -1,20 +1,22 @@
 ghost use Rattle.std.specs.Prelude.{◌≡◌, IfOk, IfSome, map, option_map};
 ghost use Rattle.clap.specs.Matches.{found_of};
 ghost use Rattle.clap.specs.Walk.{rows_of};
-ghost use Rattle.serve_words.specs.Task.{IsAllowed, files_in, fits, shown, task_in};
+ghost use Rattle.serve_words.specs.Task.{IsAllowed, files_in, fits, flag_in, shown, task_in};
 
 use crate::sizes::{Sizes, sizes_in, workers_in};
 use clap::ArgMatches;
 use flake_base::Memory;
 use std::alloc::{AllocError, Global};
 
-/// The files that are to be served, the sizes to serve them with, and how many workers do it.
+/// The files that are to be served, the sizes to serve them with, how many workers do it, and whether the journal is
+/// what is said of it.
 #[derive(Debug, Drop)]
 pub struct ServeTask<'a> {
     /// Their names, in the order of the words.
     pub files: Vec<&'a str>,
     pub sizes: Sizes,
     pub workers: u16,
+    pub journal: bool,
 }
 
 /// The task that the words ask for, if their sizes and the number of files fit.
@@ -39,10 +41,24 @@ pub(crate) fn task_in<'a>(
         files,
         sizes,
         workers,
+        journal: flag_in(matches, "journal"),
     }))
 }
 
-fn files_in<'a>(alloc: Global, matches: &ArgMatches<'a>) -> Result<Vec<&'a str>, AllocError>
+// Whether a flag is there.
+fn flag_in(matches: &ArgMatches<'_>, name: &str) -> bool
+    ensures { result ≡ flag_in name.now (rows_of (found_of matches.now)) }
+{
+    match matches.get_str(name) {
+        Some(text) => text == "true",
+        None => false,
+    }
+}
+
+pub(crate) fn files_in<'a>(
+    alloc: Global,
+    matches: &ArgMatches<'a>,
+) -> Result<Vec<&'a str>, AllocError>
     ensures { IfOk result (λ files. map (λ file. file.now) files.items ≡ files_in (rows_of (found_of matches.now))) }
 {
     match matches.get_strs("file") {

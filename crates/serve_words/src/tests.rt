@@ -1,4 +1,4 @@
-use crate::{ServeTask, Sizes, serve_task};
+use crate::{CheckTask, CommandName, ServeTask, Sizes, check_task, command_name, serve_task};
 use flake_base::Memory;
 use std::alloc::Global;
 use std::test::Fail;
@@ -19,32 +19,46 @@ struct Row {
     files: &'static [&'static str],
     sizes: Sizes,
     workers: u16,
+    journal: bool,
 }
 
-static ACCEPTED: [Row; 14] = [
+/// One file, and no option.
+const PLAIN: Row = Row {
+    words: &["serve", "a"],
+    files: &["a"],
+    sizes: USUAL,
+    workers: 1,
+    journal: false,
+};
+
+static ACCEPTED: [Row; 17] = [
     Row {
         words: &["serve", "in.resp"],
         files: &["in.resp"],
         sizes: USUAL,
         workers: 1,
+        ..PLAIN
     },
     Row {
         words: &["serve", "b", "a", "b"],
         files: &["b", "a", "b"],
         sizes: USUAL,
         workers: 3,
+        ..PLAIN
     },
     Row {
         words: &["serve", "serve", "-", ""],
         files: &["serve", "-", ""],
         sizes: USUAL,
         workers: 3,
+        ..PLAIN
     },
     Row {
         words: &["serve", "--", "--ring", "--", "none"],
         files: &["--ring", "--", "none"],
         sizes: USUAL,
         workers: 3,
+        ..PLAIN
     },
     Row {
         words: &[
@@ -71,6 +85,7 @@ static ACCEPTED: [Row; 14] = [
             threshold: 1,
         },
         workers: 2,
+        ..PLAIN
     },
     Row {
         words: &[
@@ -91,6 +106,7 @@ static ACCEPTED: [Row; 14] = [
             threshold: 512,
         },
         workers: 1,
+        ..PLAIN
     },
     Row {
         words: &["serve", "--ring=1168", "a"],
@@ -100,6 +116,7 @@ static ACCEPTED: [Row; 14] = [
             ..USUAL
         },
         workers: 1,
+        ..PLAIN
     },
     Row {
         words: &["serve", "--threshold", "10", "a"],
@@ -109,12 +126,14 @@ static ACCEPTED: [Row; 14] = [
             ..USUAL
         },
         workers: 1,
+        ..PLAIN
     },
     Row {
         words: &["serve", "--large", "2", "a"],
         files: &["a"],
         sizes: Sizes { large: 2, ..USUAL },
         workers: 1,
+        ..PLAIN
     },
     Row {
         words: &["serve", "--small", "128", "a"],
@@ -124,6 +143,7 @@ static ACCEPTED: [Row; 14] = [
             ..USUAL
         },
         workers: 1,
+        ..PLAIN
     },
     Row {
         words: &["serve", "--shards", "16", "a"],
@@ -133,6 +153,7 @@ static ACCEPTED: [Row; 14] = [
             ..USUAL
         },
         workers: 1,
+        ..PLAIN
     },
     Row {
         words: &[
@@ -147,23 +168,42 @@ static ACCEPTED: [Row; 14] = [
             ..USUAL
         },
         workers: 16,
+        ..PLAIN
     },
     Row {
         words: &["serve", "--workers", "1", "a", "b"],
         files: &["a", "b"],
         sizes: USUAL,
         workers: 1,
+        ..PLAIN
     },
     Row {
         words: &["serve", "a", "--workers=16", "b"],
         files: &["a", "b"],
         sizes: USUAL,
         workers: 16,
+        ..PLAIN
+    },
+    Row {
+        words: &["serve", "--journal", "a"],
+        journal: true,
+        ..PLAIN
+    },
+    Row {
+        words: &["serve", "a", "--journal", "--workers", "2"],
+        workers: 2,
+        journal: true,
+        ..PLAIN
+    },
+    Row {
+        words: &["serve", "--", "--journal"],
+        files: &["--journal"],
+        ..PLAIN
     },
 ];
 
 /// Words that ask for nothing.
-static REFUSED: [&[&str]; 49] = [
+static REFUSED: [&[&str]; 53] = [
     &[],
     &[""],
     &["serve"],
@@ -211,6 +251,10 @@ static REFUSED: [&[&str]; 49] = [
     &["serve", "--workers", "01", "a"],
     &["serve", "--workers=", "a"],
     &["serve", "--worker", "1", "a"],
+    &["serve", "--journal"],
+    &["serve", "--journal=true", "a"],
+    &["serve", "--journal", "--journal", "a"],
+    &["check", "a", "b", "c"],
     &["serve", "--workers", "1", "--workers", "1", "a"],
     &[
         "serve", "a", "b", "c", "d", "e", "f", "g", "h", "i", "j", "k", "l", "m", "n", "o", "p",
@@ -238,6 +282,7 @@ fn words_that_ask_for_a_task(rt: HostRuntime) -> Result<(), Fail> {
         let task = asked(rt.alloc(), words.as_slice())?.ok_or("refused")?;
         assert_eq!(rt; task.sizes, row.sizes);
         assert_eq!(rt; task.workers, row.workers);
+        assert_eq!(rt; task.journal, row.journal);
         assert_eq!(rt; task.files.as_slice(), row.files);
     }
     Ok(())
@@ -248,6 +293,124 @@ fn bad_words(rt: HostRuntime) -> Result<(), Fail> {
     for texts in REFUSED {
         let words = typed(rt.alloc(), texts)?;
         assert!(rt; asked(rt.alloc(), words.as_slice())?.is_none());
+    }
+    Ok(())
+}
+
+/// Words of `check`, and the files that they ask for.
+static CHECKS: [(&[&str], &[Option<&str>]); 5] = [
+    (
+        &["check", "j", "i", "r"],
+        &[Some("j"), Some("i"), Some("r")],
+    ),
+    (
+        &["check", "none", "none", "none"],
+        &[Some("none"), Some("none"), None],
+    ),
+    (
+        &["check", "j", "i", "None", "none", "none"],
+        &[Some("j"), Some("i"), Some("None"), Some("none"), None],
+    ),
+    (
+        &["check", "--", "--journal", "i", "none"],
+        &[Some("--journal"), Some("i"), None],
+    ),
+    (
+        &[
+            "check", "j", "a", "a", "b", "b", "c", "c", "d", "d", "e", "e", "f", "f", "g", "g",
+            "h", "h", "i", "i", "j", "j", "k", "k", "l", "l", "m", "m", "n", "n", "o", "o", "p",
+            "none",
+        ],
+        &[
+            Some("j"),
+            Some("a"),
+            Some("a"),
+            Some("b"),
+            Some("b"),
+            Some("c"),
+            Some("c"),
+            Some("d"),
+            Some("d"),
+            Some("e"),
+            Some("e"),
+            Some("f"),
+            Some("f"),
+            Some("g"),
+            Some("g"),
+            Some("h"),
+            Some("h"),
+            Some("i"),
+            Some("i"),
+            Some("j"),
+            Some("j"),
+            Some("k"),
+            Some("k"),
+            Some("l"),
+            Some("l"),
+            Some("m"),
+            Some("m"),
+            Some("n"),
+            Some("n"),
+            Some("o"),
+            Some("o"),
+            Some("p"),
+            None,
+        ],
+    ),
+];
+
+/// No pair, half a pair, an option, and 17 pairs.
+static NO_CHECKS: [&[&str]; 6] = [
+    &["check"],
+    &["check", "j"],
+    &["check", "j", "i"],
+    &["check", "j", "i", "r", "i"],
+    &["check", "--journal", "j", "i", "r"],
+    &[
+        "check", "j", "a", "a", "b", "b", "c", "c", "d", "d", "e", "e", "f", "f", "g", "g", "h",
+        "h", "i", "i", "j", "j", "k", "k", "l", "l", "m", "m", "n", "n", "o", "o", "p", "p", "q",
+        "q",
+    ],
+];
+
+// The only call of `check_task`, which has no clauses.
+fn asked_check<'a>(alloc: Global, words: &'a [String]) -> Result<Option<CheckTask<'a>>, Memory> {
+    check_task(alloc, words)
+}
+
+#[test]
+fn words_that_ask_for_a_check(rt: HostRuntime) -> Result<(), Fail> {
+    for (texts, files) in CHECKS {
+        let words = typed(rt.alloc(), texts)?;
+        let task = asked_check(rt.alloc(), words.as_slice())?.ok_or("refused")?;
+        assert_eq!(rt; task.files.as_slice(), files);
+    }
+    Ok(())
+}
+
+#[test]
+fn bad_words_of_a_check(rt: HostRuntime) -> Result<(), Fail> {
+    for texts in NO_CHECKS {
+        let words = typed(rt.alloc(), texts)?;
+        assert!(rt; asked_check(rt.alloc(), words.as_slice())?.is_none());
+    }
+    Ok(())
+}
+
+/// First words, and the commands that they name.
+static NAMES: [(&[&str], CommandName); 5] = [
+    (&["check", "j"], CommandName::Check),
+    (&["serve", "check"], CommandName::Serve),
+    (&["Check"], CommandName::Serve),
+    (&["checks"], CommandName::Serve),
+    (&[], CommandName::Serve),
+];
+
+#[test]
+fn names_of_commands(rt: HostRuntime) -> Result<(), Fail> {
+    for (texts, name) in NAMES {
+        let words = typed(rt.alloc(), texts)?;
+        assert_eq!(rt; command_name(words.as_slice()), name);
     }
     Ok(())
 }

@@ -1,7 +1,7 @@
 ghost use Rattle.std.specs.Prelude.{◌≡◌, IfOk, IfSome, option_map};
 ghost use Rattle.serve_words.specs.Task.{IsAllowed, is_serve, shown, task_of, texts_of};
 
-use crate::command::matches_of_words;
+use crate::command::serve_matches;
 use crate::task::{ServeTask, task_in};
 use flake_base::Memory;
 use std::alloc::Global;
@@ -15,7 +15,7 @@ pub fn serve_task<'a>(alloc: Global, words: &'a [String]) -> Result<Option<Serve
     if !is_serve(words) {
         return Ok(None);
     }
-    match matches_of_words(alloc, words)? {
+    match serve_matches(alloc, words)? {
         Some(matches) => task_in(alloc, &matches),
         None => Ok(None),
     }

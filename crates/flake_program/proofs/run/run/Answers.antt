@@ -92,8 +92,8 @@ returns-in-Ok-serve_sources g c =
     let opened : AreOpened job.names (g.H.Host.host_told c.args.host.now) (g.H.Host.host_told c.open_files.new.host) lefts zeros =
     subst (λ files. AreOpened (map (λ (file : Bor (List ℕ)). file.now) files) (g.H.Host.host_told c.args.host.now) (g.H.Host.host_told c.open_files.new.host) lefts zeros) c.as_slice.ensures.value c.in-Ok.ensures.opened in
     let as_many : length sources.items ≡ length job.names = sym (length-map sources.items (λ s. g.H.In.Source.left s)) ∙ opened.as_many in
-    let reported : Reported (g.H.Host.host_told c.open_files.new.host) (g.H.Host.host_told c.report.new.host) c.report.result ran.ends.items c.held-held.result =
-    subst (λ ends. Reported (g.H.Host.host_told c.open_files.new.host) (g.H.Host.host_told c.report.new.host) c.report.result ends c.held-held.result) c.as_slice-in-Ok-serve_sources.ensures (record {
+    let reported : Reported (g.H.Host.host_told c.open_files.new.host) (g.H.Host.host_told c.report.new.host) c.report.result task.journal (histories ran.journal.items) ran.ends.items c.held-held.result =
+    subst (λ ends. Reported (g.H.Host.host_told c.open_files.new.host) (g.H.Host.host_told c.report.new.host) c.report.result task.journal (histories ran.journal.items) ends c.held-held.result) c.as_slice-in-Ok-serve_sources.ensures (record {
       said = c.report.ensures.said;
       statuses = c.report.ensures.statuses;
       by_end = c.report.ensures.by_end;

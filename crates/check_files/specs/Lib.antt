@@ -1,0 +1,5 @@
+pub mod Whole
+pub mod File
+pub mod Files
+pub mod Stopped
+pub mod Judged

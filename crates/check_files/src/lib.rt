@@ -1,0 +1,15 @@
+//! Files that are read whole, and the verdict on the journal, the inputs and the replies that they hold.
+#![tactic(auto)]
+
+mod contents;
+mod error;
+mod file;
+#[cfg(test)]
+mod tests;
+mod verdict;
+mod whole;
+
+pub use error::{CheckError, Unread};
+pub use file::File;
+pub use verdict::check_files;
+pub use whole::read_whole;

@@ -1,0 +1,21 @@
+ghost use Rattle.std.specs.Prelude.{◌≡◌};
+ghost use Rattle.serve_words.specs.Named.{name_of};
+ghost use Rattle.serve_words.specs.Task.{texts_of};
+
+/// What the first word of a command line asks for.
+#[derive(Clone, Copy, Debug, PartialEq, Eq)]
+pub enum CommandName {
+    /// `serve`, or a word that names no command: such words are bad words of `serve`.
+    Serve,
+    Check,
+}
+
+/// The command that the words behind the program's name ask for.
+pub fn command_name(words: &[String]) -> CommandName
+    ensures { result ≡ name_of (texts_of words.now) }
+{
+    match words {
+        [command, ..] if command.as_str() == "check" => CommandName::Check,
+        _ => CommandName::Serve,
+    }
+}
