@@ -1,0 +1,6 @@
+mod asking;
+mod house;
+mod passes;
+mod replies;
+mod rows;
+mod tight;
