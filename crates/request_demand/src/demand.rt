@@ -1,4 +1,4 @@
-ghost use Rattle.std.specs.Prelude.{◌≡◌, ◌≤◌, ◌<◌};
+ghost use Rattle.std.specs.Prelude.{◌≡◌, ◌≤◌, ◌<◌, ◌*◌};
 ghost use Rattle.pin_core.specs.declared.class.Class.TheVariants.{Small, Large};
 ghost use Rattle.serve_model.specs.Demand.{demand_of, session_row};
 ghost use Rattle.request_demand.specs.Sessions.{commands_of, sessions_of};
@@ -13,6 +13,7 @@ pub fn generated_demand(number: u32, sessions: u16, count: u32) -> Demand
     requires count { count ≤ 4000 }
     ensures small { result.small ≡ demand_of Small (sessions_of number sessions count) }
     ensures large { result.large ≡ demand_of Large (sessions_of number sessions count) }
+    ensures stages { 128 * sessions ≤ result.small }
 {
     let mut demand = Demand { small: 0, large: 0 };
     for session in 0..sessions {
@@ -27,6 +28,7 @@ fn session_demand(number: u32, session: u16, count: u32) -> Demand
     requires count { count ≤ 4000 }
     ensures small { result.small ≡ session_row Small (commands_of number session count) }
     ensures large { result.large ≡ session_row Large (commands_of number session count) }
+    ensures stage { 128 ≤ result.small }
     ensures few { (result.small ≤ 4128) × (result.large ≤ 12_000) }
 {
     let mut draws = Draws::new(number, session);

@@ -10,6 +10,7 @@ loop-session-preserved c =
     record {
       small_is = omega (arith, c.loop-session.invariant.small_is, c.plus-demand.ensures.small, c.session_demand.ensures.small, first Small);
       large_is = omega (arith, c.loop-session.invariant.large_is, c.plus-demand.ensures.large, c.session_demand.ensures.large, first Large);
+      stages = omega arith;
       few_small = omega arith;
       few_large = omega arith;
     }

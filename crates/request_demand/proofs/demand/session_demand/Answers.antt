@@ -15,6 +15,7 @@ loop-r-preserved c =
     record {
       small_is = omega (arith, c.loop-r.invariant.small_is, c.plus-demand.ensures.small, c.request_demand.ensures.small, first Small, request Small, rest Small);
       large_is = omega (arith, c.loop-r.invariant.large_is, c.plus-demand.ensures.large, c.request_demand.ensures.large, first Large, request Large, rest Large);
+      stage = omega arith;
       few_small = omega arith;
       few_large = omega arith;
     }

@@ -8,6 +8,7 @@ use Rattle.request_demand.proofs.demand.session_demand.Given as goal
 pub record IsCounted (number session count r state small large : ℕ) : Type 0 where
   pub small_is : small + row_from Small (count - r) r state ≡ 128 + row_from Small count 0 (first_state number session)
   pub large_is : large + row_from Large (count - r) r state ≡ row_from Large count 0 (first_state number session)
+  pub stage : 128 ≤ small
   pub few_small : small ≤ 128 + r
   pub few_large : large ≤ 3 * r
 
