@@ -1,0 +1,4 @@
+pub mod Allowed
+pub mod Clean
+pub mod Meant
+pub mod Put

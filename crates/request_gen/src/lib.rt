@@ -1,0 +1,14 @@
+//! Requests that are generated from a number: which ones a session makes, and their text as an input.
+#![tactic(auto)]
+
+mod draws;
+mod input;
+pub mod laws;
+mod request;
+#[cfg(test)]
+mod tests;
+mod words;
+
+pub use draws::Draws;
+pub use input::session_input;
+pub use request::{Key, Request, next_request};

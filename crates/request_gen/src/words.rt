@@ -1,0 +1,107 @@
+// The words of a request, as the items of an array.
+ghost use Rattle.std.specs.Prelude.{◌≡◌, ◌<◌, [], ◌∷◌, Some, IfOk, map, string_bytes};
+ghost use Rattle.resp_text.specs.Meaning.{item_meaning};
+ghost use Rattle.request_gen.specs.Requests.{IsKey, IsRequest};
+ghost use Rattle.request_gen.specs.Words.{key_text, letter_of, value_of, words_of};
+
+use crate::request::{Key, Request};
+use flake_base::{Bytes, Memory};
+use resp_text::Items;
+use std::alloc::Global;
+
+/// The words of a session's request.
+pub(crate) fn words(alloc: Global, session: u16, request: Request) -> Result<Items, Memory>
+    requires session { session < 16 }
+    requires request { IsRequest request }
+    ensures { IfOk result (λ words. map item_meaning words.items ≡ map Some (words_of session request)) }
+{
+    match request {
+        Request::Get(key) => key_words(alloc, b"GET", session, key),
+        Request::GetFour(n) => four_keys(alloc, session, n),
+        Request::Set(key, len) => value_words(alloc, b"SET", session, key, len),
+        Request::Append(n) => value_words(alloc, b"APPEND", session, Key::Own(n), 100),
+        Request::Del(n) => key_words(alloc, b"DEL", session, Key::Own(n)),
+    }
+}
+
+fn key_words(alloc: Global, name: &[u8], session: u16, key: Key) -> Result<Items, Memory>
+    ensures { IfOk result (λ words. map item_meaning words.items
+        ≡ Some name.now ∷ Some (key_text session key) ∷ []) }
+{
+    let name = word(alloc, name)?;
+    let key = key_word(alloc, session, key)?;
+    Ok(Items::from_vec(vec![in alloc; name, key]?))
+}
+
+fn value_words(
+    alloc: Global,
+    name: &[u8],
+    session: u16,
+    key: Key,
+    len: u16,
+) -> Result<Items, Memory>
+    requires session { session < 16 }
+    requires key { IsKey key }
+    ensures { IfOk result (λ words. map item_meaning words.items
+        ≡ Some name.now ∷ Some (key_text session key) ∷ Some (value_of session key len) ∷ []) }
+{
+    let name = word(alloc, name)?;
+    let value = value_word(alloc, session, key, len)?;
+    let key = key_word(alloc, session, key)?;
+    Ok(Items::from_vec(vec![in alloc; name, key, value]?))
+}
+
+fn four_keys(alloc: Global, session: u16, n: u16) -> Result<Items, Memory>
+    requires { n < 16 }
+    ensures { IfOk result (λ words. map item_meaning words.items ≡ map Some (words_of session (Request.GetFour n))) }
+{
+    let next = (n + 1) % 16;
+    let name = word(alloc, b"MGET")?;
+    let shared = key_word(alloc, session, Key::Shared(n))?;
+    let own = key_word(alloc, session, Key::Own(n))?;
+    let next_shared = key_word(alloc, session, Key::Shared(next))?;
+    let next_own = key_word(alloc, session, Key::Own(next))?;
+    Ok(Items::from_vec(vec![in alloc; name, shared, own, next_shared, next_own]?))
+}
+
+fn word(alloc: Global, bytes: &[u8]) -> Result<Option<Bytes>, Memory>
+    ensures { IfOk result (λ word. item_meaning word ≡ Some bytes.now) }
+{
+    Ok(Some(Bytes::from_slice(alloc, bytes)?))
+}
+
+fn key_word(alloc: Global, session: u16, key: Key) -> Result<Option<Bytes>, Memory>
+    ensures { IfOk result (λ word. item_meaning word ≡ Some (key_text session key)) }
+{
+    match key {
+        Key::Shared(n) => Ok(text_word(format!(in alloc; "s{n}")?)),
+        Key::Own(n) => Ok(text_word(format!(in alloc; "p{session}x{n}")?)),
+    }
+}
+
+fn text_word(text: String) -> Option<Bytes>
+    ensures { item_meaning result ≡ Some (string_bytes text) }
+{
+    Some(Bytes::from_vec(text.into_bytes()))
+}
+
+fn value_word(alloc: Global, session: u16, key: Key, len: u16) -> Result<Option<Bytes>, Memory>
+    requires session { session < 16 }
+    requires key { IsKey key }
+    ensures { IfOk result (λ word. item_meaning word ≡ Some (value_of session key len)) }
+{
+    let letter = letter(session, key);
+    Ok(Some(Bytes::from_vec(vec![in alloc; letter; usize::from(len)]?)))
+}
+
+// Capital letters are shared ones of a session, and small ones own ones of a key.
+fn letter(session: u16, key: Key) -> u8
+    requires session { session < 16 }
+    requires key { IsKey key }
+    ensures { result ≡ letter_of session key }
+{
+    match key {
+        Key::Shared(_) => b'A' + session as u8,
+        Key::Own(n) => b'a' + n as u8,
+    }
+}
