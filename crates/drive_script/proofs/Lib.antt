@@ -1,0 +1,3 @@
+pub mod Addresses
+pub mod Done
+pub mod Showing
