@@ -1,3 +1,6 @@
 pub mod Addresses
 pub mod Done
 pub mod Showing
+pub mod Lanes
+pub mod ByPuts
+pub mod Ends
