@@ -1,9 +1,9 @@
 -- What is sent by puts and flushes until one of them fails is sent in parts.
-use Rattle.std.proofs.Common.{◌≡◌, ℕ, Bool, true, false, List, [], ◌∷◌, ◌++◌, refl, ap, sym, ◌∙◌, arith}
+use Rattle.std.proofs.Common.{◌≡◌, ℕ, Bool, true, false, List, [], ◌∷◌, refl, ap, arith}
 use Rattle.std.specs.Borrow.{Bor}
 use Rattle.view_sums.specs.Total.{Each}
 use Rattle.any_wire.specs.Sends.{Step, puts, flushes, joined, IsShort, Chain, Sends}
-use Rattle.any_wire.proofs.Sending.{sends-none, sends-on, sends-same}
+use Rattle.any_wire.proofs.Sending.{sends-none, sends-on}
 use Rattle.drive_model.specs.Wires.{IsSending}
 use Rattle.drive_script.specs.Lanes.{sends_by}
 

@@ -1,5 +1,5 @@
 -- A driven session, over each kind of line.
-use Rattle.std.proofs.Common.{◌≡◌, ℕ, ◌+◌, ◌<◌, ◌≤◌, Bool, true, false, not, List, [], ◌∷◌, ◌++◌, length, map, slice_get, Option, Some, refl, ap, sym, ◌∙◌, subst, arith, length-append}
+use Rattle.std.proofs.Common.{◌≡◌, ℕ, ◌+◌, Bool, true, false, List, [], ◌∷◌, ◌++◌, length, slice_get, Option, Some, refl, ap, sym, ◌∙◌, subst, arith, length-append}
 use Rattle.flake_base.specs.declared.session.End.{End}
 use Rattle.flake_model.specs.Command.{Command}
 use Rattle.reply_planner.specs.Parcels.{Sent}

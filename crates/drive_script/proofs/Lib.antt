@@ -4,3 +4,5 @@ pub mod Showing
 pub mod Lanes
 pub mod ByPuts
 pub mod Ends
+pub mod Calls
+pub mod Called

@@ -1,9 +1,12 @@
 //! Sessions that are driven line by line, as a schedule asks.
 #![tactic(auto)]
 
+mod asking;
+mod call;
 mod happened;
 mod lane;
 pub mod laws;
 
+pub use asking::Asking;
 pub use happened::Happened;
 pub use lane::Lane;

@@ -1,4 +1,4 @@
-use Rattle.std.proofs.Common.{◌++◌, ◌∷◌, [], sym, subst, ap, ◌∙◌}
+use Rattle.std.proofs.Common.{◌++◌, ◌∷◌, [], sym, subst}
 use Rattle.transcript_model.specs.Lines.{nothing_reaped}
 use Rattle.drive_model.specs.Views.{SessionShown, DeviceShown}
 use Rattle.drive_script.specs.Lanes.{IsDriven}
