@@ -13,7 +13,8 @@ use Rattle.drive_model.specs.Quiet.{says_end}
 use Rattle.drive_model.specs.Views.{SessionShown, DeviceShown}
 
 -- a text is sent by puts and flushes, until one of them fails
-abbrev pub sends_by : {W : Type 0} → (W → Bor (List ℕ) → (W × Bool) → Type 0) → (W → (W × Bool) → Type 0) → Sending W
+abbrev pub sends_by : {W : Type 0} → (W → Bor (List ℕ) → (W × Bool) → Type 0) → (W → (W × Bool) → Type 0)
+    → Sending W
 sends_by put_may flush_may failed text old new = Sends put_may flush_may false failed text old new
 
 -- what stays of a session's terms over all its lines
@@ -38,8 +39,8 @@ abbrev pub IsEndSaid : Option End → End → Type 0
 IsEndSaid None end = Unit {0}
 IsEndSaid (Some said) end = end ≡ said
 
--- What was said of the session so far is right by what is known of it now: the commands that its input gave, its end, if
--- that was said, and how many of its replies were sent whole.
+-- What was said of the session so far is right by what is known of it now: the commands that its input gave, its end,
+-- if that was said, and how many of its replies were sent whole.
 pub record IsDriven (fixed : Fixed) (given : List Command) (end : Option End) (whole : ℕ) (events : List Event)
     (session : SessionShown) (device : DeviceShown) : Type 0 where
   pub terms : Terms

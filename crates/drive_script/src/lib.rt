@@ -6,7 +6,9 @@ mod call;
 mod happened;
 mod lane;
 pub mod laws;
+mod telling;
 
 pub use asking::Asking;
 pub use happened::Happened;
 pub use lane::Lane;
+pub use telling::tell;
