@@ -25,12 +25,12 @@ last_of byte (next ∷ line) clear =
     let other : (byte == 10) ≡ false = grind (arith, nat_tests) in
     rw other (ap (with_byte byte) (last_of next line clear.1))
 
-all_of : (lines : List (List ℕ)) → AllByRecursion (HasNo 10) lines → lines_of (ended lines) ≡ lines
+pub all_of : (lines : List (List ℕ)) → AllByRecursion (HasNo 10) lines → lines_of (ended lines) ≡ lines
 all_of [] clear = refl
 all_of (line ∷ lines) clear =
     ap lines_of (append_assoc line (10 ∷ []) (ended lines)) ∙ first_of line (ended lines) clear.0 ∙ ap (λ rest. line ∷ rest) (all_of lines clear.1)
 
-no_lf_in_number : (n : ℕ) → HasNo 10 (decimal n)
+pub no_lf_in_number : (n : ℕ) → HasNo 10 (decimal n)
 no_lf_in_number n = HasNo-decimal 10 n (omega arith)
 
 no_lf_in_word : HasNo 10 (codes "shards ")

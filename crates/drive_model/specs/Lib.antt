@@ -1,0 +1,5 @@
+pub mod Views
+pub mod Calls
+pub mod Matches
+pub mod Quiet
+pub mod Wires

@@ -1,0 +1,33 @@
+use Rattle.std.proofs.Common.{◌++◌, ◌∷◌, [], sym, subst}
+use Rattle.transcript_model.specs.Lines.{nothing_reaped}
+use Rattle.drive_model.specs.Views.{SessionShown, DeviceShown}
+use Rattle.drive_script.specs.Lanes.{IsDriven}
+use Rattle.drive_script.specs.Shown.{session_shown, device_shown}
+use Rattle.drive_script.proofs.Ends.{both_shown}
+use Rattle.drive_script.proofs.Lanes.{lane_reaped, lane_none, told_again}
+use Rattle.drive_script.proofs.Showing.{reap_shown, none_shown}
+use Rattle.drive_script.proofs.lane.Lane.reap.Goals as goal
+
+pub returns-in-Some-clause-right : goal.returns-in-Some-clause-right
+returns-in-Some-clause-right g c = λ fixed given end whole events driven.
+    let z = g.P.PoolName.sizes in
+    let was = c.args.self.now in
+    let between = c.reap_one-reaped.new.self in
+    let session = c.both_ends.new.session in
+    let device = c.both_ends.new.device in
+    lane_reaped fixed given end events whole (session_shown z was.session) (session_shown z between) (session_shown z session) (device_shown was.device.failed was.device.end) (device_shown device.failed device.end) _ _ driven
+    (reap_shown z was.session between _ _ c.in-Some.ensures.one)
+    (both_shown z between session was.device.failed device.failed was.device.end device.end c.both_ends.ensures.session c.both_ends.ensures.device c.both_ends.ensures.failed c.both_ends.ensures.order.0 c.both_ends.ensures.order.1)
+
+pub returns-in-None-clause-right : goal.returns-in-None-clause-right
+returns-in-None-clause-right g c = λ fixed given end whole events driven.
+    let z = g.P.PoolName.sizes in
+    let was = c.args.self.now in
+    let between = c.reap_one-reaped.new.self in
+    let session = c.both_ends.new.session in
+    let device = c.both_ends.new.device in
+    let both = both_shown z between session was.device.failed device.failed was.device.end device.end c.both_ends.ensures.session c.both_ends.ensures.device c.both_ends.ensures.failed c.both_ends.ensures.order.0 c.both_ends.ensures.order.1 in
+    let said = lane_none fixed given end events whole (session_shown z was.session) (session_shown z between) (device_shown was.device.failed was.device.end) driven (none_shown z was.session between c.in-None.ensures.none) in
+    let again = told_again fixed given end whole (events ++ nothing_reaped ∷ []) (session_shown z between) (session_shown z session) (device_shown was.device.failed was.device.end) (device_shown device.failed device.end) said both.session both.device in
+    subst (λ (s : SessionShown). IsDriven fixed given end whole (events ++ nothing_reaped ∷ []) s (device_shown device.failed device.end)) (sym again.0)
+    (subst (λ (d : DeviceShown). IsDriven fixed given end whole (events ++ nothing_reaped ∷ []) (session_shown z between) d) (sym again.1) said)

@@ -1,0 +1,90 @@
+// A session that is driven.
+ghost use Rattle.std.specs.Prelude.{◌≡◌, ◌++◌, ◌∷◌, [], ℕ, List, Option};
+ghost use Rattle.flake_base.specs.declared.session.End.{End};
+ghost use Rattle.flake_model.specs.Command.{Command as Meaning};
+ghost use Rattle.schedule_text.specs.declared.line.Line.TheVariants as asked;
+ghost use Rattle.tx_ring.specs.Shown.{device_ring};
+ghost use Rattle.transcript_model.specs.Lines.{Event, line_of};
+ghost use Rattle.drive_script.specs.Happened.{event_of};
+ghost use Rattle.drive_script.specs.Lanes.{Fixed, IsDriven, IsLane, sends_by};
+ghost use Rattle.drive_script.specs.Shown.{session_shown, device_shown};
+
+use crate::happened::Happened;
+use command_exec::Shop;
+use device_model::{Device, Gathered};
+use order_book::BookName;
+use pinned_pool::{Pool, PoolName};
+use reply_planner::Parcel;
+use session_pass::{Session, laws};
+use tx_descriptor::Framed;
+
+/// A session, and who gathers its replies.
+#[derive(Drop)]
+pub struct Lane<N: BookName, P: PoolName + Send>
+where
+    Parcel<P>: Framed,
+{
+    pub session: Session<N, P>,
+    pub device: Device<P>,
+}
+
+impl<N: BookName, P: PoolName + Send> Lane<N, P> {
+    /// Gathers the next reply, and puts it on the wire.
+    pub fn gather<W: Drop, PUT: Fn(W, &[u8]) -> (W, bool), FLUSH: Fn(W) -> (W, bool)>(
+        &mut self,
+        pool: &Pool<P>,
+        wire: W,
+        put: &PUT,
+        flush: &FLUSH,
+    ) -> (W, Happened)
+        requires calls { PUT.IsAlwaysCallable put.now × FLUSH.IsAlwaysCallable flush.now }
+        requires ring { device_ring self.old.device.end ≡ self.old.session.ring }
+        ensures ring { device_ring self.new.device.end ≡ self.new.session.ring }
+        ensures pass { self.new.session.pass ≡ self.old.session.pass }
+        ensures answers { (session : ℕ) → line_of (record { session = session; event = event_of result.1 [] [] })
+            ≡ asked.Gather session }
+        ensures right { (fixed : Fixed) (start : W) (given : List Meaning) (end : Option End) (events : List Event)
+            → IsLane (sends_by (λ w p r. PUT.post put.now w p r) (λ w r. FLUSH.post flush.now w r)) fixed start
+            given end events (session_shown P.sizes self.old.session)
+            (device_shown self.old.device.failed self.old.device.end) wire
+            → IsLane (sends_by (λ w p r. PUT.post put.now w p r) (λ w r. FLUSH.post flush.now w r)) fixed start
+            given end (events ++ event_of result.1 [] [] ∷ []) (session_shown P.sizes self.new.session)
+            (device_shown self.new.device.failed self.new.device.end) result.0 }
+    {
+        let (wire, gathered) = self.device.gather(pool, wire, put, flush);
+        laws::both_ends(&mut self.session, &mut self.device);
+        let happened = match gathered {
+            Gathered::Sent { call, bytes } => Happened::Sent { call, bytes },
+            Gathered::Dropped { call, bytes } => Happened::Dropped { call, bytes },
+            Gathered::Empty => Happened::NothingPosted,
+            Gathered::Closed => unreachable!(),
+        };
+        (wire, happened)
+    }
+
+    /// Gives the oldest gathered reply back.
+    pub fn reap(&mut self, shop: &Shop<'_, N, P>) -> Happened
+        requires ring { device_ring self.old.device.end ≡ self.old.session.ring }
+        ensures ring { device_ring self.new.device.end ≡ self.new.session.ring }
+        ensures stage { self.new.session.pass.stage ≡ self.old.session.pass.stage }
+        ensures answers { (session : ℕ) → line_of (record { session = session; event = event_of result [] [] })
+            ≡ asked.Reap session }
+        ensures posted { self.new.session.posted ≡ self.old.session.posted }
+        ensures failed { self.new.device.failed ≡ self.old.device.failed }
+        ensures right { (fixed : Fixed) (given : List Meaning) (end : Option End) (whole : ℕ) (events : List Event)
+            → IsDriven fixed given end whole events (session_shown P.sizes self.old.session)
+            (device_shown self.old.device.failed self.old.device.end)
+            → IsDriven fixed given end whole (events ++ event_of result [] [] ∷ [])
+            (session_shown P.sizes self.new.session) (device_shown self.new.device.failed self.new.device.end) }
+    {
+        let reaped = self.session.reap_one(shop);
+        laws::both_ends(&mut self.session, &mut self.device);
+        match reaped {
+            Some(reaped) => Happened::Reaped {
+                call: reaped.call,
+                recycled: reaped.recycled,
+            },
+            None => Happened::NothingReaped,
+        }
+    }
+}

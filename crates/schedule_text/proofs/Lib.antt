@@ -1,0 +1,3 @@
+pub mod HasReads
+pub mod OneLine
+pub mod Written

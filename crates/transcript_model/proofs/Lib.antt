@@ -1,0 +1,10 @@
+pub mod Buffers
+pub mod Judge
+pub mod Lengths
+pub mod Refused
+pub mod Rows
+pub mod Shown
+pub mod Sourced
+pub mod Stays
+pub mod Wants
+pub mod Whole

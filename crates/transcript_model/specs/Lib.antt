@@ -1,0 +1,13 @@
+pub mod Deeds
+pub mod Terms
+pub mod Standing
+pub mod Frames
+pub mod Lines
+pub mod Lengths
+pub mod Right
+pub mod Sessions
+pub mod Transcript
+pub mod News
+pub mod Sources
+pub mod Worked
+pub mod Whole
