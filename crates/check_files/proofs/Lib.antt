@@ -1,3 +1,5 @@
 pub mod Given
 pub mod Places
 pub mod Pairs
+pub mod OpenedFiles
+pub mod Answered

@@ -7,7 +7,7 @@ use Rattle.check_files.specs.Whole.{IsWhole, IsPast}
 use Rattle.check_files.specs.Files.{limit_of, IsTextOf, AreWithin, AreContents}
 use Rattle.check_files.specs.Stopped.{IsStopped, IsStoppedAt}
 use Rattle.check_files.specs.declared.error.CheckError.{CheckError}
-use Rattle.check_files.specs.declared.error.CheckError.TheVariants.{ReadFault, TooLarge, BadLine, Memory}
+use Rattle.check_files.specs.declared.error.CheckError.TheVariants.{OpenFault, ReadFault, TooLarge, BadLine, Memory}
 
 -- the bytes at the places of the inputs and of the replies
 pub record ArePairs (lefts : List (Option (List ℕ))) (inputs replies : List (List ℕ)) : Type 0 where
@@ -80,6 +80,7 @@ within_more lefts place bytes within text k told below is =
 
 -- an error at a place, in front of which all is within its limits
 pub stopped_there : (olds nows : List (Option (List ℕ))) (place : ℕ) (e : CheckError) → slice_get nows place ≡ slice_get olds place → place < length olds → AreWithin olds place → IsStoppedAt nows place e → IsStopped olds e
+stopped_there olds nows place (OpenFault file) same within before is = absurd is
 stopped_there olds nows place (ReadFault file) same within before is = (omega (arith, is, within), subst (AreWithin olds) (sym is) before)
 stopped_there olds nows place (TooLarge file) same within before is = (
   subst (λ n. IsSomeAnd (slice_get olds n) (λ left. IsPast (limit_of n) left)) (sym is.0) (subst (λ o. IsSomeAnd o (λ left. IsPast (limit_of place) left)) same is.1),

@@ -3,3 +3,5 @@ pub mod File
 pub mod Files
 pub mod Stopped
 pub mod Judged
+pub mod Named
+pub mod Answer

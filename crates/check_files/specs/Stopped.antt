@@ -8,7 +8,7 @@ use Rattle.journal_text.specs.declared.error.JournalError.TheVariants as journal
 use Rattle.check_files.specs.Whole.{IsPast}
 use Rattle.check_files.specs.Files.{limit_of, IsTextOf, AreWithin}
 use Rattle.check_files.specs.declared.error.CheckError.{CheckError}
-use Rattle.check_files.specs.declared.error.CheckError.TheVariants.{ReadFault, TooLarge, BadLine, Memory}
+use Rattle.check_files.specs.declared.error.CheckError.TheVariants.{OpenFault, ReadFault, TooLarge, BadLine, Memory}
 
 abbrev pub of_journal : JournalError → CheckError
 of_journal (journal.BadLine line) = BadLine line
@@ -22,6 +22,7 @@ pub record IsBadLineOf (lefts : List (Option (List ℕ))) (line : ℕ) : Type 0 
 
 -- The files are read in order, before any line is. What was read before is within its limits.
 abbrev pub IsStopped : List (Option (List ℕ)) → CheckError → Type 0
+IsStopped lefts (OpenFault file) = ⊥
 IsStopped lefts (ReadFault file) = (file < length lefts) × AreWithin lefts file
 IsStopped lefts (TooLarge file) =
     IsSomeAnd (slice_get lefts file) (λ left. IsPast (limit_of file) left) × AreWithin lefts file
@@ -30,6 +31,7 @@ IsStopped lefts Memory = Unit {0}
 
 -- so it is at one place
 abbrev pub IsStoppedAt : List (Option (List ℕ)) → ℕ → CheckError → Type 0
+IsStoppedAt lefts place (OpenFault file) = ⊥
 IsStoppedAt lefts place (ReadFault file) = file ≡ place
 IsStoppedAt lefts place (TooLarge file) =
     (file ≡ place) × IsSomeAnd (slice_get lefts place) (λ left. IsPast (limit_of place) left)
@@ -47,6 +49,7 @@ pub record RoseAt (file : ℕ) (olds news : List ℕ) : Type 0 where
 
 -- the counts of failed reads are as they were, but where a read failed
 abbrev pub FaultsBy : CheckError → List ℕ → List ℕ → Type 0
+FaultsBy (OpenFault file) olds news = news ≡ olds
 FaultsBy (ReadFault file) olds news = RoseAt file olds news
 FaultsBy (TooLarge file) olds news = news ≡ olds
 FaultsBy (BadLine line) olds news = news ≡ olds

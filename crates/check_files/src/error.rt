@@ -25,6 +25,8 @@ impl From<Memory> for Unread {
 /// Why there is no verdict. Files are counted from 0.
 #[derive(Clone, Copy, Debug, PartialEq, Eq)]
 pub enum CheckError {
+    /// This file did not open.
+    OpenFault { file: u16 },
     /// A read of this file failed.
     ReadFault { file: u16 },
     /// This file has more bytes than its limit.

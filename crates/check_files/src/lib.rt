@@ -4,6 +4,8 @@
 mod contents;
 mod error;
 mod file;
+mod named;
+mod opening;
 #[cfg(test)]
 mod tests;
 mod verdict;
@@ -11,5 +13,6 @@ mod whole;
 
 pub use error::{CheckError, Unread};
 pub use file::File;
+pub use named::check_named;
 pub use verdict::check_files;
 pub use whole::read_whole;

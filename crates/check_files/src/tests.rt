@@ -1,5 +1,5 @@
-use crate::{CheckError, File, check_files, read_whole};
-use flake_base::{Bytes, Fails, MemorySource};
+use crate::{CheckError, File, check_files, check_named, read_whole};
+use flake_base::{Bytes, Fails, Files, MemoryHost, MemorySource};
 use replay_check::Verdict;
 use std::alloc::Global;
 use std::process::Abort;
@@ -154,6 +154,97 @@ fn check_row(rt: &impl Abort, alloc: Global, row: &Row) -> Result<(), Fail> {
 fn verdicts(rt: HostRuntime) -> Result<(), Fail> {
     for row in &ROWS {
         check_row(&rt, rt.alloc(), row)?;
+    }
+    Ok(())
+}
+
+/// Names of files, what they come to, and how many are opened and how often.
+#[derive(Clone, Copy)]
+struct Names {
+    names: &'static [Option<&'static str>],
+    answer: Result<Verdict, CheckError>,
+    files: usize,
+    opens: u64,
+}
+
+static NAMES: [Names; 5] = [
+    Names {
+        names: &[Some("j"), Some("i"), Some("r")],
+        answer: Ok(Verdict::Same),
+        files: 3,
+        opens: 3,
+    },
+    Names {
+        names: &[Some("j"), Some("i"), None],
+        answer: Ok(Verdict::Differs {
+            session: 0,
+            place: 0,
+            expected: Some(43),
+            found: None,
+        }),
+        files: 3,
+        opens: 2,
+    },
+    Names {
+        names: &[Some("missing"), Some("i"), Some("r")],
+        answer: Err(CheckError::OpenFault { file: 0 }),
+        files: 0,
+        opens: 1,
+    },
+    Names {
+        names: &[Some("j"), Some("i"), None, Some("missing"), Some("r")],
+        answer: Err(CheckError::OpenFault { file: 3 }),
+        files: 3,
+        opens: 3,
+    },
+    // a file that was opened before
+    Names {
+        names: &[Some("j"), Some("i"), Some("j")],
+        answer: Err(CheckError::OpenFault { file: 2 }),
+        files: 2,
+        opens: 3,
+    },
+];
+
+fn host_of(alloc: Global, row: &Row) -> Result<MemoryHost, Fail> {
+    let mut files = Files::with_room(alloc, 3)?;
+    for (name, bytes) in [
+        ("j", row.journal),
+        ("i", row.input),
+        ("r", row.replies.unwrap_or(b"")),
+    ] {
+        files.push((
+            String::from_str(alloc, name)?,
+            Bytes::from_slice(alloc, bytes)?,
+        ))?;
+    }
+    Ok(MemoryHost::new(alloc, files, 0, Fails::new(alloc))?)
+}
+
+// The only call of `check_named`, which has no clauses.
+fn named(
+    alloc: Global,
+    host: &mut MemoryHost,
+    names: &Names,
+) -> Result<(Result<Verdict, CheckError>, usize), Fail> {
+    let room = Vec::with_capacity(alloc, names.names.len())?;
+    let (answer, files) = check_named(alloc, host, names.names, room);
+    Ok((answer, files.len()))
+}
+
+fn check_names(rt: &impl Abort, alloc: Global, names: &Names) -> Result<(), Fail> {
+    let mut host = host_of(alloc, &SAME)?;
+    let (answer, files) = named(alloc, &mut host, names)?;
+    assert_eq!(rt; answer, names.answer);
+    assert_eq!(rt; files, names.files);
+    assert_eq!(rt; host.opens(), names.opens);
+    Ok(())
+}
+
+#[test]
+fn files_by_name(rt: HostRuntime) -> Result<(), Fail> {
+    for names in &NAMES {
+        check_names(&rt, rt.alloc(), names)?;
     }
     Ok(())
 }

@@ -1,0 +1,48 @@
+// The verdict on files that a host holds.
+ghost use Rattle.std.specs.Prelude.{◌≡◌, ◌≤◌, ◌%◌, [], length, map, vec_capacity, IfOk, IfErr};
+ghost use Rattle.check_files.specs.Answer.{FailedBy, HasCauseIn, WereJudged};
+ghost use Rattle.check_files.specs.File.{are_there, faults_of};
+ghost use Rattle.check_files.specs.Named.{named, NoneFailed};
+
+use crate::opening::open_named;
+use crate::{CheckError, File, check_files};
+use flake_base::{Host, Source};
+use replay_check::Verdict;
+use std::alloc::Global;
+
+/// Opens the files that have names, reads all whole, and says whether the replies are those that the journal gives.
+/// All files that were opened come back, in their order.
+pub fn check_named<H: Host>(
+    alloc: Global,
+    host: &mut H,
+    names: &[Option<&str>],
+    room: Vec<File<H::In>>,
+) -> (Result<Verdict, CheckError>, Vec<File<H::In>>)
+    requires room { (room.items ≡ []) × (length names.now ≤ vec_capacity room) }
+    requires pairs { length names.now % 2 ≡ 1 }
+    requires few { length names.now ≤ 33 }
+    ensures verdict { IfOk result.0 (WereJudged (map named names.entry.now) (H.host_told host.old)
+        (H.host_told host.new) (are_there result.1.items)) }
+    ensures none_failed { IfOk result.0 (λ v. NoneFailed (faults_of H.In.read_faults result.1.items)) }
+
+    // Each error has its cause.
+    ensures err { IfErr result.0 (HasCauseIn (map named names.entry.now) (H.host_told host.old)
+        (H.host_told host.new) (are_there result.1.items)) }
+    ensures failed { IfErr result.0 (λ e. FailedBy e (faults_of H.In.read_faults result.1.items)) }
+
+    // Nothing is said.
+    ensures said { (H.host_told host.new).said ≡ (H.host_told host.old).said }
+    ensures say_faults { (H.host_told host.new).say_faults ≡ (H.host_told host.old).say_faults }
+{
+    match open_named(host, names, room) {
+        Ok(files) => {
+            let mut files = files;
+            let answer = check_files(alloc, files.as_mut_slice());
+            (answer, files)
+        }
+        Err(files) => {
+            let file = files.len() as u16;
+            (Err(CheckError::OpenFault { file }), files)
+        }
+    }
+}
