@@ -1,0 +1,58 @@
+-- Generated requests that were served.
+use Rattle.std.specs.Prelude.{◌≡◌, ◌≢◌, ℕ, ◌<◌, ◌⊎◌, max, Bool, List, Option, Some, map}
+use Rattle.std.specs.Borrow.{Bor}
+use Rattle.std.specs.List.{AllByRecursion, range_with_len}
+use Rattle.flake_base.specs.declared.journal.Entry.{Entry}
+use Rattle.flake_base.specs.declared.session.End.TheVariants.{Clean, Memory}
+use Rattle.flake_base.specs.declared.session.SessionEnd.{SessionEnd}
+use Rattle.flake_model.specs.Command.{Command}
+use Rattle.flake_model.specs.Run.{all_commands, missing_writes}
+use Rattle.pin_core.specs.declared.class.Class.TheVariants.{Small, Large}
+use Rattle.pinned_pool.specs.Ends.{End}
+use Rattle.serve_model.specs.Demand.{demand_of}
+use Rattle.request_gen.specs.Words.{all_words, text_of}
+use Rattle.request_demand.specs.Sessions.{sessions_of}
+use Rattle.gen_words.specs.declared.task.GenTask.{GenTask}
+use Rattle.serve_inputs.specs.Opened.{pool_sizes}
+use Rattle.serve_inputs.specs.Ran.{RanAll}
+use Rattle.serve_inputs.specs.declared.sizes.Sizes.{Sizes}
+
+-- the input of each session
+abbrev pub inputs_of : GenTask → List (Option (List ℕ))
+inputs_of task =
+    map (λ session. Some (text_of (all_words task.number session task.requests))) (range_with_len 0 task.sessions)
+
+-- and its commands
+abbrev pub commands_in_all : GenTask → List (List Command)
+commands_in_all task = sessions_of task.number task.sessions task.requests
+
+-- the pool has as many buffers of each class as the commands may claim, and at least one large one
+abbrev pub sizes_of : GenTask → Sizes
+sizes_of task = record {
+  shards = 8;
+  small = demand_of Small (commands_in_all task);
+  large = max (demand_of Large (commands_in_all task)) 1;
+  ring = 1160;
+  threshold = 512;
+}
+
+-- no pool can have as many
+abbrev pub IsTooMuch : GenTask → Type 0
+IsTooMuch task = (65_536 < demand_of Small (commands_in_all task)) ⊎ (16_384 < demand_of Large (commands_in_all task))
+
+-- memory was wanting in no session
+abbrev pub HadMemory : List SessionEnd → Type 0
+HadMemory ends = AllByRecursion (λ end. end.end ≢ Memory) ends
+
+module _ {W : Type 0} (put_may : W → Bor (List ℕ) → (W × Bool) → Type 0) (flush_may : W → (W × Bool) → Type 0) where
+  -- The generated inputs were served.
+  pub record RanGenerated (task : GenTask) (lefts : List (Option (List ℕ))) (ends : List SessionEnd)
+      (journal : List (List Entry)) (pool : End) (olds news : List W) : Type 0 where
+    pub ran : RanAll put_may flush_may (pool_sizes task.sessions (sizes_of task)) (inputs_of task) lefts ends journal
+        pool olds news
+    -- each session ended clean, but for want of memory
+    pub ways : AllByRecursion (λ end. (end.end ≡ Clean) ⊎ (end.end ≡ Memory)) ends
+    -- without that their commands are those that were generated
+    pub commands : HadMemory ends → all_commands ran.ran.served.sessions ≡ commands_in_all task
+    -- and each write found its buffers
+    pub none_missing : HadMemory ends → missing_writes ran.ran.served.sessions journal ≡ 0

@@ -1,0 +1,73 @@
+ghost use Rattle.std.specs.Prelude.{◌≡◌, ◌≢◌, ◌<◌, ◌≤◌, All, length, map, Some, IfOk, IfErr, IsErrAnd};
+ghost use Rattle.shard_store.specs.Journals.{histories};
+ghost use Rattle.gen_words.specs.Task.{IsAllowed};
+ghost use Rattle.serve_generated.specs.Generated.{IsTooMuch, RanGenerated};
+
+use crate::input::InputSource;
+use crate::sizes::sizes_for;
+use crate::sources::generated_sources;
+use gen_words::GenTask;
+use serve_inputs::{Served, serve_inputs};
+use session_pass::Gate;
+use std::alloc::Global;
+use std::sync::Wait;
+use std::thread::Threads;
+
+/// Why nothing was served.
+#[derive(Clone, Copy, Debug, PartialEq, Eq)]
+pub enum Refused {
+    /// The commands may claim more buffers than a pool can have.
+    TooMuch,
+    Memory,
+}
+
+/// Serves the requests that are generated for a task, by the pool that they need: the replies of a session go to the
+/// wire at its place, and wires past the sessions come back as they are.
+pub fn serve_generated<
+    R: Threads + Wait + Sync,
+    G: Gate,
+    W: Send + Drop,
+    PUT: Fn(W, &[u8]) -> (W, bool) + Sync,
+    FLUSH: Fn(W) -> (W, bool) + Sync,
+>(
+    rt: &R,
+    alloc: Global,
+    task: &GenTask,
+    wires: Vec<W>,
+    gate: &G,
+    put: &PUT,
+    flush: &FLUSH,
+) -> Result<Served<InputSource, W>, (Refused, Vec<W>)>
+    requires calls { PUT.IsAlwaysCallable put.now × FLUSH.IsAlwaysCallable flush.now }
+    requires task { IsAllowed task.now }
+    requires wires { task.now.sessions ≤ length wires.items }
+    ensures ran { IfOk result (λ r. RanGenerated (λ w p r. PUT.post put.now w p r) (λ w r. FLUSH.post flush.now w r)
+        task.now (map Some r.sources.items) r.ends.items (histories r.journal.items) r.pool wires.items
+        r.wires.items) }
+    ensures shards { IfOk result (λ r. length r.journal.items ≡ 8) }
+    ensures fits { IfOk result (λ r. IsTooMuch task.now → ⊥) }
+    ensures too_much { IfErr result (λ e. e.0 ≡ Refused.TooMuch → IsTooMuch task.now) }
+    ensures memory { IfErr result (λ e. e.0 ≡ Refused.Memory → IsTooMuch task.now → ⊥) }
+    ensures back { IfErr result (λ e. e.1.items ≡ wires.items) }
+{
+    let Some(sizes) = sizes_for(task) else {
+        return Err((Refused::TooMuch, wires));
+    };
+    let Ok(sources) = generated_sources(alloc, task.number, task.sessions, task.requests) else {
+        return Err((Refused::Memory, wires));
+    };
+    match serve_inputs(
+        rt,
+        alloc,
+        &sizes,
+        task.workers,
+        sources,
+        wires,
+        gate,
+        put,
+        flush,
+    ) {
+        Ok(served) => Ok(served),
+        Err((_, wires)) => Err((Refused::Memory, wires)),
+    }
+}

@@ -1,0 +1,35 @@
+ghost use Rattle.std.specs.Prelude.{◌≡◌, ◌≤◌, IfSome, IsNone};
+ghost use Rattle.gen_words.specs.Task.{IsAllowed};
+ghost use Rattle.serve_inputs.specs.Opened.{IsSized};
+ghost use Rattle.serve_generated.specs.Generated.{IsTooMuch, sizes_of};
+
+use gen_words::GenTask;
+use request_demand::generated_demand;
+use serve_inputs::Sizes;
+
+/// The most buffers of each class that a pool can have.
+const MOST_SMALL: u32 = 65_536;
+
+const MOST_LARGE: u32 = 16_384;
+
+/// The usual sizes, with as many buffers of each class as the commands may claim, and at least one large one; none
+/// where no pool can have as many.
+pub(crate) fn sizes_for(task: &GenTask) -> Option<Sizes>
+    requires { IsAllowed task.now }
+    ensures sizes { IfSome result (λ sizes. sizes ≡ sizes_of task.now) }
+    ensures sized { IfSome result (λ sizes. IsSized task.now.sessions sizes) }
+    ensures too_much { IsNone result → IsTooMuch task.now }
+    ensures enough { IfSome result (λ sizes. IsTooMuch task.now → ⊥) }
+{
+    let demand = generated_demand(task.number, task.sessions, task.requests);
+    if demand.small > MOST_SMALL || demand.large > MOST_LARGE {
+        return None;
+    }
+    Some(Sizes {
+        shards: 8,
+        small: demand.small,
+        large: demand.large.max(1),
+        ring: 1160,
+        threshold: 512,
+    })
+}
