@@ -6,3 +6,4 @@ pub mod ByPuts
 pub mod Ends
 pub mod Calls
 pub mod Called
+pub mod Acted

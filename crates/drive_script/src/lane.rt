@@ -1,5 +1,6 @@
 // A session that is driven.
 ghost use Rattle.std.specs.Prelude.{◌≡◌, ◌++◌, ◌∷◌, [], ℕ, List, Option};
+ghost use Rattle.flake_base.specs.declared.segment.Seg.{Seg};
 ghost use Rattle.flake_base.specs.declared.session.End.{End};
 ghost use Rattle.flake_model.specs.Command.{Command as Meaning};
 ghost use Rattle.schedule_text.specs.declared.line.Line.TheVariants as asked;
@@ -41,8 +42,10 @@ impl<N: BookName, P: PoolName + Send> Lane<N, P> {
         requires ring { device_ring self.old.device.end ≡ self.old.session.ring }
         ensures ring { device_ring self.new.device.end ≡ self.new.session.ring }
         ensures pass { self.new.session.pass ≡ self.old.session.pass }
+        ensures posted { self.new.session.posted ≡ self.old.session.posted }
         ensures answers { (session : ℕ) → line_of (record { session = session; event = event_of result.1 [] [] })
             ≡ asked.Gather session }
+        ensures lists { (sent stored : List Seg) → event_of result.1 sent stored ≡ event_of result.1 [] [] }
         ensures right { (fixed : Fixed) (start : W) (given : List Meaning) (end : Option End) (events : List Event)
             → IsLane (sends_by (λ w p r. PUT.post put.now w p r) (λ w r. FLUSH.post flush.now w r)) fixed start
             given end events (session_shown P.sizes self.old.session)
@@ -69,6 +72,7 @@ impl<N: BookName, P: PoolName + Send> Lane<N, P> {
         ensures stage { self.new.session.pass.stage ≡ self.old.session.pass.stage }
         ensures answers { (session : ℕ) → line_of (record { session = session; event = event_of result [] [] })
             ≡ asked.Reap session }
+        ensures lists { (sent stored : List Seg) → event_of result sent stored ≡ event_of result [] [] }
         ensures posted { self.new.session.posted ≡ self.old.session.posted }
         ensures failed { self.new.device.failed ≡ self.old.device.failed }
         ensures right { (fixed : Fixed) (given : List Meaning) (end : Option End) (whole : ℕ) (events : List Event)

@@ -1,6 +1,7 @@
 //! Sessions that are driven line by line, as a schedule asks.
 #![tactic(auto)]
 
+mod acting;
 mod asking;
 mod call;
 mod happened;

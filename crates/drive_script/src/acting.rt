@@ -1,0 +1,78 @@
+// One line of a schedule.
+ghost use Rattle.std.specs.Prelude.{◌≡◌, ◌-◌, ◌^◌, ◌<◌, ◌++◌, ◌∷◌, [], ℕ, List, Option, length};
+ghost use Rattle.view_sums.specs.Total.{Each};
+ghost use Rattle.flake_model.specs.Command.{Command as Meaning};
+ghost use Rattle.schedule_text.specs.Text.{session_of};
+ghost use Rattle.tx_ring.specs.Shown.{device_ring};
+ghost use Rattle.transcript_model.specs.Lines.{Event, line_of};
+ghost use Rattle.drive_script.specs.Asked.{IsAsked, GoesOn};
+ghost use Rattle.drive_script.specs.Happened.{event_of};
+ghost use Rattle.drive_script.specs.Lanes.{Fixed, IsLane, sends_by};
+ghost use Rattle.drive_script.specs.Shown.{session_shown, device_shown};
+
+use crate::asking::Asking;
+use crate::happened::Happened;
+use crate::lane::Lane;
+use command_exec::Shop;
+use flake_base::{Segs, Source};
+use order_book::BookName;
+use pinned_pool::PoolName;
+use schedule_text::Line;
+use std::sync::Wait;
+
+impl<N: BookName, P: PoolName + Send> Lane<N, P> {
+    /// Does what a line of a schedule asks of this session.
+    pub fn act<
+        R: Wait,
+        S: Source,
+        W: Drop,
+        PUT: Fn(W, &[u8]) -> (W, bool),
+        FLUSH: Fn(W) -> (W, bool),
+    >(
+        &mut self,
+        rt: &R,
+        shop: &Shop<'_, N, P>,
+        line: Line,
+        asking: &mut Asking<S>,
+        sent: &mut Segs,
+        stored: &mut Segs,
+        wire: W,
+        put: &PUT,
+        flush: &FLUSH,
+    ) -> (W, Happened)
+        requires calls { PUT.IsAlwaysCallable put.now × FLUSH.IsAlwaysCallable flush.now }
+        requires ring { device_ring self.old.device.end ≡ self.old.session.ring }
+        requires small { Each (λ buffer. buffer < P.sizes.small) self.old.session.pass.stage }
+        requires few { length self.old.session.posted < 2 ^ 32 - 1 }
+        ensures ring { device_ring self.new.device.end ≡ self.new.session.ring }
+        ensures stage { self.new.session.pass.stage ≡ self.old.session.pass.stage }
+        ensures answers { line_of (record {
+          session = session_of line;
+          event = event_of result.1 sent.new.items stored.new.items;
+        }) ≡ line }
+        ensures right { (fixed : Fixed) (start : W) (given : List Meaning) (events : List Event)
+            (input : Option (List ℕ)) (before : ℕ)
+            → IsAsked input before given (length self.old.session.posted) asking.old.kept asking.old.end
+            asking.old.pump
+            → IsLane (sends_by (λ w p r. PUT.post put.now w p r) (λ w r. FLUSH.post flush.now w r)) fixed start given
+            asking.old.end events (session_shown P.sizes self.old.session)
+            (device_shown self.old.device.failed self.old.device.end) wire
+            → GoesOn input before (length self.new.session.posted) asking.new.kept asking.new.end asking.new.pump
+            (λ now. IsLane (sends_by (λ w p r. PUT.post put.now w p r) (λ w r. FLUSH.post flush.now w r)) fixed
+            start now asking.new.end (events ++ event_of result.1 sent.new.items stored.new.items ∷ [])
+            (session_shown P.sizes self.new.session) (device_shown self.new.device.failed self.new.device.end)
+            result.0) }
+    {
+        match line {
+            Line::Call(_) => {
+                let happened = self.call(rt, shop, asking, sent, stored);
+                (wire, happened)
+            }
+            Line::Gather(_) => self.gather(shop.pool, wire, put, flush),
+            Line::Reap(_) => {
+                let happened = self.reap(shop);
+                (wire, happened)
+            }
+        }
+    }
+}
