@@ -5,6 +5,8 @@ mod device;
 mod gathered;
 pub mod laws;
 mod sending;
+#[cfg(test)]
+mod tests;
 
 pub use device::Device;
 pub use gathered::Gathered;

@@ -1,0 +1,3 @@
+mod making;
+mod putting;
+mod threads;

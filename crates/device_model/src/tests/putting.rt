@@ -1,0 +1,49 @@
+//! A wire in memory that counts its flushes.
+use flake_base::{Fails, Memory, MemoryWire, Wire};
+use std::alloc::Global;
+
+/// What a wire was given. Its flushes fail, or none does.
+#[derive(Drop)]
+pub struct Counted {
+    pub wire: MemoryWire,
+    pub flushes: u32,
+    pub holds_back: bool,
+}
+
+impl Counted {
+    /// The put of this number fails.
+    pub fn new(
+        alloc: Global,
+        room: usize,
+        fails: Option<u64>,
+        holds_back: bool,
+    ) -> Result<Counted, Memory> {
+        let mut numbers = Fails::with_room(alloc, 1)?;
+        if let Some(number) = fails {
+            if numbers.push(number).is_err() {
+                return Err(Memory);
+            }
+        }
+        Ok(Counted {
+            wire: MemoryWire::new(alloc, room, numbers)?,
+            flushes: 0,
+            holds_back,
+        })
+    }
+}
+
+pub fn put(counted: Counted, piece: &[u8]) -> (Counted, bool) {
+    let mut counted = counted;
+    if piece.is_empty() {
+        return (counted, false);
+    }
+    let failed = counted.wire.put(piece).is_err();
+    (counted, failed)
+}
+
+pub fn flush(counted: Counted) -> (Counted, bool) {
+    let mut counted = counted;
+    counted.flushes = counted.flushes.saturating_add(1);
+    let failed = counted.holds_back;
+    (counted, failed)
+}
