@@ -23,15 +23,11 @@ def after(status, words):
 def bad_words(words):
     if len(words) == 1 and os.path.isfile(words[0]):
         return f"nothing was served: to serve {words[0]}, put the word serve before it"
-    if words[:1] == ["check"]:
-        stand = "a journal and then, for each of 1 to 16 sessions, its requests and its replies or the word none"
-        return f"nothing was checked: behind check stand {stand} (--help says more)"
     if words[:1] == ["serve"]:
         stand = "options, if any, and the names of 1 to 16 files of requests, with 128 small buffers for each"
         return f"nothing was served: behind serve stand {stand} (--help says more)"
     given = " ".join(words)[:60]
-    commands = "serve FILE.. and check JOURNAL INPUT REPLIES.."
-    return f"nothing was served: the program's commands are {commands}, and not {given!r} (--help says more)"
+    return f"nothing was served: the program's one command is serve FILE.., and not {given!r} (--help says more)"
 
 
 def cannot_open(files):

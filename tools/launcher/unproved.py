@@ -28,7 +28,6 @@ def run(words, folder, children, voice):
     if not shutil.which("rt"):
         raise Refused(TOOLCHAIN_MISSING, 127)
     voice.say("NOTHING IS PROVED of this run: rt try compiles the program, about half a minute, and then runs it")
-    words = with_whole_names(words)
     places = served_places(words) or []
     files = [words[place] for place in places]
     with tempfile.TemporaryDirectory(prefix="vepkhundi-") as room:
@@ -56,14 +55,6 @@ def run(words, folder, children, voice):
     for file in cut:
         voice.say(f"{file} couldn't be read to its end: what was said is true of what was read")
     return 4 if cut else int(ended[1])
-
-
-def with_whole_names(words):
-    """Returns the words of a check with its files by their whole names, since it runs in a folder of its own."""
-    if words[:1] != ["check"]:
-        return words
-    is_none = (place > 2 and place % 2 == 1 and word == "none" for place, word in enumerate(words))
-    return words[:1] + [word if kept else os.path.abspath(word) for word, kept in zip(words, is_none)][1:]
 
 
 def feed(files, pipes, rt, voice):

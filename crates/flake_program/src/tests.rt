@@ -1,5 +1,6 @@
 ghost use Rattle.std.specs.Prelude.{None};
 
+mod beside;
 mod commands;
 mod faults;
 mod journals;
@@ -16,8 +17,6 @@ use std::process::Abort;
 use std::sync::Wait;
 use std::test::Fail;
 use std::thread::Threads;
-
-mod beside;
 
 /// A SET and a GET of one key.
 const PAIR: &[u8] = b"*3\r\n$3\r\nSET\r\n$1\r\na\r\n$1\r\n1\r\n*2\r\n$3\r\nGET\r\n$1\r\na\r\n";

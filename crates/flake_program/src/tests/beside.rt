@@ -1,8 +1,6 @@
 //! Sessions at once, and each beside its device: gates and wires that wait for one another.
-use super::{
-    Seen, TWO_LARGE, expect_sent, files_host, held_by_a_reply, memory_host, replies_while_held,
-    typed,
-};
+use super::pool::{TWO_LARGE, held_by_a_reply, replies_while_held};
+use super::{Seen, expect_sent, files_host, memory_host, typed};
 use crate::run::run;
 use flake_base::{Failed, Fails, MemoryHost, MemoryWire, Wire};
 use session_pass::Gate;

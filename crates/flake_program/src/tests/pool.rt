@@ -8,7 +8,7 @@ use std::alloc::Global;
 use std::test::Fail;
 
 /// Two large buffers.
-const TWO_LARGE: Row = Row {
+pub(super) const TWO_LARGE: Row = Row {
     words: &["serve", "--large", "2", "in.resp"],
     said: "session 0 clean taken 12375 replies 3 wire whole\n",
     held: "held 0 2\n",
@@ -29,7 +29,7 @@ fn no_free_buffer(rt: HostRuntime) -> Result<(), Fail> {
 }
 
 // SET k, GET k, SET k, SET j, 126 PINGs and SET j, of values that have a large buffer each.
-fn held_by_a_reply(alloc: Global) -> Result<Bytes, Fail> {
+pub(super) fn held_by_a_reply(alloc: Global) -> Result<Bytes, Fail> {
     let mut input = Bytes::new(alloc);
     set_letter(&mut input, b'k', b"$600\r\n", b'A', 600)?;
     input.append(b"*2\r\n$3\r\nGET\r\n$1\r\nk\r\n")?;
@@ -42,7 +42,7 @@ fn held_by_a_reply(alloc: Global) -> Result<Bytes, Fail> {
 
 // Its replies: the first buffer of k is held by the reply to GET until that reply's frame is reaped, which is when 128
 // frames have used up the stage. So the first SET of j finds no free buffer, and the second finds that one.
-fn replies_while_held(alloc: Global) -> Result<Bytes, Fail> {
+pub(super) fn replies_while_held(alloc: Global) -> Result<Bytes, Fail> {
     let mut sent = Bytes::from_slice(alloc, b"+OK\r\n")?;
     add_word(&mut sent, b"$600\r\n", b'A', 600)?;
     sent.append(b"+OK\r\n-OOM no free buffer\r\n")?;
