@@ -227,7 +227,11 @@ fn named(
     host: &mut MemoryHost,
     names: &Names,
 ) -> Result<(Result<Verdict, CheckError>, usize), Fail> {
-    let room = Vec::with_capacity(alloc, names.names.len())?;
+    let count = names.names.len();
+    if count > 33 || count % 2 != 1 {
+        return Err("the names are no journal and pairs".into());
+    }
+    let room = Vec::with_capacity(alloc, count)?;
     let (answer, files) = check_named(alloc, host, names.names, room);
     Ok((answer, files.len()))
 }
