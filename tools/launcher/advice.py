@@ -4,7 +4,7 @@ import os
 import stat
 
 from launcher.replies import names_of
-from launcher.typed import served_files
+from launcher.typed import checked_places, generated_sessions, served_files
 
 JUDGED = 67_108_864
 TYPED = "commands as they are typed become requests by tools/to_resp"
@@ -15,9 +15,18 @@ def after(status, words):
     """Returns one line, or None where the program's own lines say all."""
     if status == 1:
         return bad_words(words)
+    if status == 2 and checked_places(words) is not None:
+        return not_checked([words[place] for place in checked_places(words)])
     lines = {2: cannot_open, 3: no_requests, 4: read_fault, 5: write_fault, 6: out_of_memory}
     files = served_files(words)
+    if files is None and generated_sessions(words):
+        return of_generated(status, generated_sessions(words))
     return lines[status](files) if status in lines and files is not None else None
+
+
+def of_generated(status, count):
+    wrong = {5: write_fault, 6: out_of_memory}
+    return wrong[status]([None] * count) if status in wrong else None
 
 
 def bad_words(words):
@@ -26,12 +35,27 @@ def bad_words(words):
     if words[:1] == ["serve"]:
         stand = "options, if any, and the names of 1 to 16 files of requests, with 128 small buffers for each"
         return f"nothing was served: behind serve stand {stand} (--help says more)"
-    given = " ".join(words)[:60]
-    return f"nothing was served: the program's one command is serve FILE.., and not {given!r} (--help says more)"
+    if words[:1] == ["check"]:
+        stand = "a journal, and 1 to 16 pairs of a file of requests and a file of its replies, or none in its place"
+        return f"nothing was checked: behind check stand {stand} (--help says more)"
+    if words[:1] == ["gen"]:
+        stand = "a number from 0 to 4294967295, and options, if any, that ask for no more than a pool can hold"
+        return f"nothing was served: behind gen stand {stand} (--help says more)"
+    commands, given = "serve FILE.., check JOURNAL.. and gen NUMBER", " ".join(words)[:60]
+    return f"nothing was done: the commands are {commands}, and not {given!r} (--help says more)"
+
+
+def first_unopened(files):
+    return next(((file, why) for file in files if (why := why_unopened(file))), (files[0], "it couldn't be opened"))
+
+
+def not_checked(files):
+    file, why = first_unopened(files)
+    return f"{file}: {why}. Nothing was checked"
 
 
 def cannot_open(files):
-    file, why = next(((file, why) for file in files if (why := why_unopened(file))), (files[0], "it couldn't be opened"))
+    file, why = first_unopened(files)
     earlier = f"; {names_of(1)} is of an earlier run" if os.path.lexists(names_of(1)) else ""
     wanted = "name files of RESP2 requests, which tools/to_resp makes of typed commands"
     return f"{file}: {why}. Nothing was served{earlier}: {wanted}"

@@ -7,8 +7,6 @@ mod lines;
 mod parts;
 mod pass;
 mod shop;
-#[cfg(test)]
-mod tests;
 
 pub use executing::{ExecError, execute};
 pub use pass::Pass;

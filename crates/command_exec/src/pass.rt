@@ -76,6 +76,13 @@ impl<N: BookName, P: PoolName> Pass<N, P> {
         self.stage.free()
     }
 
+    /// The session's number in the book.
+    pub fn session(&self) -> u16
+        ensures { result ≡ self.now.list.number }
+    {
+        self.mine.session()
+    }
+
     /// Does nothing, and tells a proof what is true of every pass.
     pub fn is_pass(&self)
         ensures pass { IsPass P.sizes self.now }

@@ -5,8 +5,6 @@ mod device;
 mod gathered;
 pub mod laws;
 mod sending;
-#[cfg(test)]
-mod tests;
 
 pub use device::Device;
 pub use gathered::Gathered;

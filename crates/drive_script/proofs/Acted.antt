@@ -1,5 +1,5 @@
 -- A line of a schedule, with its wire.
-use Rattle.std.proofs.Common.{◌≡◌, ℕ, ◌+◌, ◌≤◌, Bool, List, [], ◌∷◌, ◌++◌, Option, length, map, refl, ap, sym, ◌∙◌, subst, arith, append-nil}
+use Rattle.std.proofs.Common.{◌≡◌, ℕ, ◌≤◌, Bool, List, [], ◌∷◌, ◌++◌, Option, length, sym, subst, arith, append-nil}
 use Rattle.std.proofs.lemmas.List.{map-append, length-map}
 use Rattle.flake_base.specs.declared.session.End.{End}
 use Rattle.flake_model.specs.Command.{Command}

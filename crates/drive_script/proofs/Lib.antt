@@ -7,3 +7,11 @@ pub mod Ends
 pub mod Calls
 pub mod Called
 pub mod Acted
+pub mod OneMore
+pub mod Sayings
+pub mod Steps
+pub mod Few
+pub mod Quiets
+pub mod Closing
+pub mod Rows
+pub mod Beginning

@@ -3,3 +3,7 @@ pub mod Happened
 pub mod Lanes
 pub mod Asked
 pub mod Refused
+pub mod Says
+pub mod Driving
+pub mod Left
+pub mod Driven

@@ -4,12 +4,22 @@
 mod acting;
 mod asking;
 mod call;
+mod driven;
+mod driving;
 mod happened;
 mod lane;
 pub mod laws;
+mod leaving;
+mod lines;
+mod saying;
 mod telling;
 
 pub use asking::Asking;
+pub use driven::{Driven, drive};
+pub use driving::Driving;
 pub use happened::Happened;
 pub use lane::Lane;
+pub use leaving::Account;
+pub use lines::drive_lines;
+pub use saying::LineRoom;
 pub use telling::tell;

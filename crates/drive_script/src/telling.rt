@@ -5,27 +5,19 @@ ghost use Rattle.transcript_text.specs.Told.{said, line_room};
 ghost use Rattle.drive_script.specs.Happened.{event_of};
 
 use crate::happened::Happened;
-use flake_base::Segs;
+use flake_base::Seg;
 use transcript_text as line;
 
 /// Writes the line of what happened to a session, in the place of what stands there. Where a call was posted, `sent`
-/// has its segments, and `stored` the fragments that were stored.
-pub fn tell(text: &mut Vec<u8>, session: u16, happened: Happened, sent: &Segs, stored: &Segs)
-    requires { line_room + 42 * (length sent.now.items + length stored.now.items) ≤ vec_capacity text.old }
-    ensures text { text.new.items
-        ≡ line_text (said session (event_of happened sent.now.items stored.now.items)) }
+/// are its segments, and `stored` the fragments that were stored.
+pub fn tell(text: &mut Vec<u8>, session: u16, happened: Happened, sent: &[Seg], stored: &[Seg])
+    requires { line_room + 42 * (length sent.now + length stored.now) ≤ vec_capacity text.old }
+    ensures text { text.new.items ≡ line_text (said session (event_of happened sent.now stored.now)) }
     ensures room { vec_capacity text.old ≤ vec_capacity text.new }
 {
     match happened {
         Happened::Posted { call, reaped } => {
-            line::posted(
-                text,
-                session,
-                call,
-                reaped,
-                sent.as_slice(),
-                stored.as_slice(),
-            );
+            line::posted(text, session, call, reaped, sent, stored);
         }
         Happened::RingFull { need, room } => line::ring_full(text, session, need, room),
         Happened::StageFull { need, free } => line::stage_full(text, session, need, free),

@@ -1,20 +1,10 @@
 //! A key-value server over files: requests from a file, replies to a wire.
 #![tactic(auto)]
 
-mod opening;
-mod outcome;
-mod run;
-mod source;
-mod summary;
-mod tell;
-#[cfg(test)]
-mod tests;
-mod words;
-
-use crate::outcome::{OUT_OF_MEMORY, Refusal};
-use crate::run::run;
 use file_outside::{FileHost, FileWire};
 use flake_base::{Memory, Wire};
+use flake_run::run::run;
+use flake_run::{OUT_OF_MEMORY, Refusal};
 use session_pass::NoGate;
 use std::alloc::AllocError;
 use std::env;
@@ -39,7 +29,7 @@ fn command_line(rt: &HostRuntime) -> Result<Vec<String>, AllocError> {
 }
 
 // Session k writes to `outk.resp` in the folder where the program runs.
-fn serve<R: Threads + Wait + Sync>(runs: &R, rt: &HostRuntime) -> Result<u8, Memory> {
+fn run_over_files<R: Threads + Wait + Sync>(runs: &R, rt: &HostRuntime) -> Result<u8, Memory> {
     let alloc = rt.alloc();
     let words = command_line(rt)?;
     let mut wires: Vec<Box<dyn Wire>> = Vec::with_capacity(alloc, 16)?;
@@ -54,7 +44,7 @@ fn serve<R: Threads + Wait + Sync>(runs: &R, rt: &HostRuntime) -> Result<u8, Mem
 }
 
 fn main(rt: HostRuntime) -> ExitCode {
-    match serve(&rt, &rt) {
+    match run_over_files(&rt, &rt) {
         Ok(status) => ExitCode::from(status),
         Err(Memory) => {
             let _ = rt.print(Refusal::Memory.text());

@@ -13,8 +13,6 @@ mod placing;
 mod read;
 mod releasing;
 mod taker;
-#[cfg(test)]
-mod tests;
 mod text;
 
 pub use appending::append;

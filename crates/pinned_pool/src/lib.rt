@@ -20,8 +20,6 @@ mod rule;
 mod seat;
 mod seating;
 mod seats;
-#[cfg(test)]
-mod tests;
 mod unpinned;
 mod view;
 mod words;

@@ -12,8 +12,6 @@ mod replay;
 mod replies;
 mod session;
 mod slots;
-#[cfg(test)]
-mod tests;
 mod verdict;
 
 pub use answering::answers;

@@ -34,18 +34,18 @@ enough task commands Small is = omega (arith, ap (demand_of Small) is)
 enough task commands Large is = omega (arith, ap (demand_of Large) is)
 
 module _ {W : Type 0} (put_may : W → Bor (List ℕ) → (W × Bool) → Type 0) (flush_may : W → (W × Bool) → Type 0) where
-  pub ran_generated : (task : GenTask) (sizes : Sizes) (sources lefts : List (List ℕ)) (ends : List SessionEnd) (journal : List (List Entry)) (pool : End) (olds news : List W)
+  pub ran_generated : (task : GenTask) (sizes : Sizes) (sources lefts : List (List ℕ)) (ends : List SessionEnd) (counts : List ℕ) (journal : List (List Entry)) (pool : End) (olds news : List W)
       → task.sessions ≤ 16 → task.requests ≤ 4000 → sizes ≡ sizes_of task → sources ≡ texts_of task
-      → RanAll put_may flush_may (pool_sizes (length sources) sizes) (map Some sources) (map Some lefts) ends journal pool olds news
+      → RanAll put_may flush_may (pool_sizes (length sources) sizes) (map Some sources) (map Some lefts) ends counts journal pool olds news
       → AreReads ends (no_faults sources) (no_faults lefts) → AllByRecursion (λ end. end.end ≢ Left) ends
-      → RanGenerated put_may flush_may task (map Some lefts) ends journal pool olds news
-  ran_generated task sizes sources lefts ends journal pool olds news few short sizes_are sources_are was reads stays =
+      → RanGenerated put_may flush_may task (map Some lefts) ends counts journal pool olds news
+  ran_generated task sizes sources lefts ends counts journal pool olds news few short sizes_are sources_are was reads stays =
       let as_many : length sources ≡ task.sessions = ap length sources_are ∙ length-map-range_with_len (λ session. text_of (all_words task.number session task.requests)) 0 task.sessions in
       let inputs : map Some sources ≡ inputs_of task = ap (map Some) sources_are ∙ map-map Some (λ session. text_of (all_words task.number session task.requests)) (range_with_len 0 task.sessions) in
-      let here : RanAll put_may flush_may (pool_sizes task.sessions (sizes_of task)) (map Some sources) (map Some lefts) ends journal pool olds news =
-      subst (λ z. RanAll put_may flush_may z (map Some sources) (map Some lefts) ends journal pool olds news) (ap₂ pool_sizes as_many sizes_are) was in
-      let ran : RanAll put_may flush_may (pool_sizes task.sessions (sizes_of task)) (inputs_of task) (map Some lefts) ends journal pool olds news =
-      subst (λ inputs. RanAll put_may flush_may (pool_sizes task.sessions (sizes_of task)) inputs (map Some lefts) ends journal pool olds news) inputs here in
+      let here : RanAll put_may flush_may (pool_sizes task.sessions (sizes_of task)) (map Some sources) (map Some lefts) ends counts journal pool olds news =
+      subst (λ z. RanAll put_may flush_may z (map Some sources) (map Some lefts) ends counts journal pool olds news) (ap₂ pool_sizes as_many sizes_are) was in
+      let ran : RanAll put_may flush_may (pool_sizes task.sessions (sizes_of task)) (inputs_of task) (map Some lefts) ends counts journal pool olds news =
+      subst (λ inputs. RanAll put_may flush_may (pool_sizes task.sessions (sizes_of task)) inputs (map Some lefts) ends counts journal pool olds news) inputs here in
       let served = ran.ran.served in
       let both = all_ways task.number task.requests 0 task.sessions served.sessions ends sources lefts (omega arith) short served.each_is served.inputs_are served.ends_are reads stays in
       record {

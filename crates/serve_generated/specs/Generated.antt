@@ -45,11 +45,11 @@ abbrev pub HadMemory : List SessionEnd → Type 0
 HadMemory ends = AllByRecursion (λ end. end.end ≢ Memory) ends
 
 module _ {W : Type 0} (put_may : W → Bor (List ℕ) → (W × Bool) → Type 0) (flush_may : W → (W × Bool) → Type 0) where
-  -- The generated inputs were served.
+  -- The generated inputs were served, and so many bytes of each were put in whole replies.
   pub record RanGenerated (task : GenTask) (lefts : List (Option (List ℕ))) (ends : List SessionEnd)
-      (journal : List (List Entry)) (pool : End) (olds news : List W) : Type 0 where
-    pub ran : RanAll put_may flush_may (pool_sizes task.sessions (sizes_of task)) (inputs_of task) lefts ends journal
-        pool olds news
+      (counts : List ℕ) (journal : List (List Entry)) (pool : End) (olds news : List W) : Type 0 where
+    pub ran : RanAll put_may flush_may (pool_sizes task.sessions (sizes_of task)) (inputs_of task) lefts ends counts
+        journal pool olds news
     -- each session ended clean, but for want of memory
     pub ways : AllByRecursion (λ end. (end.end ≡ Clean) ⊎ (end.end ≡ Memory)) ends
     -- without that their commands are those that were generated

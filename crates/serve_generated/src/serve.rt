@@ -42,8 +42,8 @@ pub fn serve_generated<
     requires task { IsAllowed task.now }
     requires wires { task.now.sessions ≤ length wires.items }
     ensures ran { IfOk result (λ r. RanGenerated (λ w p r. PUT.post put.now w p r) (λ w r. FLUSH.post flush.now w r)
-        task.now (map Some r.sources.items) r.ends.items (histories r.journal.items) r.pool wires.items
-        r.wires.items) }
+        task.now (map Some r.sources.items) r.ends.items r.sent.items (histories r.journal.items) r.pool
+        wires.items r.wires.items) }
     ensures shards { IfOk result (λ r. length r.journal.items ≡ 8) }
     ensures fits { IfOk result (λ r. IsTooMuch task.now → ⊥) }
     ensures too_much { IfErr result (λ e. e.0 ≡ Refused.TooMuch → IsTooMuch task.now) }

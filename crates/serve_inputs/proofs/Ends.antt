@@ -1,5 +1,6 @@
 -- What the end of a run shows.
 use Rattle.std.proofs.Common.{◌≡◌, ℕ, Bool, List, [], ◌∷◌, ◌++◌, Option, map, length, ap, sym, ◌∙◌, subst, append-nil}
+use Rattle.std.specs.List.{flat_map}
 use Rattle.std.proofs.lemmas.List.{length-map}
 use Rattle.std.proofs.lemmas.List.FromFn.{length-range_with_len}
 use Rattle.flake_base.specs.Roomy.{Roomy}
@@ -18,6 +19,7 @@ use Rattle.order_book.specs.declared.rule.Sizes as book_sizes
 use Rattle.call_model.specs.Stock.{AreParts}
 use Rattle.serve_model.specs.Handed.{OneRun, IsLastSeat}
 use Rattle.serve_model.specs.Seats.{HasAll}
+use Rattle.serve_model.specs.Replies.{all_replies}
 use Rattle.serve_model.specs.Shown.{WasRun}
 use Rattle.serve_model.specs.Whole.{ServedTogether, WholeRun}
 use Rattle.serve_model.proofs.Seats.{joins_add}
@@ -25,19 +27,20 @@ use Rattle.shard_store.specs.Journals.{histories}
 use Rattle.serve_inputs.specs.Ran.{no_wires}
 use Rattle.serve_inputs.specs.Together.{AreRuns, HaveShown}
 
--- a run with these texts, whatever its wires and its end are called
+-- a run with these texts and replies, whatever its wires and its end are called
 abbrev Texts : pool_sizes.Sizes → List (Option (List ℕ)) → List (Option (List ℕ)) → List SessionEnd → List (List Entry)
-    → List (Bool × List ℕ) → List (Option (List ℕ)) × List (Option (List ℕ)) × End → Type 0
-Texts z inputs lefts ends journal texts y =
+    → List (Bool × List ℕ) → List (Bool × List (List ℕ)) → List (Option (List ℕ)) × List (Option (List ℕ)) × End → Type 0
+Texts z inputs lefts ends journal texts replies y =
     (run : WasRun z inputs lefts ends journal y.0 y.1 y.2) × (wire_texts run.served.sessions journal ≡ texts)
+    × (all_replies run.served.sessions journal ≡ replies)
 
 same_wires : (z : pool_sizes.Sizes) (inputs lefts : List (Option (List ℕ))) (ends : List SessionEnd)
     (journal : List (List Entry)) (first last : End) (olds news others nexts : List (Option (List ℕ)))
-    (texts : List (Bool × List ℕ)) → olds ≡ others → news ≡ nexts → first ≡ last
-    → Texts z inputs lefts ends journal texts (olds, news, first)
-    → Texts z inputs lefts ends journal texts (others, nexts, last)
-same_wires z inputs lefts ends journal first last olds news others nexts texts old_is new_is end_is is =
-    subst (Texts z inputs lefts ends journal texts) (λ i. (old_is i, new_is i, end_is i)) is
+    (texts : List (Bool × List ℕ)) (replies : List (Bool × List (List ℕ))) → olds ≡ others → news ≡ nexts → first ≡ last
+    → Texts z inputs lefts ends journal texts replies (olds, news, first)
+    → Texts z inputs lefts ends journal texts replies (others, nexts, last)
+same_wires z inputs lefts ends journal first last olds news others nexts texts replies old_is new_is end_is is =
+    subst (Texts z inputs lefts ends journal texts replies) (λ i. (old_is i, new_is i, end_is i)) is
 
 -- the seats of the runs are joined with the store's: so the run shows what they did
 pub shown : (books : book_sizes.Sizes) (z : pool_sizes.Sizes) (shards : List ShardList) (lists : List SessionList)
@@ -65,9 +68,10 @@ shown books z shards lists journal main store last closed together whole are_clo
     let olds : map (λ (one : OneRun). one.old) each ++ [] ≡ no_wires ends = append-nil _ ∙ runs.olds in
     let news : map (λ (one : OneRun). one.new) each ++ [] ≡ no_wires ends = append-nil _ ∙ runs.news in
     let w = same_wires z _ _ ends journal (end_of z last) closed _ _ (no_wires ends) (no_wires ends)
-    (map (λ (one : OneRun). (one.end.failed, one.text)) each) olds news (sym closed_is)
-    (ran.0, ran.1.texts_are ∙ served.1) in
-    record { ran = w.0; texts_are = w.1 }
+    (map (λ (one : OneRun). (one.end.failed, flat_map (λ text. text) one.texts)) each)
+    (map (λ (one : OneRun). (one.end.failed, one.texts)) each) olds news (sym closed_is)
+    (ran.0, ran.1.texts_are ∙ served.1, ran.1.replies_are ∙ served.2) in
+    record { ran = w.0; texts_are = w.1; replies_are = w.2 }
 
 -- a journal has a history of each shard
 pub histories_are : (z : pool_sizes.Sizes) (count : ℕ) (shards : List ShardList) (journal : List (Roomy Entry))

@@ -22,7 +22,7 @@ use Rattle.std.proofs.Common.{
   arith,
 }
 use Rattle.std.specs.Borrow.{Bor}
-use Rattle.std.specs.List.{AllZip, range_with_len}
+use Rattle.std.specs.List.{AllZip, flat_map, range_with_len}
 use Rattle.std.proofs.lemmas.List.Elements.{All-nil, All-cons}
 use Rattle.view_sums.specs.Total.{total, Each}
 use Rattle.flake_base.specs.declared.session.End.TheVariants.{Left}
@@ -35,7 +35,7 @@ use Rattle.serve_model.specs.Handed.{HasRun, OneRun, AllRun}
 use Rattle.session_pass.specs.Views.{SessionView}
 use Rattle.session_workers.specs.Jobs.{IsDone}
 use Rattle.serve_inputs.specs.Opened.{session_credits}
-use Rattle.serve_inputs.specs.Ran.{no_wires, AreReads, AllSent}
+use Rattle.serve_inputs.specs.Ran.{no_wires, AreReads, AllSent, AllWhole}
 
 -- the number of a session in the book, and the credits of its seat
 abbrev pub number_of : SessionView → ℕ
@@ -45,11 +45,11 @@ abbrev pub HasCredits : SessionView → Type 0
 HasCredits session = session.opened.credits ≡ session_credits
 
 module _ {J D W : Type 0} (put_may : W → Bor (List ℕ) → (W × Bool) → Type 0) (flush_may : W → (W × Bool) → Type 0)
-    (z : Sizes) (shards : ℕ) (session : J → SessionView) (pump : J → PumpState) (old : J → W) (end : D → SessionEnd)
+    (z : Sizes) (shards : ℕ) (session : J → SessionView) (pump : J → PumpState) (old : J → W) (end : D → SessionEnd) (bytes : D → ℕ)
     (mine : D → SessionList) (seat : D → View) (left : D → PumpState) (new : D → W) where
   abbrev pub WasDone : J → D → Type 0
   WasDone j d =
-      IsDone put_may flush_may z shards (session j) (pump j) (old j) (end d) (mine d) (seat d) (left d) (new d)
+      IsDone put_may flush_may z shards (session j) (pump j) (old j) (end d) (bytes d) (mine d) (seat d) (left d) (new d)
 
   abbrev pub runs_of : (jobs : List J) (dones : List D) → AllZip WasDone jobs dones → List OneRun
   runs_of [] [] is = []
@@ -62,7 +62,7 @@ module _ {J D W : Type 0} (put_may : W → Bor (List ℕ) → (W × Bool) → Ty
         end = end d;
         list = mine d;
         seat = seat d;
-        text = is.0.served.text;
+        texts = is.0.served.texts;
         old = None;
         new = None;
       } ∷ runs_of jobs dones is.1
@@ -127,19 +127,27 @@ module _ {J D W : Type 0} (put_may : W → Bor (List ℕ) → (W × Bool) → Ty
   all_ran n (j ∷ jobs) (d ∷ dones) is numbers =
       let first : (session j).pass.list.number ≡ n = cc in
       let others : map number_of (map session jobs) ≡ range_with_len (n + 1) (length jobs) = cc in (
-        subst (λ (k : ℕ). HasRun z shards k (pump j).left (left d).left (end d) (mine d) (seat d) is.0.served.text)
+        subst (λ (k : ℕ). HasRun z shards k (pump j).left (left d).left (end d) (mine d) (seat d) is.0.served.texts)
             first is.0.served.ran,
         refl,
         all_ran (n + 1) jobs dones is.1 others,
       )
 
   pub all_sent : (past : List W) (jobs : List J) (dones : List D) (is : AllZip WasDone jobs dones)
-      → AllSent put_may flush_may (map (λ (one : OneRun). (one.end.failed, one.text)) (runs_of jobs dones is))
+      → AllSent put_may flush_may (map (λ (one : OneRun). (one.end.failed, flat_map (λ text. text) one.texts)) (runs_of jobs dones is))
       (map old jobs ++ past) (map new dones ++ past)
   all_sent past [] [] is = refl
   all_sent past [] (d ∷ dones) is = absurd is
   all_sent past (j ∷ jobs) [] is = absurd is
   all_sent past (j ∷ jobs) (d ∷ dones) is = (is.0.served.sends, all_sent past jobs dones is.1)
+
+  pub all_whole : (past : List W) (jobs : List J) (dones : List D) (is : AllZip WasDone jobs dones)
+      → AllWhole put_may flush_may (map (λ (one : OneRun). (one.end.failed, one.texts)) (runs_of jobs dones is))
+      (map bytes dones) (map old jobs ++ past) (map new dones ++ past)
+  all_whole past [] [] is = (refl, refl)
+  all_whole past [] (d ∷ dones) is = absurd is
+  all_whole past (j ∷ jobs) [] is = absurd is
+  all_whole past (j ∷ jobs) (d ∷ dones) is = (is.0.served.whole, all_whole past jobs dones is.1)
 
   pub all_reads : (jobs : List J) (dones : List D) → AllZip WasDone jobs dones
       → AreReads (map end dones) (map (λ (j : J). (pump j).faults) jobs) (map (λ (d : D). (left d).faults) dones)

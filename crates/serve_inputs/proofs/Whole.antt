@@ -40,7 +40,7 @@ use Rattle.serve_model.specs.Seats.{HasAll, IsSpare}
 use Rattle.session_pass.specs.Views.{SessionView}
 use Rattle.serve_inputs.specs.Joined.{HasJoined}
 use Rattle.serve_inputs.specs.Opened.{session_credits}
-use Rattle.serve_inputs.specs.Ran.{AreReads, AllSent, RanAll}
+use Rattle.serve_inputs.specs.Ran.{AreReads, AllSent, AllWhole, RanAll}
 use Rattle.serve_inputs.specs.Together.{AreRuns, HaveShown}
 use Rattle.serve_inputs.proofs.Joining.{joins_all}
 use Rattle.serve_inputs.proofs.Runs as runs
@@ -48,75 +48,78 @@ use Rattle.serve_inputs.proofs.Runs.{number_of, HasCredits, WasDone}
 
 pub ran_all : {J D W : Type 0} (jobs : List J) (dones : List D) (put_may : W → Bor (List ℕ) → (W × Bool) → Type 0)
     (flush_may : W → (W × Bool) → Type 0) (z y : Sizes) (shards : ℕ) (session : J → SessionView)
-    (pump : J → PumpState) (old : J → W) (end : D → SessionEnd) (mine : D → SessionList) (seat : D → View)
+    (pump : J → PumpState) (old : J → W) (end : D → SessionEnd) (bytes : D → ℕ) (mine : D → SessionList) (seat : D → View)
     (left : D → PumpState) (new : D → W) (inputs lefts : List (Option (List ℕ))) (ends : List SessionEnd)
-    (lists : List SessionList) (journal : List (List Entry)) (closed : End) (spare main : View)
+    (counts : List ℕ) (lists : List SessionList) (journal : List (List Entry)) (closed : End) (spare main : View)
     (past olds news : List W)
-    → AllZip (WasDone put_may flush_may z shards session pump old end mine seat left new) jobs dones
+    → AllZip (WasDone put_may flush_may z shards session pump old end bytes mine seat left new) jobs dones
     → z ≡ y → map number_of (map session jobs) ≡ range_with_len 0 (length jobs) → lists ≡ map mine dones
     → IsSpare spare → HasJoined (map seat dones) spare main
     → ((each : List OneRun) → AreRuns z shards each lists main → HaveShown z each journal closed)
     → map (λ (j : J). (pump j).left) jobs ≡ inputs → lefts ≡ map (λ (d : D). (left d).left) dones
-    → ends ≡ map end dones → map old jobs ++ past ≡ olds → news ≡ map new dones ++ past
-    → RanAll put_may flush_may y inputs lefts ends journal closed olds news
-ran_all {J} {D} {W} jobs dones put_may flush_may z y shards session pump old end mine seat left new inputs lefts ends
-    lists journal closed spare main past olds news is same numbers lists_is empty joins shown inputs_is lefts_is
-    ends_is olds_is news_is =
+    → ends ≡ map end dones → counts ≡ map bytes dones → map old jobs ++ past ≡ olds → news ≡ map new dones ++ past
+    → RanAll put_may flush_may y inputs lefts ends counts journal closed olds news
+ran_all {J} {D} {W} jobs dones put_may flush_may z y shards session pump old end bytes mine seat left new inputs lefts ends
+    counts lists journal closed spare main past olds news is same numbers lists_is empty joins shown inputs_is lefts_is
+    ends_is counts_is olds_is news_is =
     let each : List OneRun =
-    runs.runs_of put_may flush_may z shards session pump old end mine seat left new jobs dones is in
-    let seats = runs.seats_are put_may flush_may z shards session pump old end mine seat left new jobs dones is in
+    runs.runs_of put_may flush_may z shards session pump old end bytes mine seat left new jobs dones is in
+    let seats = runs.seats_are put_may flush_may z shards session pump old end bytes mine seat left new jobs dones is in
     let are : AreRuns z shards each lists main = record {
-      all = runs.all_ran put_may flush_may z shards session pump old end mine seat left new 0 jobs dones is numbers;
+      all = runs.all_ran put_may flush_may z shards session pump old end bytes mine seat left new 0 jobs dones is numbers;
       lists_are = lists_is
-          ∙ sym (runs.lists_are put_may flush_may z shards session pump old end mine seat left new jobs dones is);
-      olds = runs.olds_are put_may flush_may z shards session pump old end mine seat left new jobs dones is;
-      news = runs.news_are put_may flush_may z shards session pump old end mine seat left new jobs dones is;
+          ∙ sym (runs.lists_are put_may flush_may z shards session pump old end bytes mine seat left new jobs dones is);
+      olds = runs.olds_are put_may flush_may z shards session pump old end bytes mine seat left new jobs dones is;
+      news = runs.news_are put_may flush_may z shards session pump old end bytes mine seat left new jobs dones is;
       spare = spare;
       spare_is = empty;
       seats = subst (λ (views : List View). HasAll (spare ∷ views) main) (sym seats)
           (joins_all (map seat dones) spare main joins);
     } in
     let has = shown each are in
-    let a = runs.inputs_are put_may flush_may z shards session pump old end mine seat left new jobs dones is
+    let a = runs.inputs_are put_may flush_may z shards session pump old end bytes mine seat left new jobs dones is
     ∙ inputs_is in
-    let b = runs.lefts_are put_may flush_may z shards session pump old end mine seat left new jobs dones is
+    let b = runs.lefts_are put_may flush_may z shards session pump old end bytes mine seat left new jobs dones is
     ∙ sym lefts_is in
-    let e = runs.ends_are put_may flush_may z shards session pump old end mine seat left new jobs dones is
+    let e = runs.ends_are put_may flush_may z shards session pump old end bytes mine seat left new jobs dones is
     ∙ sym ends_is in
-    let sent = runs.all_sent put_may flush_may z shards session pump old end mine seat left new past jobs dones is in
+    let sent = runs.all_sent put_may flush_may z shards session pump old end bytes mine seat left new past jobs dones is in
+    let whole = runs.all_whole put_may flush_may z shards session pump old end bytes mine seat left new past jobs dones is in
     let own : RanAll put_may flush_may z (map (λ (one : OneRun). one.input) each)
-    (map (λ (one : OneRun). one.left) each) (map (λ (one : OneRun). one.end) each) journal closed
+    (map (λ (one : OneRun). one.left) each) (map (λ (one : OneRun). one.end) each) (map bytes dones) journal closed
     (map old jobs ++ past) (map new dones ++ past) = record {
       ran = has.ran;
       sends = subst (λ (texts : List (Bool × List ℕ)). AllSent put_may flush_may texts (map old jobs ++ past)
           (map new dones ++ past)) (sym has.texts_are) sent;
+      wholes = subst (λ (replies : List (Bool × List (List ℕ))). AllWhole put_may flush_may replies (map bytes dones)
+          (map old jobs ++ past) (map new dones ++ past)) (sym has.replies_are) whole;
     } in
-    subst (λ (q : Sizes × List (Option (List ℕ)) × List (Option (List ℕ)) × List SessionEnd × List W × List W).
-    RanAll put_may flush_may q.0 q.1 q.2 q.3 journal closed q.4 q.5)
-    (λ i. (same i, a i, b i, e i, olds_is i, sym news_is i)) own
+    subst (λ (q : Sizes × List (Option (List ℕ)) × List (Option (List ℕ)) × List SessionEnd × List ℕ × List W × List W).
+    RanAll put_may flush_may q.0 q.1 q.2 q.3 q.4 journal closed q.5 q.6)
+    (λ i. (same i, a i, b i, e i, sym counts_is i, olds_is i, sym news_is i)) own
 
 pub all_reads : {J D W : Type 0} (jobs : List J) (dones : List D)
     (put_may : W → Bor (List ℕ) → (W × Bool) → Type 0) (flush_may : W → (W × Bool) → Type 0) (z : Sizes) (shards : ℕ)
-    (session : J → SessionView) (pump : J → PumpState) (old : J → W) (end : D → SessionEnd) (mine : D → SessionList)
+    (session : J → SessionView) (pump : J → PumpState) (old : J → W) (end : D → SessionEnd) (bytes : D → ℕ) (mine : D → SessionList)
     (seat : D → View) (left : D → PumpState) (new : D → W) (befores nows : List ℕ) (ends : List SessionEnd)
-    → AllZip (WasDone put_may flush_may z shards session pump old end mine seat left new) jobs dones
+    → AllZip (WasDone put_may flush_may z shards session pump old end bytes mine seat left new) jobs dones
     → map (λ (j : J). (pump j).faults) jobs ≡ befores → nows ≡ map (λ (d : D). (left d).faults) dones
     → ends ≡ map end dones → AreReads ends befores nows
-all_reads jobs dones put_may flush_may z shards session pump old end mine seat left new befores nows ends is
+all_reads jobs dones put_may flush_may z shards session pump old end bytes mine seat left new befores nows ends is
     befores_is nows_is ends_is =
     subst (λ (q : List SessionEnd × List ℕ × List ℕ). AreReads q.0 q.1 q.2)
     (λ i. (sym ends_is i, befores_is i, sym nows_is i))
-    (runs.all_reads put_may flush_may z shards session pump old end mine seat left new jobs dones is)
+    (runs.all_reads put_may flush_may z shards session pump old end bytes mine seat left new jobs dones is)
 
 pub all_ended : {J D W : Type 0} (jobs : List J) (dones : List D)
     (put_may : W → Bor (List ℕ) → (W × Bool) → Type 0) (flush_may : W → (W × Bool) → Type 0) (z : Sizes) (shards : ℕ)
-    (session : J → SessionView) (pump : J → PumpState) (old : J → W) (end : D → SessionEnd) (mine : D → SessionList)
+    (session : J → SessionView) (pump : J → PumpState) (old : J → W) (end : D → SessionEnd) (bytes : D → ℕ) (mine : D → SessionList)
     (seat : D → View) (left : D → PumpState) (new : D → W) (ends : List SessionEnd)
-    → AllZip (WasDone put_may flush_may z shards session pump old end mine seat left new) jobs dones
+    → AllZip (WasDone put_may flush_may z shards session pump old end bytes mine seat left new) jobs dones
     → ends ≡ map end dones → All (λ (e : SessionEnd). e.end ≢ Left) ends
-all_ended jobs dones put_may flush_may z shards session pump old end mine seat left new ends is ends_is =
+all_ended jobs dones put_may flush_may z shards session pump old end bytes mine seat left new ends is ends_is =
     subst (All (λ (e : SessionEnd). e.end ≢ Left)) (sym ends_is)
-    (runs.all_ended put_may flush_may z shards session pump old end mine seat left new jobs dones is)
+    (runs.all_ended put_may flush_may z shards session pump old end bytes mine seat left new jobs dones is)
 
 numbers_in : {K : Type 0} (own : K → SessionView) (desks : List K)
     → map number_of (map own desks) ≡ map (λ (k : K). number_of (own k)) desks
@@ -143,14 +146,14 @@ credits_of P own is (k ∷ desks) all =
 pub credits_are : {J D K W : Type 0} (jobs : List J) (dones : List D) (desks : List K) (P : K → Type 0)
     (own : K → SessionView) (put_may : W → Bor (List ℕ) → (W × Bool) → Type 0)
     (flush_may : W → (W × Bool) → Type 0) (z : Sizes) (shards : ℕ) (session : J → SessionView)
-    (pump : J → PumpState) (old : J → W) (end : D → SessionEnd) (mine : D → SessionList) (seat : D → View)
+    (pump : J → PumpState) (old : J → W) (end : D → SessionEnd) (bytes : D → ℕ) (mine : D → SessionList) (seat : D → View)
     (left : D → PumpState) (new : D → W) (spare main : View)
-    → AllZip (WasDone put_may flush_may z shards session pump old end mine seat left new) jobs dones
+    → AllZip (WasDone put_may flush_may z shards session pump old end bytes mine seat left new) jobs dones
     → ((k : K) → P k → HasCredits (own k)) → All P desks → map session jobs ≡ map own desks
     → HasJoined (map seat dones) spare main → main.credits ≡ spare.credits + session_credits * length desks
-credits_are jobs dones desks P own put_may flush_may z shards session pump old end mine seat left new spare main is
+credits_are jobs dones desks P own put_may flush_may z shards session pump old end bytes mine seat left new spare main is
     each all same joins =
-    let credits = runs.all_credits put_may flush_may z shards session pump old end mine seat left new jobs dones is
+    let credits = runs.all_credits put_may flush_may z shards session pump old end bytes mine seat left new jobs dones is
     (subst (Each HasCredits) (sym same) (credits_of P own each desks all)) in
     let has = joins_all (map seat dones) spare main joins in
     let long : length jobs ≡ length desks =
@@ -159,9 +162,9 @@ credits_are jobs dones desks P own put_may flush_may z shards session pump old e
 
 pub as_many : {J D W : Type 0} (jobs : List J) (dones : List D)
     (put_may : W → Bor (List ℕ) → (W × Bool) → Type 0) (flush_may : W → (W × Bool) → Type 0) (z : Sizes) (shards : ℕ)
-    (session : J → SessionView) (pump : J → PumpState) (old : J → W) (end : D → SessionEnd) (mine : D → SessionList)
+    (session : J → SessionView) (pump : J → PumpState) (old : J → W) (end : D → SessionEnd) (bytes : D → ℕ) (mine : D → SessionList)
     (seat : D → View) (left : D → PumpState) (new : D → W)
-    → AllZip (WasDone put_may flush_may z shards session pump old end mine seat left new) jobs dones
+    → AllZip (WasDone put_may flush_may z shards session pump old end bytes mine seat left new) jobs dones
     → length dones ≡ length jobs
-as_many jobs dones put_may flush_may z shards session pump old end mine seat left new is =
-    runs.as_many put_may flush_may z shards session pump old end mine seat left new jobs dones is
+as_many jobs dones put_may flush_may z shards session pump old end bytes mine seat left new is =
+    runs.as_many put_may flush_may z shards session pump old end bytes mine seat left new jobs dones is

@@ -7,7 +7,9 @@ use Rattle.flake_model.specs.Run.{wire_texts}
 use Rattle.command_pump.specs.Pump.{EndFaults}
 use Rattle.pin_core.specs.declared.sizes.Sizes.{Sizes}
 use Rattle.pinned_pool.specs.Ends.{End}
+use Rattle.serve_model.specs.Replies.{all_replies}
 use Rattle.serve_model.specs.Shown.{WasRun}
+use Rattle.session_serve.specs.Whole.{SentWhole}
 use Rattle.session_serve.specs.Wires.{SendsOut}
 
 -- nothing is told of the wires
@@ -32,9 +34,20 @@ module _ {W : Type 0} (put_may : W → Bor (List ℕ) → (W × Bool) → Type 0
   AllSent (sent ∷ texts) (old ∷ olds) (new ∷ news) =
       SendsOut put_may flush_may false sent.0 sent.1 old new × AllSent texts olds news
 
+  -- So many bytes of each one's replies were put on its wire in whole replies. Wires past them are as they were.
+  abbrev pub AllWhole : List (Bool × List (List ℕ)) → List ℕ → List W → List W → Type 0
+  AllWhole [] counts olds news = (counts ≡ []) × (news ≡ olds)
+  AllWhole (sent ∷ replies) [] olds news = ⊥
+  AllWhole (sent ∷ replies) (count ∷ counts) [] news = ⊥
+  AllWhole (sent ∷ replies) (count ∷ counts) (old ∷ olds) [] = ⊥
+  AllWhole (sent ∷ replies) (count ∷ counts) (old ∷ olds) (new ∷ news) =
+      SentWhole put_may flush_may sent.0 sent.1 count old new × AllWhole replies counts olds news
+
   -- The inputs were served; the returned journal gives the texts of their replies, each of which was put on its wire.
-  pub record RanAll (z : Sizes) (inputs lefts : List (Option (List ℕ))) (ends : List SessionEnd)
+  pub record RanAll (z : Sizes) (inputs lefts : List (Option (List ℕ))) (ends : List SessionEnd) (counts : List ℕ)
       (journal : List (List Entry)) (closed : End) (olds news : List W) : Type 0 where
     -- what the wires have of it is said by `sends`
     pub ran : WasRun z inputs lefts ends journal (no_wires ends) (no_wires ends) closed
     pub sends : AllSent (wire_texts ran.served.sessions journal) olds news
+    -- so many bytes of each in whole replies
+    pub wholes : AllWhole (all_replies ran.served.sessions journal) counts olds news

@@ -1,5 +1,6 @@
 -- What the sessions of a run come to.
 use Rattle.std.specs.Prelude.{◌≡◌, ℕ, List, [], ◌∷◌, Option, map}
+use Rattle.std.specs.List.{flat_map}
 use Rattle.flake_base.specs.declared.journal.Entry.{Entry}
 use Rattle.flake_model.specs.Run.{wire_texts}
 use Rattle.pin_core.specs.declared.sizes.Sizes.{Sizes}
@@ -8,6 +9,7 @@ use Rattle.pinned_pool.specs.declared.view.View.{View}
 use Rattle.order_book.specs.Pages.{SessionList}
 use Rattle.serve_model.specs.Handed.{OneRun, AllRun}
 use Rattle.serve_model.specs.Seats.{HasAll, IsSpare}
+use Rattle.serve_model.specs.Replies.{all_replies}
 use Rattle.serve_model.specs.Shown.{WasRun}
 use Rattle.serve_inputs.specs.Ran.{no_wires}
 
@@ -27,4 +29,7 @@ pub record HaveShown (z : Sizes) (each : List OneRun) (journal : List (List Entr
   pub ran : WasRun z (map (λ (one : OneRun). one.input) each) (map (λ (one : OneRun). one.left) each)
       (map (λ (one : OneRun). one.end) each) journal (no_wires (map (λ (one : OneRun). one.end) each))
       (no_wires (map (λ (one : OneRun). one.end) each)) closed
-  pub texts_are : wire_texts ran.served.sessions journal ≡ map (λ (one : OneRun). (one.end.failed, one.text)) each
+  pub texts_are : wire_texts ran.served.sessions journal
+      ≡ map (λ (one : OneRun). (one.end.failed, flat_map (λ text. text) one.texts)) each
+  pub replies_are : all_replies ran.served.sessions journal
+      ≡ map (λ (one : OneRun). (one.end.failed, one.texts)) each

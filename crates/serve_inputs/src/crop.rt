@@ -15,6 +15,7 @@ use std::vec::IntoIter;
 #[derive(Drop)]
 pub(crate) struct Crop<N: BookName, S, W> {
     pub(crate) ends: Ends,
+    pub(crate) sent: Vec<u64>,
     pub(crate) lists: SessionSeats<N>,
     pub(crate) sources: Vec<S>,
     pub(crate) wires: Vec<W>,
@@ -24,12 +25,14 @@ impl<N: BookName, S: Drop, W: Drop> Crop<N, S, W> {
     /// Nothing yet, with room for so many sessions, and for so many wires.
     pub(crate) fn with_room(alloc: Global, count: usize, wires: usize) -> Result<Self, Memory>
         ensures ends { IfOk result (λ c. (c.ends.items ≡ []) × (count ≤ c.ends.spare)) }
+        ensures sent { IfOk result (λ c. (c.sent.items ≡ []) × (count ≤ vec_capacity c.sent)) }
         ensures lists { IfOk result (λ c. (c.lists.items ≡ []) × (count ≤ c.lists.spare)) }
         ensures sources { IfOk result (λ c. (c.sources.items ≡ []) × (count ≤ vec_capacity c.sources)) }
         ensures wires { IfOk result (λ c. (c.wires.items ≡ []) × (wires ≤ vec_capacity c.wires)) }
     {
         Ok(Crop {
             ends: Ends::with_room(alloc, count)?,
+            sent: Vec::with_capacity(alloc, count)?,
             lists: SessionSeats::with_room(alloc, count)?,
             sources: Vec::with_capacity(alloc, count)?,
             wires: Vec::with_capacity(alloc, wires)?,
@@ -46,11 +49,13 @@ pub(crate) fn bring_in<N: BookName, P: PoolName, S: Source + Drop, W: Drop>(
     crop: Crop<N, S, W>,
 ) -> Crop<N, S, W>
     requires ends { (crop.ends.items ≡ []) × (length dones.items ≤ crop.ends.spare) }
+    requires sent { (crop.sent.items ≡ []) × (length dones.items ≤ vec_capacity crop.sent) }
     requires lists { (crop.lists.items ≡ []) × (length dones.items ≤ crop.lists.spare) }
     requires sources { (crop.sources.items ≡ []) × (length dones.items ≤ vec_capacity crop.sources) }
     requires wires { (crop.wires.items ≡ [])
         × (length dones.items + length (into_iter_items past) ≤ vec_capacity crop.wires) }
     ensures ends { result.ends.items ≡ map (λ d. d.account.end) dones.items }
+    ensures sent { result.sent.items ≡ map (λ d. d.account.sent) dones.items }
     ensures lists { result.lists.items ≡ map (λ d. d.account.mine) dones.items }
     ensures lefts { map (λ s. S.left s) result.sources.items ≡ map (λ d. d.account.pump.left) dones.items }
     ensures faults { map (λ s. S.read_faults s) result.sources.items ≡ map (λ d. d.account.pump.faults) dones.items }
@@ -59,6 +64,7 @@ pub(crate) fn bring_in<N: BookName, P: PoolName, S: Source + Drop, W: Drop>(
 {
     let Crop {
         mut ends,
+        mut sent,
         mut lists,
         mut sources,
         mut wires,
@@ -69,6 +75,7 @@ pub(crate) fn bring_in<N: BookName, P: PoolName, S: Source + Drop, W: Drop>(
             end,
             seat,
             mine,
+            sent: bytes,
             pump,
         } = account;
         let Ok(()) = ends.push(end) else {
@@ -80,9 +87,11 @@ pub(crate) fn bring_in<N: BookName, P: PoolName, S: Source + Drop, W: Drop>(
         pool.join(main, seat);
         sources.push_reserved(pump.into_source());
         wires.push_reserved(wire);
+        sent.push_reserved(bytes);
     }
     Crop {
         ends,
+        sent,
         lists,
         sources,
         wires: with_past(wires, past),

@@ -89,7 +89,8 @@ fn serve_here<
     requires room { (dones.items ≡ []) × (length jobs.items ≤ vec_capacity dones) }
     ensures { AllZip (λ job done. IsDone (λ w p r. PUT.post put.now w p r)
         (λ w r. FLUSH.post flush.now w r) P.sizes N.sizes.shards job.line.session job.line.pump job.wire
-        done.account.end done.account.mine done.account.seat done.account.pump done.wire) jobs.items result.items }
+        done.account.end done.account.sent done.account.mine done.account.seat done.account.pump done.wire)
+        jobs.items result.items }
 {
     let mut dones = dones;
     for job in jobs {
@@ -128,7 +129,8 @@ pub(crate) fn serve_jobs<
     requires room { (dones.items ≡ []) × (length jobs.items ≤ vec_capacity dones) }
     ensures { AllZip (λ job done. IsDone (λ w p r. PUT.post put.now w p r)
         (λ w r. FLUSH.post flush.now w r) P.sizes N.sizes.shards job.line.session job.line.pump job.wire
-        done.account.end done.account.mine done.account.seat done.account.pump done.wire) jobs.items result.items }
+        done.account.end done.account.sent done.account.mine done.account.seat done.account.pump done.wire)
+        jobs.items result.items }
 {
     match serve_all(rt, alloc, shop, jobs, workers, gate, put, flush) {
         Ok(dones) => dones,

@@ -50,8 +50,8 @@ fn serve_named<
         × IsBook (length sources.items) sizes.now N.sizes }
     ensures ran { IfOk result (λ r. RanAll (λ w p r. PUT.post put.now w p r) (λ w r. FLUSH.post flush.now w r)
         (pool_sizes (length sources.items) sizes.now) (map (λ s. S.left s) sources.items)
-        (map (λ s. S.left s) r.sources.items) r.ends.items (histories r.journal.items) r.pool wires.items
-        r.wires.items) }
+        (map (λ s. S.left s) r.sources.items) r.ends.items r.sent.items (histories r.journal.items) r.pool
+        wires.items r.wires.items) }
     ensures shards { IfOk result (λ r. length r.journal.items ≡ sizes.now.shards) }
     ensures reads { IfOk result (λ r. AreReads r.ends.items (map (λ s. S.read_faults s) sources.items)
         (map (λ s. S.read_faults s) r.sources.items)) }
@@ -96,8 +96,8 @@ pub fn serve_inputs<
     requires wires { length sources.items ≤ length wires.items }
     ensures ran { IfOk result (λ r. RanAll (λ w p r. PUT.post put.now w p r) (λ w r. FLUSH.post flush.now w r)
         (pool_sizes (length sources.items) sizes.now) (map (λ s. S.left s) sources.items)
-        (map (λ s. S.left s) r.sources.items) r.ends.items (histories r.journal.items) r.pool wires.items
-        r.wires.items) }
+        (map (λ s. S.left s) r.sources.items) r.ends.items r.sent.items (histories r.journal.items) r.pool
+        wires.items r.wires.items) }
     ensures shards { IfOk result (λ r. length r.journal.items ≡ sizes.now.shards) }
     ensures reads { IfOk result (λ r. AreReads r.ends.items (map (λ s. S.read_faults s) sources.items)
         (map (λ s. S.read_faults s) r.sources.items)) }

@@ -25,10 +25,12 @@ use std::thread::Threads;
 /// Room for a run.
 pub(crate) type Room<N, P, S, W> = Space<Job<N, P, S, W>, Done<N, P, S, W>, N, S, W>;
 
-/// What a run leaves. Ends, sources and wires stand at their sources' places.
+/// What a run leaves. Ends, counts, sources and wires stand at their sources' places.
 #[derive(Drop)]
 pub struct Served<S, W> {
     pub ends: Ends,
+    /// So many bytes of each were put in whole replies; a full count stands still.
+    pub sent: Vec<u64>,
     pub journal: Journal,
     pub pool: PoolEnd,
     pub sources: Vec<S>,
@@ -70,13 +72,14 @@ pub(crate) fn serve_house<
     requires jobs { (space.jobs.items ≡ []) × (length sources.items ≤ vec_capacity space.jobs) }
     requires dones { (space.dones.items ≡ []) × (length sources.items ≤ vec_capacity space.dones) }
     requires ends { (space.crop.ends.items ≡ []) × (length sources.items ≤ space.crop.ends.spare) }
+    requires sent { (space.crop.sent.items ≡ []) × (length sources.items ≤ vec_capacity space.crop.sent) }
     requires lists { (space.crop.lists.items ≡ []) × (length sources.items ≤ space.crop.lists.spare) }
     requires room { (space.crop.sources.items ≡ []) × (length sources.items ≤ vec_capacity space.crop.sources) }
     requires wire_room { (space.crop.wires.items ≡ []) × (length wires.items ≤ vec_capacity space.crop.wires) }
     ensures ran { RanAll (λ w p r. PUT.post put.now w p r) (λ w r. FLUSH.post flush.now w r)
         (pool_sizes (length sources.items) sizes.now) (map (λ s. S.left s) sources.items)
-        (map (λ s. S.left s) result.sources.items) result.ends.items (histories result.journal.items) result.pool
-        wires.items result.wires.items }
+        (map (λ s. S.left s) result.sources.items) result.ends.items result.sent.items
+        (histories result.journal.items) result.pool wires.items result.wires.items }
     ensures shards { length result.journal.items ≡ sizes.now.shards }
     ensures reads { AreReads result.ends.items (map (λ s. S.read_faults s) sources.items)
         (map (λ s. S.read_faults s) result.sources.items) }
@@ -100,6 +103,7 @@ pub(crate) fn serve_house<
     let parts = store.into_parts(&pool);
     let Crop {
         ends,
+        sent,
         lists,
         sources,
         wires,
@@ -108,6 +112,7 @@ pub(crate) fn serve_house<
     let _ = sizes;
     Served {
         ends,
+        sent,
         journal,
         pool,
         sources,

@@ -20,6 +20,7 @@ impl<J: Drop, D: Drop, N: BookName, S: Drop, W: Drop> Space<J, D, N, S, W> {
         ensures jobs { IfOk result (λ s. (s.jobs.items ≡ []) × (count ≤ vec_capacity s.jobs)) }
         ensures dones { IfOk result (λ s. (s.dones.items ≡ []) × (count ≤ vec_capacity s.dones)) }
         ensures ends { IfOk result (λ s. (s.crop.ends.items ≡ []) × (count ≤ s.crop.ends.spare)) }
+        ensures sent { IfOk result (λ s. (s.crop.sent.items ≡ []) × (count ≤ vec_capacity s.crop.sent)) }
         ensures lists { IfOk result (λ s. (s.crop.lists.items ≡ []) × (count ≤ s.crop.lists.spare)) }
         ensures sources { IfOk result (λ s. (s.crop.sources.items ≡ []) × (count ≤ vec_capacity s.crop.sources)) }
         ensures wires { IfOk result (λ s. (s.crop.wires.items ≡ []) × (wires ≤ vec_capacity s.crop.wires)) }

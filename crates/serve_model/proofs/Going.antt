@@ -1,10 +1,9 @@
 -- A session from its first call to its end.
-use Rattle.std.proofs.Common.{◌≡◌, ℕ, ◌+◌, ◌≤◌, inl, List, [], ◌∷◌, ◌++◌, Option, Some, length, take, slice_get}
+use Rattle.std.proofs.Common.{◌≡◌, ℕ, ◌+◌, ◌≤◌, inl, List, [], ◌∷◌, ◌++◌, Option, Some, length, map, take, slice_get}
 use Rattle.std.proofs.Common.{refl, ap, sym, ◌∙◌, subst, append-nil, arith}
 use Rattle.std.specs.List.{zip, flat_map}
 use Rattle.std.specs.Option.{option_to_list}
-use Rattle.std.proofs.lemmas.List.{length-append}
-use Rattle.std.proofs.lemmas.Grind.{flat_map-append}
+use Rattle.std.proofs.lemmas.List.{length-append, map-append}
 use Rattle.std.proofs.Math.Seq.{take-length}
 use Rattle.view_sums.specs.Total.{total}
 use Rattle.view_sums.proofs.Sums.{total-append}
@@ -94,9 +93,9 @@ going_on z shards session given calls texts text pins more command outcomes old 
       as_many = omega (arith, going.as_many, length-append calls (outcomes ∷ []), length-append given (command ∷ []));
       are = one.are going.are done.running.are done.whole;
       told_is = done.running.told ∙ ap (λ (told : Told). told ++ here) going.told_is ∙ sym one.told;
-      texts_are = (λ i. going.texts_are i ++ (done.text_is ∙ sym (append-nil (reply_text reply))) i)
-          ∙ sym (flat_map-append reply_text (replies_told given calls) (reply ∷ []))
-          ∙ ap (flat_map reply_text) (sym (replies_more given calls command outcomes going.as_many));
+      texts_are = (λ i. going.texts_are i ++ done.text_is i ∷ [])
+          ∙ sym (map-append reply_text (replies_told given calls) (reply ∷ []))
+          ∙ ap (map reply_text) (sym (replies_more given calls command outcomes going.as_many));
       sought = sought_as z _ _ _ _ opened after
           (sought_then z (λ class. commands_row class given)
           (λ class. parts_row class (take (length outcomes) (parts command))) (missed_by calls)
@@ -134,7 +133,7 @@ going_ends z shards session given rest calls texts pins told opened seat looks e
         begun_is = begun_none end.end _;
       };
       told_is = going.told_is ∙ sym all.told ∙ sym (append-nil (calls_told shards session 0 (given ++ rest) calls));
-      texts_are = going.texts_are ∙ ap (flat_map reply_text) (sym all.replies);
+      texts_are = going.texts_are ∙ ap (map reply_text) (sym all.replies);
       sought = sought_as z _ _ _ _ opened seat going.sought (λ class. rows_front class given rest) (omega arith);
       pinned = omega (arith, going.pinned, ap (total (λ p. long_in p.0 p.1)) all.parts);
     }
@@ -167,7 +166,7 @@ going_breaks z shards session given rest calls texts pins command outcomes old n
       };
       told_is = short.told ∙ (λ i. (going.told_is ∙ sym all.told) i
           ++ call_told shards session (sym going.as_many i) 0 (sym next i) outcomes);
-      texts_are = going.texts_are ∙ ap (flat_map reply_text) (sym all.replies);
+      texts_are = going.texts_are ∙ ap (map reply_text) (sym all.replies);
       sought = sought_as z _ _ _ _ opened after
           (sought_then z (λ class. commands_row class given) (λ class. parts_row class (parts command))
           (missed_by calls) (missed_in outcomes) opened seat after going.sought short.sought)
@@ -200,5 +199,5 @@ session_ran z shards session input left run texts pins told opened seat last sta
         sought = sought;
         returned = omega (arith, is.pinned, finished.returns);
       };
-      text_is = is.texts_are;
+      texts_are = is.texts_are;
     }

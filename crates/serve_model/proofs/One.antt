@@ -1,5 +1,6 @@
 -- A run of one session alone.
 use Rattle.std.proofs.Common.{◌≡◌, ℕ, Bool, List, [], ◌∷◌, map, ap, sym, ◌∙◌}
+use Rattle.std.specs.List.{flat_map}
 use Rattle.flake_base.specs.declared.journal.Entry.{Entry}
 use Rattle.flake_base.specs.declared.session.SessionEnd.{SessionEnd}
 use Rattle.flake_model.specs.Command.{Command}
@@ -25,7 +26,7 @@ only_text (session ∷ sessions) commands journal end text ends texts =
     sym (ap first_text texts) ∙ ap (λ (e : SessionEnd). wire_text commands journal 0 e.replies) same
 
 pub one_ran : OneRan
-one_ran books z shards list journal store input left end seat text old new past spare last closed sessions parts has
+one_ran books z shards list journal store input left end seat texts old new past spare last closed sessions parts has
     grew is =
     let one : OneRun = record {
       input = input;
@@ -33,11 +34,14 @@ one_ran books z shards list journal store input left end seat text old new past 
       end = end;
       list = list;
       seat = seat;
-      text = text;
+      texts = texts;
       old = old;
       new = new;
     } in
     let served = all_served z books.shards (one ∷ []) past (has, grew, tt) in
     let ran = was_run books z shards (list ∷ []) journal store (input ∷ []) (left ∷ []) (end ∷ []) (seat ∷ [])
-    (old ∷ past) (new ∷ past) closed (sym sessions) parts served.0 last spare is in
-    (ran.0, only_text ran.0.served.sessions _ journal end text ran.0.served.ends_are (ran.1.texts_are ∙ served.1))
+    (old ∷ past) (new ∷ past) closed (sym sessions) parts served.0 last spare is in (
+      ran.0,
+      only_text ran.0.served.sessions _ journal end (flat_map (λ text. text) texts) ran.0.served.ends_are
+          (ran.1.texts_are ∙ served.1),
+    )

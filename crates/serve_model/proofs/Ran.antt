@@ -1,11 +1,14 @@
 -- A served run, with the end of its pool, from what the layers hand up.
 use Rattle.std.proofs.Common.{◌≡◌, Bool, ℕ, ◌+◌, List, [], ◌∷◌, ◌++◌, Option, length, map, refl, ap, sym, ◌∙◌, subst}
+use Rattle.std.specs.List.{flat_map}
+use Rattle.std.proofs.lemmas.List.Folds.{flat_map-map}
 use Rattle.view_sums.specs.Total.{Each}
 use Rattle.flake_base.specs.declared.journal.Entry.{Entry}
 use Rattle.flake_base.specs.declared.session.SessionEnd.{SessionEnd}
 use Rattle.pin_core.specs.declared.sizes.Sizes as pool_sizes
 use Rattle.pinned_pool.specs.Ends.{end_of}
 use Rattle.pinned_pool.specs.declared.view.View.{View}
+use Rattle.flake_model.specs.Reply.{reply_text}
 use Rattle.flake_model.specs.Run.{WasServed}
 use Rattle.flake_model.specs.Session.{Session, IsSession}
 use Rattle.flake_model.specs.Wire.{WiresGrew}
@@ -16,14 +19,15 @@ use Rattle.order_book.proofs.Ordered.{has_ranks}
 use Rattle.call_model.specs.Stock.{AreParts}
 use Rattle.serve_model.specs.Handed.{SessionRun, session_in, runs_in, OneRun, AllRun, AreServed, IsLastSeat}
 use Rattle.serve_model.specs.Lists.{AreLists}
-use Rattle.serve_model.specs.Runs.{run_text, IsRun, lists_told, texts_told}
+use Rattle.serve_model.specs.Runs.{Run, run_text, run_texts, replies_told, IsRun}
+use Rattle.serve_model.specs.Runs.{lists_told, texts_told, all_texts_told}
 use Rattle.serve_model.specs.Seats.{AreSpentSeats}
 use Rattle.serve_model.specs.Shown.{WasRun}
 use Rattle.serve_model.specs.Whole.{AreThose, ServedTogether}
 use Rattle.flake_base.specs.Growth.{Grew}
 use Rattle.serve_model.proofs.Counted.{counted}
 use Rattle.serve_model.proofs.OneHistory.{one_history}
-use Rattle.serve_model.proofs.Served.{lists_long, sessions_long, rising, all_sessions, texts, in_order}
+use Rattle.serve_model.proofs.Served.{lists_long, sessions_long, rising, all_sessions, texts, replies, in_order}
 
 abbrev Told : Type 0
 Told = Option (List ℕ)
@@ -78,8 +82,14 @@ module _ (books : book_sizes.Sizes) (z : pool_sizes.Sizes) (shards : List ShardL
   pub was_served : Served journal
   unfolding own
   was_served =
-      let run : Served (journal_of shards) =
-      (own, record { sessions_are = refl; texts_are = texts books all shards sessions lists }) in
+      let run : Served (journal_of shards) = (
+        own,
+        record {
+          sessions_are = refl;
+          texts_are = texts books all shards sessions lists;
+          replies_are = replies books all shards sessions lists;
+        },
+      ) in
       subst Served (sym parts.journal_is) run
 
   abbrev Ran : View → List (List Entry) → Type 0
@@ -94,7 +104,11 @@ module _ (books : book_sizes.Sizes) (z : pool_sizes.Sizes) (shards : List ShardL
           counted = counted books all shards sessions lists z store last spare seats parts.stock parts.idle
               served.seats_are is;
         },
-        record { sessions_are = refl; texts_are = texts books all shards sessions lists },
+        record {
+          sessions_are = refl;
+          texts_are = texts books all shards sessions lists;
+          replies_are = replies books all shards sessions lists;
+        },
       ) in
       subst (Ran last) (sym parts.journal_is) run
 
@@ -108,9 +122,18 @@ record HasRuns (z : pool_sizes.Sizes) (shards session : ℕ) (each : List OneRun
   runs_are : Each IsRun (runs_in all)
   told : map (λ (one : OneRun). one.list) each ≡ lists_told shards session (runs_in all)
   seats_are : AreSpentSeats z (runs_in all) (map (λ (one : OneRun). one.seat) each)
-  texts_are : texts_told (runs_in all) ≡ map (λ (one : OneRun). (one.end.failed, one.text)) each
+  texts_are : texts_told (runs_in all)
+      ≡ map (λ (one : OneRun). (one.end.failed, flat_map (λ text. text) one.texts)) each
+  replies_are : all_texts_told (runs_in all) ≡ map (λ (one : OneRun). (one.end.failed, one.texts)) each
   wires : (past : List Told) → WiresGrew (texts_told (runs_in all)) (map (λ (one : OneRun). one.old) each ++ past)
       (map (λ (one : OneRun). one.new) each ++ past)
+
+-- the texts of its replies, end to end
+abbrev in_one : Bool × List (List ℕ) → Bool × List ℕ
+in_one texts = (texts.0, flat_map (λ text. text) texts.1)
+
+run_text_is : (run : Run) → run_text run ≡ flat_map (λ text. text) (run_texts run)
+run_text_is run = sym (flat_map-map (λ text. text) reply_text (replies_told run.commands run.calls))
 
 runs_of : (z : pool_sizes.Sizes) (shards session : ℕ) (each : List OneRun) → AllRun z shards session each
     → HasRuns z shards session each
@@ -124,13 +147,16 @@ runs_of z shards session [] have = record {
   told = refl;
   seats_are = tt;
   texts_are = refl;
+  replies_are = refl;
   wires = λ past. refl;
 }
 runs_of z shards session (one ∷ each) have =
     let rest = runs_of z shards (session + 1) each have.2 in
     let has = have.0 in
-    let text : (has.run.end.failed, run_text has.run) ≡ (one.end.failed, one.text) =
-    λ i. ((sym has.end_is i).failed, sym has.text_is i) in
+    let texts : (has.run.end.failed, run_texts has.run) ≡ (one.end.failed, one.texts) =
+    λ i. ((sym has.end_is i).failed, sym has.texts_are i) in
+    let text : (has.run.end.failed, run_text has.run) ≡ (one.end.failed, flat_map (λ text. text) one.texts) =
+    (λ i. (has.run.end.failed, run_text_is has.run i)) ∙ ap in_one texts in
     record {
       all = record { input = one.input; left = one.left; run = has.run } ∷ rest.all;
       inputs_are = ap (λ (l : List Told). one.input ∷ l) rest.inputs_are;
@@ -141,6 +167,7 @@ runs_of z shards session (one ∷ each) have =
       told = λ i. has.list_is i ∷ rest.told i;
       seats_are = (has.seat_is, rest.seats_are);
       texts_are = λ i. text i ∷ rest.texts_are i;
+      replies_are = λ i. texts i ∷ rest.replies_are i;
       wires = λ past. (
         subst (λ (t : Bool × List ℕ). Grew t.0 t.1 one.old one.new) (sym text) have.1,
         rest.wires past,
@@ -163,4 +190,5 @@ all_served z shards each past have =
         wires = found.wires past;
       },
       found.texts_are,
+      found.replies_are,
     )

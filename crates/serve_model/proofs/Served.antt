@@ -24,7 +24,8 @@ use Rattle.order_book.proofs.Replayed.{replays}
 use Rattle.call_model.specs.Outcomes.{call_told}
 use Rattle.serve_model.specs.Handed.{SessionRun, session_in, runs_in}
 use Rattle.serve_model.specs.Lists.{AreLists}
-use Rattle.serve_model.specs.Runs.{Run, IsRun, run_text, list_of, lists_told, texts_told}
+use Rattle.serve_model.specs.Replies.{reply_texts, all_replies_from}
+use Rattle.serve_model.specs.Runs.{Run, IsRun, run_text, run_texts, list_of, lists_told, texts_told, all_texts_told}
 use Rattle.serve_model.proofs.Answers.{AreTold, calls_are}
 use Rattle.serve_model.proofs.Calls.{run_rising, run_meant, at_call}
 use Rattle.serve_model.proofs.InOrder.{run_served}
@@ -131,6 +132,22 @@ texts_are commands journal n (ran ∷ all) each =
     ap (λ m. wire_text commands journal m later.end.replies) d ∙ each (suc k) later is) in
     λ i. (run.end.failed, here i) ∷ rest i
 
+-- and one by one
+replies_are : (commands : List (List Command)) (journal : List (List Entry)) (n : ℕ) (all : List SessionRun)
+    → ((k : ℕ) (run : Run) → slice_get (runs_in all) k ≡ Some run
+    → reply_texts commands journal (n + k) run.end.replies ≡ run_texts run)
+    → all_replies_from commands journal n (map session_in all) ≡ all_texts_told (runs_in all)
+replies_are commands journal n [] each = refl
+replies_are commands journal n (ran ∷ all) each =
+    let run = ran.run in
+    let e : n ≡ n + 0 = omega arith in
+    let here : reply_texts commands journal n run.end.replies ≡ run_texts run =
+    ap (λ m. reply_texts commands journal m run.end.replies) e ∙ each 0 run refl in
+    let rest = replies_are commands journal (n + 1) all (λ k later is.
+    let d : n + 1 + k ≡ n + suc k = omega arith in
+    ap (λ m. reply_texts commands journal m later.end.replies) d ∙ each (suc k) later is) in
+    λ i. (run.end.failed, here i) ∷ rest i
+
 -- what a session of the list ran, and what one past its end did
 ran_there : (sessions : List Session) (k : ℕ) (session : Session) → slice_get sessions k ≡ Some session
     → ran_by sessions k ≡ ran_steps k session.commands session.end.replies session.begun
@@ -215,6 +232,20 @@ module _ (books : Sizes) (all : List SessionRun) (shards : List ShardList) (sess
   texts = texts_are commands (journal_of shards) 0 all (λ k run is.
       let e : 0 + k ≡ k = omega arith in
       ap (λ m. wire_text commands (journal_of shards) m run.end.replies) e ∙ wire_is k run is)
+
+  replies_at : (k : ℕ) (run : Run) → slice_get runs k ≡ Some run
+      → reply_texts commands (journal_of shards) k run.end.replies ≡ run_texts run
+  replies_at k run is =
+      let replies = (each_at IsRun runs k run lists.runs_are is).replies_are in
+      let answers = answers_of commands (journal_of shards) in
+      let told = told_at k run is in
+      (λ i. map reply_text (replies_from answers k 0 (take (replies i) (commands_are k run is i))))
+      ∙ ap (map reply_text) told.replies
+
+  pub replies : all_replies_from commands (journal_of shards) 0 ran ≡ all_texts_told runs
+  replies = replies_are commands (journal_of shards) 0 all (λ k run is.
+      let e : 0 + k ≡ k = omega arith in
+      ap (λ m. reply_texts commands (journal_of shards) m run.end.replies) e ∙ replies_at k run is)
 
   -- a session's parts in a shard
   part_of : (session shard : ℕ) (list : ShardList) → slice_get shards shard ≡ Some list → (found : Option SessionRun)

@@ -1,6 +1,5 @@
 -- A session on its way, and at its end.
-use Rattle.std.specs.Prelude.{◌≡◌, ℕ, ◌+◌, ◌≤◌, List, [], length}
-use Rattle.std.specs.List.{flat_map}
+use Rattle.std.specs.Prelude.{◌≡◌, ℕ, ◌+◌, ◌≤◌, List, [], length, map}
 use Rattle.view_sums.specs.Total.{total}
 use Rattle.pin_core.specs.declared.class.Class.{Class}
 use Rattle.pin_core.specs.declared.sizes.Sizes.{Sizes}
@@ -12,25 +11,25 @@ use Rattle.call_model.specs.Demand.{long_in}
 use Rattle.call_model.specs.Outcomes.{Outcomes, Told, missed_in}
 use Rattle.serve_model.specs.Demand.{commands_row}
 use Rattle.serve_model.specs.Runs.{Run, IsRun, AreCalls, calls_told, replies_told, parts_told, missed_by}
-use Rattle.serve_model.specs.Runs.{run_told, run_text}
+use Rattle.serve_model.specs.Runs.{run_told, run_texts}
 
--- A session was opened with this seat and made the calls of these commands: the texts of their frames, end to end, and
--- how many pinned holds they have.
-pub record IsGoing (z : Sizes) (shards session : ℕ) (given : List Command) (calls : List Outcomes) (texts : List ℕ)
-    (pins : ℕ) (told : Told) (opened seat : View) : Type 0 where
+-- A session was opened with this seat and made the calls of these commands: the texts of their frames, and how many
+-- pinned holds they have.
+pub record IsGoing (z : Sizes) (shards session : ℕ) (given : List Command) (calls : List Outcomes)
+    (texts : List (List ℕ)) (pins : ℕ) (told : Told) (opened seat : View) : Type 0 where
   pub as_many : length calls ≡ length given
   pub are : AreCalls given calls
   pub told_is : told ≡ calls_told shards session 0 given calls
-  pub texts_are : texts ≡ flat_map reply_text (replies_told given calls)
+  pub texts_are : texts ≡ map reply_text (replies_told given calls)
   pub sought : Sought z (λ (class : Class). commands_row class given) (missed_by calls) opened seat
   pub pinned : total (λ part. long_in part.0 part.1) (parts_told given calls) ≤ pins
 
 -- A session makes no more calls: its run, the texts of all its frames, and their pinned holds.
-pub record HasEnded (z : Sizes) (shards session : ℕ) (run : Run) (texts : List ℕ) (pins : ℕ) (told : Told)
-    (opened seat : View) : Type 0 where
+pub record HasEnded (z : Sizes) (shards session : ℕ) (run : Run) (texts : List (List ℕ)) (pins : ℕ)
+    (told : Told) (opened seat : View) : Type 0 where
   pub is_run : IsRun run
   pub told_is : told ≡ run_told shards session run
-  pub texts_are : texts ≡ run_text run
+  pub texts_are : texts ≡ run_texts run
   pub sought : Sought z (λ (class : Class). commands_row class run.commands)
       (missed_by run.calls + missed_in run.behind) opened seat
   pub pinned : total (λ part. long_in part.0 part.1) (parts_told run.commands run.calls) ≤ pins

@@ -1,5 +1,6 @@
 -- What the sessions of a run hand up, one by one and together.
 use Rattle.std.specs.Prelude.{◌≡◌, ℕ, ◌+◌, List, [], ◌∷◌, ◌++◌, Option, map}
+use Rattle.std.specs.List.{flat_map}
 use Rattle.view_sums.specs.Total.{Each}
 use Rattle.flake_base.specs.Growth.{Grew}
 use Rattle.flake_base.specs.declared.session.SessionEnd.{SessionEnd}
@@ -10,37 +11,37 @@ use Rattle.pinned_pool.specs.declared.view.View.{View}
 use Rattle.flake_model.specs.Session.{Session, IsSession}
 use Rattle.flake_model.specs.Wire.{WiresGrew}
 use Rattle.order_book.specs.Pages.{SessionList}
-use Rattle.serve_model.specs.Runs.{Run, IsRun, run_text, texts_told, session_of, list_of, lists_told}
+use Rattle.serve_model.specs.Runs.{Run, IsRun, run_texts, texts_told, session_of, list_of, lists_told}
 use Rattle.serve_model.specs.Seats.{HasAll, IsSpare, IsSpentSeat, AreSpentSeats}
 
--- One session ran: its end, its list, its seat, and the text that it sends.
+-- One session ran: its end, its list, its seat, and the texts of its replies, which it sends.
 pub record HasRun (z : Sizes) (shards session : ℕ) (input left : Option (List ℕ)) (end : SessionEnd)
-    (list : SessionList) (seat : View) (text : List ℕ) : Type 0 where
+    (list : SessionList) (seat : View) (texts : List (List ℕ)) : Type 0 where
   pub run : Run
   pub is_run : IsRun run
   pub is_session : IsSession (session_of input left run)
   pub end_is : end ≡ run.end
   pub list_is : list ≡ list_of shards session run
   pub seat_is : IsSpentSeat z run seat
-  pub text_is : text ≡ run_text run
+  pub texts_are : texts ≡ run_texts run
 
--- what comes of one session: its end, its list, its seat, its text, and its wire before and behind it
+-- what comes of one session: its end, its list, its seat, its replies' texts, and its wire before and behind it
 pub record OneRun : Type 0 where
   pub input : Option (List ℕ)
   pub left : Option (List ℕ)
   pub end : SessionEnd
   pub list : SessionList
   pub seat : View
-  pub text : List ℕ
+  pub texts : List (List ℕ)
   pub old : Option (List ℕ)
   pub new : Option (List ℕ)
 
--- each session ran, from a number on, and its wire grew by its text
+-- each session ran, from a number on, and its wire grew by its texts
 abbrev pub AllRun : Sizes → ℕ → ℕ → List OneRun → Type 0
 AllRun z shards session [] = Unit {0}
 AllRun z shards session (one ∷ others) =
-    HasRun z shards session one.input one.left one.end one.list one.seat one.text
-    × Grew one.end.failed one.text one.old one.new × AllRun z shards (session + 1) others
+    HasRun z shards session one.input one.left one.end one.list one.seat one.texts
+    × Grew one.end.failed (flat_map (λ text. text) one.texts) one.old one.new × AllRun z shards (session + 1) others
 
 -- the run of one session, with its input and what it has left
 pub record SessionRun : Type 0 where

@@ -5,6 +5,7 @@ pub mod Going
 pub mod Steps
 pub mod Handed
 pub mod Lists
+pub mod Replies
 pub mod Shown
 pub mod Whole
 pub mod One

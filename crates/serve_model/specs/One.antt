@@ -1,5 +1,6 @@
 -- A run of one session alone.
 use Rattle.std.specs.Prelude.{◌≡◌, ℕ, List, [], ◌∷◌, Option}
+use Rattle.std.specs.List.{flat_map}
 use Rattle.flake_base.specs.Growth.{Grew}
 use Rattle.flake_base.specs.declared.journal.Entry.{Entry}
 use Rattle.flake_base.specs.declared.session.SessionEnd.{SessionEnd}
@@ -15,14 +16,16 @@ use Rattle.call_model.specs.Stock.{AreParts}
 use Rattle.serve_model.specs.Handed.{HasRun, IsLastSeat}
 use Rattle.serve_model.specs.Shown.{WasRun}
 
--- The only session of a book ran, and its wire grew by its text: so it is a whole run, in which the journal gives that
--- text.
+-- The only session of a book ran, and its wire grew by its replies' texts: so it is a whole run, in which the journal
+-- gives these texts.
 abbrev pub OneRan : Type 0
 OneRan = (books : book_sizes.Sizes) (z : pool_sizes.Sizes) (shards : List ShardList) (list : SessionList)
     (journal : List (List Entry)) (store : View) (input left : Option (List ℕ)) (end : SessionEnd) (seat : View)
-    (text : List ℕ) (old new : Option (List ℕ)) (past : List (Option (List ℕ))) (spare : List View) (last : View)
+    (texts : List (List ℕ)) (old new : Option (List ℕ)) (past : List (Option (List ℕ))) (spare : List View)
+    (last : View)
     → AreClosed books shards (list ∷ []) → books.sessions ≡ 1 → AreParts z books.shards shards journal store
-    → HasRun z books.shards 0 input left end list seat text → Grew end.failed text old new
+    → HasRun z books.shards 0 input left end list seat texts
+    → Grew end.failed (flat_map (λ text. text) texts) old new
     → IsLastSeat store spare (seat ∷ []) last
     → (run : WasRun z (input ∷ []) (left ∷ []) (end ∷ []) journal (old ∷ past) (new ∷ past) (end_of z last))
-    × (text ≡ wire_text (all_commands run.served.sessions) journal 0 end.replies)
+    × (flat_map (λ text. text) texts ≡ wire_text (all_commands run.served.sessions) journal 0 end.replies)

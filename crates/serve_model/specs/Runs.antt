@@ -61,6 +61,14 @@ run_told shards session run =
     calls_told shards session 0 run.commands run.calls
     ++ call_told shards session n 0 (next_parts n run.commands) run.behind
 
+-- the texts of its replies
+abbrev pub run_texts : Run → List (List ℕ)
+run_texts run = map reply_text (replies_told run.commands run.calls)
+
+-- those of each session, and whether its wire failed
+abbrev pub all_texts_told : List Run → List (Bool × List (List ℕ))
+all_texts_told runs = map (λ (run : Run). (run.end.failed, run_texts run)) runs
+
 -- what its wire is sent
 abbrev pub run_text : Run → List ℕ
 run_text run = flat_map reply_text (replies_told run.commands run.calls)

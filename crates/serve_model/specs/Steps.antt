@@ -48,34 +48,36 @@ GoingStarts = (z : Sizes) (shards session : ℕ) (opened : View)
 
 -- frames that come back change neither claims nor looks
 abbrev pub GoingRests : Type 0
-GoingRests = (z : Sizes) (shards session : ℕ) (given : List Command) (calls : List Outcomes) (texts : List ℕ)
-    (pins : ℕ) (told : Told) (opened seat after : View) → after.claims ≡ seat.claims → after.looks ≡ seat.looks
+GoingRests = (z : Sizes) (shards session : ℕ) (given : List Command) (calls : List Outcomes)
+    (texts : List (List ℕ)) (pins : ℕ) (told : Told) (opened seat after : View)
+    → after.claims ≡ seat.claims → after.looks ≡ seat.looks
     → IsGoing z shards session given calls texts pins told opened seat
     → IsGoing z shards session given calls texts pins told opened after
 
 -- one call more
 abbrev pub GoingOn : Type 0
-GoingOn = (z : Sizes) (shards session : ℕ) (given : List Command) (calls : List Outcomes) (texts text : List ℕ)
-    (pins more : ℕ) (command : Command) (outcomes : Outcomes) (old new : Told) (opened seat after : View)
+GoingOn = (z : Sizes) (shards session : ℕ) (given : List Command) (calls : List Outcomes)
+    (texts : List (List ℕ)) (text : List ℕ) (pins more : ℕ) (command : Command) (outcomes : Outcomes)
+    (old new : Told) (opened seat after : View)
     → IsGoing z shards session given calls texts pins old opened seat
     → IsExecuted z shards session (length given) command outcomes text more old new seat after
-    → IsGoing z shards session (given ++ command ∷ []) (calls ++ outcomes ∷ []) (texts ++ text) (pins + more) new
-    opened after
+    → IsGoing z shards session (given ++ command ∷ []) (calls ++ outcomes ∷ []) (texts ++ text ∷ []) (pins + more)
+    new opened after
 
 -- a session that stops between two calls, or behind its last
 abbrev pub GoingEnds : Type 0
-GoingEnds = (z : Sizes) (shards session : ℕ) (given rest : List Command) (calls : List Outcomes) (texts : List ℕ)
-    (pins : ℕ) (told : Told) (opened seat : View) (looks : List (ℕ × List Deed)) (end : SessionEnd)
-    → IsGoing z shards session given calls texts pins told opened seat → end.replies ≡ length given
+GoingEnds = (z : Sizes) (shards session : ℕ) (given rest : List Command) (calls : List Outcomes)
+    (texts : List (List ℕ)) (pins : ℕ) (told : Told) (opened seat : View) (looks : List (ℕ × List Deed))
+    (end : SessionEnd) → IsGoing z shards session given calls texts pins told opened seat → end.replies ≡ length given
     → HasEnded z shards session
     (record { commands = given ++ rest; calls = calls; behind = []; looks = looks; end = end })
     texts pins told opened seat
 
 -- a session in one of whose calls memory was wanting
 abbrev pub GoingBreaks : Type 0
-GoingBreaks = (z : Sizes) (shards session : ℕ) (given rest : List Command) (calls : List Outcomes) (texts : List ℕ)
-    (pins : ℕ) (command : Command) (outcomes : Outcomes) (old new : Told) (opened seat after : View)
-    (looks : List (ℕ × List Deed)) (end : SessionEnd)
+GoingBreaks = (z : Sizes) (shards session : ℕ) (given rest : List Command) (calls : List Outcomes)
+    (texts : List (List ℕ)) (pins : ℕ) (command : Command) (outcomes : Outcomes) (old new : Told)
+    (opened seat after : View) (looks : List (ℕ × List Deed)) (end : SessionEnd)
     → IsGoing z shards session given calls texts pins old opened seat
     → IsCutShort z shards session (length given) command outcomes old new seat after
     → end.replies ≡ length given → end.end ≡ how.Memory
@@ -93,8 +95,8 @@ WithStage = (z : Sizes) (run : Run) (opened seat : View) → Sought z stage_row 
 
 -- So the session ran, where its input is told so, and sends the texts of its frames.
 abbrev pub SessionRan : Type 0
-SessionRan = (z : Sizes) (shards session : ℕ) (input left : Option (List ℕ)) (run : Run) (texts : List ℕ) (pins : ℕ)
-    (told : Told) (opened seat last : View) → Sought z stage_row 0 nobody opened
+SessionRan = (z : Sizes) (shards session : ℕ) (input left : Option (List ℕ)) (run : Run) (texts : List (List ℕ))
+    (pins : ℕ) (told : Told) (opened seat last : View) → Sought z stage_row 0 nobody opened
     → HasEnded z shards session run texts pins told opened seat → IsFinished pins seat last
     → IsSession (session_of input left run)
     → HasRun z shards session input left run.end (record { number = session; told = told; looks = run.looks }) last

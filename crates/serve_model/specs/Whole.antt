@@ -1,5 +1,6 @@
 -- What a closed book, a store's parts and the sessions' runs give together.
 use Rattle.std.specs.Prelude.{◌≡◌, ℕ, ◌≤◌, List, ◌++◌, Option, length, map}
+use Rattle.std.specs.List.{flat_map}
 use Rattle.flake_base.specs.declared.journal.Entry.{Entry}
 use Rattle.flake_base.specs.declared.session.SessionEnd.{SessionEnd}
 use Rattle.pin_core.specs.declared.class.Class.{Class}
@@ -15,7 +16,8 @@ use Rattle.order_book.specs.declared.rule.Sizes as book_sizes
 use Rattle.call_model.specs.Stock.{AreParts}
 use Rattle.serve_model.specs.Demand.{demand_of}
 use Rattle.serve_model.specs.Handed.{SessionRun, session_in, runs_in, OneRun, AllRun, AreServed, IsLastSeat}
-use Rattle.serve_model.specs.Runs.{texts_told}
+use Rattle.serve_model.specs.Replies.{all_replies}
+use Rattle.serve_model.specs.Runs.{texts_told, all_texts_told}
 use Rattle.serve_model.specs.Shown.{IsCounted, WasRun}
 
 -- sessions that ran each for itself were served together, with these texts; wires past theirs are as they were
@@ -26,12 +28,15 @@ ServedTogether = (z : pool_sizes.Sizes) (shards : ℕ) (each : List OneRun) (pas
     (map (λ (one : OneRun). one.end) each) (map (λ (one : OneRun). one.list) each)
     (map (λ (one : OneRun). one.seat) each) (map (λ (one : OneRun). one.old) each ++ past)
     (map (λ (one : OneRun). one.new) each ++ past))
-    × (texts_told (runs_in served.all) ≡ map (λ (one : OneRun). (one.end.failed, one.text)) each)
+    × (texts_told (runs_in served.all)
+    ≡ map (λ (one : OneRun). (one.end.failed, flat_map (λ text. text) one.texts)) each)
+    × (all_texts_told (runs_in served.all) ≡ map (λ (one : OneRun). (one.end.failed, one.texts)) each)
 
 -- the sessions are those that ran so, and by the journal the wires are sent their texts
 pub record AreThose (all : List SessionRun) (sessions : List Session) (journal : List (List Entry)) : Type 0 where
   pub sessions_are : sessions ≡ map session_in all
   pub texts_are : wire_texts sessions journal ≡ texts_told (runs_in all)
+  pub replies_are : all_replies sessions journal ≡ all_texts_told (runs_in all)
 
 -- the inputs were served
 abbrev pub InputsServed : Type 0

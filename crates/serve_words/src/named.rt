@@ -8,6 +8,7 @@ pub enum CommandName {
     /// `serve`, or a word that names no command: such words are bad words of `serve`.
     Serve,
     Check,
+    Gen,
 }
 
 /// The command that the words behind the program's name ask for.
@@ -16,6 +17,7 @@ pub fn command_name(words: &[String]) -> CommandName
 {
     match words {
         [command, ..] if command.as_str() == "check" => CommandName::Check,
+        [command, ..] if command.as_str() == "gen" => CommandName::Gen,
         _ => CommandName::Serve,
     }
 }

@@ -398,9 +398,11 @@ fn bad_words_of_a_check(rt: HostRuntime) -> Result<(), Fail> {
 }
 
 /// First words, and the commands that they name.
-static NAMES: [(&[&str], CommandName); 5] = [
+static NAMES: [(&[&str], CommandName); 7] = [
     (&["check", "j"], CommandName::Check),
     (&["serve", "check"], CommandName::Serve),
+    (&["gen", "7"], CommandName::Gen),
+    (&["Gen"], CommandName::Serve),
     (&["Check"], CommandName::Serve),
     (&["checks"], CommandName::Serve),
     (&[], CommandName::Serve),

@@ -1,6 +1,6 @@
 -- A session that is served goes on, and ends.
 use Rattle.std.proofs.Common.{◌≡◌, ℕ, ◌+◌, ◌<◌, ◌≤◌, ◌⊎◌, List, [], ◌∷◌, ◌++◌, Option, length, refl, ap, sym, ◌∙◌, subst, append_assoc, append-nil, arith, length-append}
-use Rattle.std.proofs.lemmas.Grind.{flat_map-append}
+use Rattle.std.proofs.lemmas.List.{map-append}
 use Rattle.view_sums.proofs.Sums.{total-append}
 use Rattle.pin_core.specs.declared.sizes.Sizes.{Sizes}
 use Rattle.flake_base.specs.declared.segment.Seg.{Seg}
@@ -13,7 +13,7 @@ use Rattle.flake_model.specs.Session.{IsSession}
 use Rattle.command_pump.specs.Pump.{PumpState, IsPump, HasEnded, ended_at, session_at}
 use Rattle.command_pump.proofs.Pumped.{meant, stopped_at, bounded}
 use Rattle.reply_planner.specs.Parcels.{Sent}
-use Rattle.device_model.specs.Devices.{texts_of}
+use Rattle.drive_model.specs.Matches.{texts_in}
 use Rattle.call_model.specs.Outcomes.{Outcomes, Told}
 use Rattle.call_model.specs.Calls.{IsExecuted, IsCutShort}
 use Rattle.serve_model.specs.Going as model
@@ -38,7 +38,7 @@ work-starts z shards first pump fresh =
     record {
       pump_is = fresh.unread;
       count = ap length fresh.none_posted;
-      going = subst (λ (posted : List Sent). model.IsGoing z shards n [] [] (texts_of posted) (paid_in posted) first.pass.list.told seat seat)
+      going = subst (λ (posted : List Sent). model.IsGoing z shards n [] [] (texts_in posted) (paid_in posted) first.pass.list.told seat seat)
           (sym fresh.none_posted)
           (subst (λ (told : Told). model.IsGoing z shards n [] [] [] 0 told seat seat) (sym fresh.none_told) (going_starts z shards n seat));
       same = record { number = refl; looks = refl; stage = refl; opened = refl };
@@ -66,7 +66,7 @@ work-ends z shards first input before given calls how session old new w e = reco
   commands = given ++ e.more;
   calls = calls;
   behind = [];
-  ended = λ failed. going_ends z shards first.pass.list.number given e.more calls (texts_of session.posted) (paid_in session.posted)
+  ended = λ failed. going_ends z shards first.pass.list.number given e.more calls (texts_in session.posted) (paid_in session.posted)
       session.pass.list.told first.pass.seat session.pass.seat session.pass.list.looks (ended_at how new.taken (length session.posted) failed) w.going w.count;
   is_session = λ failed. subst (λ (n : ℕ). IsSession (session_at input new.left (given ++ e.more) (ended_at how new.taken n failed) 0)) (sym w.count) (e.session failed);
   same = w.same;
@@ -94,8 +94,8 @@ work-breaks z shards first input before given calls command old new pump after w
       behind = r.outcomes;
       ended = λ failed. subst
           (λ (ps : List Sent). model.HasEnded z shards n (run_of (given ++ command ∷ m.more) calls r.outcomes new.pass.list.looks Memory after.taken (length ps) failed)
-          (texts_of ps) (paid_in ps) new.pass.list.told first.pass.seat new.pass.seat) (sym r.posted)
-          (going_breaks z shards n given m.more calls (texts_of old.posted) (paid_in old.posted) command r.outcomes old.pass.list.told new.pass.list.told first.pass.seat
+          (texts_in ps) (paid_in ps) new.pass.list.told first.pass.seat new.pass.seat) (sym r.posted)
+          (going_breaks z shards n given m.more calls (texts_in old.posted) (paid_in old.posted) command r.outcomes old.pass.list.told new.pass.list.told first.pass.seat
           old.pass.seat new.pass.seat new.pass.list.looks (ended_at Memory after.taken (length old.posted) failed) w.going cut w.count refl);
       is_session = λ failed. subst (λ (cs : List Command). IsSession (session_at input after.left cs (ended_at Memory after.taken (length new.posted) failed) (length r.outcomes))) split
           (subst (λ (k : ℕ). IsSession (session_at input after.left ((given ++ command ∷ []) ++ m.more) (ended_at Memory after.taken k failed) (length r.outcomes))) (sym posted)
@@ -109,9 +109,8 @@ work-breaks z shards first input before given calls command old new pump after w
       };
     }
 
-texts-more : (posted : List Sent) (reply : Sent) → texts_of (posted ++ reply ∷ []) ≡ texts_of posted ++ reply.text
-texts-more posted reply =
-    flat_map-append (λ (p : Sent). p.text) posted (reply ∷ []) ∙ ap (λ t. texts_of posted ++ t) (append-nil reply.text)
+texts-more : (posted : List Sent) (reply : Sent) → texts_in (posted ++ reply ∷ []) ≡ texts_in posted ++ reply.text ∷ []
+texts-more posted reply = map-append (λ (p : Sent). p.text) posted (reply ∷ [])
 
 paid-more : (posted : List Sent) (reply : Sent) → paid_in (posted ++ reply ∷ []) ≡ paid_in posted + reply.paid
 paid-more posted reply = omega (arith, total-append (λ (p : Sent). p.paid) posted (reply ∷ []))
@@ -127,7 +126,7 @@ work-goes-on z shards first input before given calls command old new pump after 
     let executed : IsExecuted z shards n (length given) command posts.outcomes reply.text reply.paid old.pass.list.told new.pass.list.told old.pass.seat new.pass.seat =
     subst (λ (k : ℕ). IsExecuted z shards k (length given) command posts.outcomes reply.text reply.paid old.pass.list.told new.pass.list.told old.pass.seat new.pass.seat) w.same.number
     (subst (λ (k : ℕ). IsExecuted z shards old.pass.list.number k command posts.outcomes reply.text reply.paid old.pass.list.told new.pass.list.told old.pass.seat new.pass.seat) w.count posts.executed) in
-    let going = going_on z shards n given calls (texts_of old.posted) reply.text (paid_in old.posted) reply.paid command posts.outcomes old.pass.list.told new.pass.list.told
+    let going = going_on z shards n given calls (texts_in old.posted) reply.text (paid_in old.posted) reply.paid command posts.outcomes old.pass.list.told new.pass.list.told
     first.pass.seat old.pass.seat new.pass.seat w.going executed in
     let more = old.posted ++ reply ∷ [] in
     record {
@@ -137,11 +136,11 @@ work-goes-on z shards first input before given calls command old new pump after 
         pump_is = p;
         count = omega (arith, ap length posts.posted, w.count, length-append old.posted (reply ∷ []), length-append given (command ∷ []));
         going = subst
-            (λ (ps : List Sent). model.IsGoing z shards n (given ++ command ∷ []) (calls ++ posts.outcomes ∷ []) (texts_of ps) (paid_in ps) new.pass.list.told first.pass.seat new.pass.seat)
+            (λ (ps : List Sent). model.IsGoing z shards n (given ++ command ∷ []) (calls ++ posts.outcomes ∷ []) (texts_in ps) (paid_in ps) new.pass.list.told first.pass.seat new.pass.seat)
             (sym posts.posted)
-            (subst (λ (t : List ℕ). model.IsGoing z shards n (given ++ command ∷ []) (calls ++ posts.outcomes ∷ []) t (paid_in more) new.pass.list.told first.pass.seat new.pass.seat)
+            (subst (λ (t : List (List ℕ)). model.IsGoing z shards n (given ++ command ∷ []) (calls ++ posts.outcomes ∷ []) t (paid_in more) new.pass.list.told first.pass.seat new.pass.seat)
             (sym (texts-more old.posted reply))
-            (subst (λ (k : ℕ). model.IsGoing z shards n (given ++ command ∷ []) (calls ++ posts.outcomes ∷ []) (texts_of old.posted ++ reply.text) k new.pass.list.told first.pass.seat new.pass.seat)
+            (subst (λ (k : ℕ). model.IsGoing z shards n (given ++ command ∷ []) (calls ++ posts.outcomes ∷ []) (texts_in old.posted ++ reply.text ∷ []) k new.pass.list.told first.pass.seat new.pass.seat)
             (sym (paid-more old.posted reply)) going));
         same = record {
           number = posts.rest.number ∙ w.same.number;

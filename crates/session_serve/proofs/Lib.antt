@@ -1,4 +1,5 @@
 pub mod Gathering
 pub mod Calling
+pub mod Whole
 pub mod Serving
 pub mod Sides

@@ -1,6 +1,7 @@
 -- What a served session hands up.
 use Rattle.std.proofs.Common.{◌≡◌, ℕ, Bool, true, false, List, [], ◌∷◌, ◌++◌, Option, length, refl, ap, sym, ◌∙◌, subst, append-nil, arith}
 use Rattle.std.specs.Borrow.{Bor}
+use Rattle.std.proofs.lemmas.List.Folds.{flat_map-map}
 use Rattle.view_sums.specs.Total.{total}
 use Rattle.pin_core.specs.Holding.{Holding}
 use Rattle.pin_core.specs.declared.sizes.Sizes.{Sizes}
@@ -14,6 +15,8 @@ use Rattle.any_wire.proofs.Sending.{sends-none, sends-on, sends-same, sends-flus
 use Rattle.reply_planner.specs.Owned.{bare_all, fresh_all}
 use Rattle.reply_planner.specs.Parcels.{Sent}
 use Rattle.device_model.specs.Devices.{texts_of, Forwards}
+use Rattle.transcript_model.specs.Sessions.{joined}
+use Rattle.drive_model.specs.Matches.{texts_in}
 use Rattle.call_model.specs.Outcomes.{Told}
 use Rattle.serve_model.specs.Going.{HasEnded}
 use Rattle.serve_model.specs.Handed.{HasRun}
@@ -21,6 +24,7 @@ use Rattle.serve_model.proofs.Going.{session_ran}
 use Rattle.session_pass.specs.Kept.{paid_in}
 use Rattle.session_pass.specs.Views.{SessionView}
 use Rattle.session_serve.specs.Served.{IsServed}
+use Rattle.session_serve.specs.Whole.{SentWhole}
 use Rattle.session_serve.specs.Wires.{SendsOut, WasFlushed}
 use Rattle.session_serve.specs.Working.{IsFresh, HasStopped, IsLeft, run_of}
 
@@ -46,22 +50,22 @@ ran-so : (z : Sizes) (shards : ℕ) (first session : SessionView) (unread pump :
     (seat : View) (mine : SessionList) → IsFresh z first unread
     → HasStopped z shards first unread.left unread.faults how session pump → IsLeft session seat mine
     → HasRun z shards first.pass.list.number unread.left pump.left
-    (ended_at how pump.taken (length session.posted) failed) mine seat (texts_of session.posted)
+    (ended_at how pump.taken (length session.posted) failed) mine seat (texts_in session.posted)
 ran-so z shards first session unread pump how failed seat mine fresh s left =
     let n = first.pass.list.number in
     let last = session.pass.seat in
     let run = run_of s.commands s.calls s.behind session.pass.list.looks how pump.taken (length session.posted) failed in
-    let text = texts_of session.posted in
+    let texts = texts_in session.posted in
     let pins = paid_in session.posted in
     let number : mine.number ≡ n = ap (λ (l : SessionList). l.number) left.list ∙ s.same.number in
     let looks : mine.looks ≡ run.looks = ap (λ (l : SessionList). l.looks) left.list in
     let told : session.pass.list.told ≡ mine.told = ap (λ (l : SessionList). l.told) (sym left.list) in
     let list : record { number = n; told = mine.told; looks = run.looks } ≡ mine =
     λ i. record { number = sym number i; told = mine.told; looks = sym looks i } in
-    subst (λ (l : SessionList). HasRun z shards n unread.left pump.left run.end l seat text) list
-    (session_ran z shards n unread.left pump.left run text pins mine.told first.opened last seat fresh.claimed
-    (subst (λ (v : View). HasEnded z shards n run text pins mine.told v last) (sym fresh.opened)
-    (subst (λ (t : Told). HasEnded z shards n run text pins t first.pass.seat last) told (s.ended failed)))
+    subst (λ (l : SessionList). HasRun z shards n unread.left pump.left run.end l seat texts) list
+    (session_ran z shards n unread.left pump.left run texts pins mine.told first.opened last seat fresh.claimed
+    (subst (λ (v : View). HasEnded z shards n run texts pins mine.told v last) (sym fresh.opened)
+    (subst (λ (t : Told). HasEnded z shards n run texts pins t first.pass.seat last) told (s.ended failed)))
     (record {
       holds = holds-none z first session unread seat mine fresh s.same.stage s.same.opened left;
       claims = left.claims;
@@ -69,6 +73,10 @@ ran-so z shards first session unread pump how failed seat mine fresh s left =
       returns = left.returns;
     })
     (s.is_session failed))
+
+-- the texts of all replies, joined
+texts_joined : (posted : List Sent) → texts_of posted ≡ joined (texts_in posted)
+texts_joined posted = sym (flat_map-map (λ (text : List ℕ). text) (λ (p : Sent). p.text) posted)
 
 module _ {W : Type 0} (put_may : W → Bor (List ℕ) → (W × Bool) → Type 0) (flush_may : W → (W × Bool) → Type 0) where
   -- nothing was posted more
@@ -103,19 +111,27 @@ module _ {W : Type 0} (put_may : W → Bor (List ℕ) → (W × Bool) → Type 0
   pub flushed-last : (failed now : Bool) (text : List ℕ) (old new : W) → SendsOut put_may flush_may failed now text old new → now ≡ false → WasFlushed put_may flush_may old new
   flushed-last failed now text old new s none = flushed-so s.between now old s.middle new s.flushed none
 
-  pub served-so : (z : Sizes) (shards : ℕ) (first session : SessionView) (unread pump : PumpState) (how : End) (end : SessionEnd) (between : Bool)
+  pub served-so : (z : Sizes) (shards : ℕ) (first session : SessionView) (unread pump : PumpState) (how : End) (end : SessionEnd) (bytes : ℕ) (between : Bool)
       (seat : View) (mine : SessionList) (left : Option (List ℕ)) (old middle new : W) → IsFresh z first unread
       → HasStopped z shards first unread.left unread.faults how session pump → IsLeft session seat mine
       → end ≡ ended_at how pump.taken (length session.posted) end.failed → left ≡ pump.left
       → Forwards put_may flush_may false between [] session.posted old middle → Flushes flush_may between end.failed middle new
-      → IsServed put_may flush_may z shards first unread.left left end mine seat old new
-  served-so z shards first session unread pump how end between seat mine left old middle new fresh stopped is_left end_is left_is forwards flushed =
+      → SentWhole put_may flush_may end.failed (texts_in session.posted) bytes old new
+      → IsServed put_may flush_may z shards first unread.left left end bytes mine seat old new
+  served-so z shards first session unread pump how end bytes between seat mine left old middle new fresh stopped is_left end_is left_is forwards flushed whole =
       let n = first.pass.list.number in
-      let text = texts_of session.posted in
+      let texts = texts_in session.posted in
       record {
-        text = text;
-        ran = subst (λ (e : SessionEnd). HasRun z shards n unread.left left e mine seat text) (sym end_is)
-            (subst (λ (l : Option (List ℕ)). HasRun z shards n unread.left l (ended_at how pump.taken (length session.posted) end.failed) mine seat text) (sym left_is)
+        texts = texts;
+        ran = subst (λ (e : SessionEnd). HasRun z shards n unread.left left e mine seat texts) (sym end_is)
+            (subst (λ (l : Option (List ℕ)). HasRun z shards n unread.left l (ended_at how pump.taken (length session.posted) end.failed) mine seat texts) (sym left_is)
             (ran-so z shards first session unread pump how end.failed seat mine fresh stopped is_left));
-        sends = record { between = between; middle = middle; sends = forwards-all false between session.posted old middle forwards; flushed = flushed };
+        sends = record {
+          between = between;
+          middle = middle;
+          sends = sends-same put_may flush_may false between (texts_of session.posted) (joined texts) old middle (texts_joined session.posted)
+              (forwards-all false between session.posted old middle forwards);
+          flushed = flushed;
+        };
+        whole = whole;
       }

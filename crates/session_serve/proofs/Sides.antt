@@ -15,7 +15,8 @@ use Rattle.tx_ring.specs.Shown.{closed_view}
 use Rattle.tx_ring.specs.declared.closed.ClosedDriver.{ClosedDriver}
 use Rattle.reply_planner.specs.Owned.{bare_all, fresh_all}
 use Rattle.reply_planner.specs.Parcels.{Sent}
-use Rattle.device_model.specs.Devices.{texts_of, Forwards}
+use Rattle.device_model.specs.Devices.{Forwards}
+use Rattle.drive_model.specs.Matches.{texts_in}
 use Rattle.call_model.specs.Outcomes.{Outcomes}
 use Rattle.serve_model.specs.Going as model
 use Rattle.serve_model.proofs.Going.{going_rests}
@@ -27,7 +28,9 @@ use Rattle.session_serve.specs.Working.{IsFresh, IsWorking, CallsMore, HasStoppe
 use Rattle.session_serve.specs.Beside.{HasWaited, CallsAtLast, BreaksAtLast, RanToTheEnd, ForwardsOut}
 use Rattle.session_serve.specs.Served.{IsServed, HasServed}
 use Rattle.session_serve.proofs.Calling.{work-goes-on, work-breaks}
+use Rattle.session_serve.specs.Whole.{SentWhole}
 use Rattle.session_serve.proofs.Serving.{forwards-as, served-so}
+use Rattle.session_serve.proofs.Whole.{whole-start}
 
 pub waits-none : (s : SessionView) → HasWaited s s
 waits-none s = record {
@@ -76,9 +79,9 @@ work-rests z shards first input before given calls old new pump waited w =
     record {
       pump_is = w.pump_is;
       count = ap length k.posted ∙ w.count;
-      going = subst (λ (ps : List Sent). model.IsGoing z shards n given calls (texts_of ps) (paid_in ps) new.pass.list.told first.pass.seat new.pass.seat) (sym k.posted)
-          (subst (λ (l : SessionList). model.IsGoing z shards n given calls (texts_of old.posted) (paid_in old.posted) l.told first.pass.seat new.pass.seat) (sym k.list)
-          (going_rests z shards n given calls (texts_of old.posted) (paid_in old.posted) old.pass.list.told first.pass.seat old.pass.seat new.pass.seat k.claims k.looks w.going));
+      going = subst (λ (ps : List Sent). model.IsGoing z shards n given calls (texts_in ps) (paid_in ps) new.pass.list.told first.pass.seat new.pass.seat) (sym k.posted)
+          (subst (λ (l : SessionList). model.IsGoing z shards n given calls (texts_in old.posted) (paid_in old.posted) l.told first.pass.seat new.pass.seat) (sym k.list)
+          (going_rests z shards n given calls (texts_in old.posted) (paid_in old.posted) old.pass.list.told first.pass.seat old.pass.seat new.pass.seat k.claims k.looks w.going));
       same = record {
         number = k.rest.number ∙ w.same.number;
         looks = k.rest.looks ∙ w.same.looks;
@@ -141,47 +144,51 @@ left-done s seat mine closed d = record {
 }
 
 module _ {W : Type 0} (put_may : W → Bor (List ℕ) → (W × Bool) → Type 0) (flush_may : W → (W × Bool) → Type 0) where
-  pub told-or-not : (z : Sizes) (shards : ℕ) (first : SessionView) (told : ℕ) (pump : PumpState) (old : W) (end : SessionEnd)
+  pub told-or-not : (z : Sizes) (shards : ℕ) (first : SessionView) (told : ℕ) (pump : PumpState) (old : W) (end : SessionEnd) (bytes : ℕ)
       (mine : SessionList) (seat : View) (left : PumpState) (new : W)
-      → HasServed put_may flush_may z shards (record first { told = told }) pump old end mine seat left new
-      → HasServed put_may flush_may z shards first pump old end mine seat left new
-  told-or-not z shards first told pump old end mine seat left new h = record {
-    served = record { text = h.served.text; ran = h.served.ran; sends = h.served.sends };
+      → HasServed put_may flush_may z shards (record first { told = told }) pump old end bytes mine seat left new
+      → HasServed put_may flush_may z shards first pump old end bytes mine seat left new
+  told-or-not z shards first told pump old end bytes mine seat left new h = record {
+    served = record { texts = h.served.texts; ran = h.served.ran; sends = h.served.sends; whole = h.served.whole };
     reads = h.reads;
     to_the_end = h.to_the_end;
     credits = h.credits;
     looks = h.looks;
   }
 
-  pub served-as : (z : Sizes) (shards : ℕ) (first then : SessionView) (pump unread : PumpState) (old start : W) (end : SessionEnd) (mine : SessionList) (seat : View)
-      (left : PumpState) (new : W) → first ≡ then → pump ≡ unread → old ≡ start → HasServed put_may flush_may z shards first pump old end mine seat left new
-      → HasServed put_may flush_may z shards then unread start end mine seat left new
-  served-as z shards first then pump unread old start end mine seat left new s p o h =
-      subst (λ (x : SessionView). HasServed put_may flush_may z shards x unread start end mine seat left new) s
-      (subst (λ (x : PumpState). HasServed put_may flush_may z shards first x start end mine seat left new) p
-      (subst (λ (x : W). HasServed put_may flush_may z shards first pump x end mine seat left new) o h))
+  pub served-as : (z : Sizes) (shards : ℕ) (first then : SessionView) (pump unread : PumpState) (old start : W) (end : SessionEnd) (bytes : ℕ) (mine : SessionList) (seat : View)
+      (left : PumpState) (new : W) → first ≡ then → pump ≡ unread → old ≡ start → HasServed put_may flush_may z shards first pump old end bytes mine seat left new
+      → HasServed put_may flush_may z shards then unread start end bytes mine seat left new
+  served-as z shards first then pump unread old start end bytes mine seat left new s p o h =
+      subst (λ (x : SessionView). HasServed put_may flush_may z shards x unread start end bytes mine seat left new) s
+      (subst (λ (x : PumpState). HasServed put_may flush_may z shards first x start end bytes mine seat left new) p
+      (subst (λ (x : W). HasServed put_may flush_may z shards first pump x end bytes mine seat left new) o h))
 
   -- the session ended and its device found the ring closed
   pub served-beside : (z : Sizes) (shards : ℕ) (first : SessionView) (unread : PumpState) (how : End) (replies : ℕ) (over : View) (list : SessionList) (left : PumpState)
-      (closed : ClosedDriver Sent) (end : SessionEnd) (mine : SessionList) (seat : View) (pump : PumpState) (flag failed : Bool) (before after : List Sent) (old new last : W) → IsFresh z first unread
-      → RanToTheEnd z shards first unread how replies over list left closed → flag ≡ false → before ≡ []
-      → ForwardsOut put_may flush_may flag failed before after old new → after ≡ (closed_view closed).posted
-      → end ≡ ended_at how left.taken replies failed → seat ≡ over → mine ≡ list → pump ≡ left → last ≡ new
-      → HasServed put_may flush_may z shards first unread old end mine seat pump last
-  served-beside z shards first unread how replies over list left closed end mine seat pump flag failed before after old new last fresh r unfailed none out all end_is seat_is mine_is pump_is last_is =
+      (closed : ClosedDriver Sent) (end : SessionEnd) (bytes : ℕ) (mine : SessionList) (seat : View) (pump : PumpState) (flag failed : Bool) (before after : List Sent) (none counted : ℕ) (old new last : W) → IsFresh z first unread
+      → RanToTheEnd z shards first unread how replies over list left closed → flag ≡ false → (before ≡ []) × (none ≡ 0)
+      → ForwardsOut put_may flush_may flag failed before after none counted old new → after ≡ (closed_view closed).posted
+      → end ≡ ended_at how left.taken replies failed → bytes ≡ counted → seat ≡ over → mine ≡ list → pump ≡ left → last ≡ new
+      → HasServed put_may flush_may z shards first unread old end bytes mine seat pump last
+  served-beside z shards first unread how replies over list left closed end bytes mine seat pump flag failed before after none counted old new last fresh r unfailed idle out all end_is bytes_is seat_is mine_is pump_is last_is =
       let whole : after ≡ r.session.posted = all ∙ r.posted in
       let so : end ≡ ended_at how left.taken (length r.session.posted) failed = end_is ∙ ap (λ n. ended_at how left.taken n failed) r.replies_are in
-      let forwards : Forwards put_may flush_may false out.between [] r.session.posted old out.middle = forwards-as put_may flush_may flag false out.between out.between before [] after r.session.posted old out.middle unfailed refl none whole out.forwards in
+      let forwards : Forwards put_may flush_may false out.between [] r.session.posted old out.middle = forwards-as put_may flush_may flag false out.between out.between before [] after r.session.posted old out.middle unfailed refl idle.0 whole out.forwards in
       let failed_is : failed ≡ end.failed = ap (λ e. e.failed) (sym so) in
       let same : end ≡ ended_at how left.taken (length r.session.posted) end.failed = so ∙ ap (ended_at how left.taken (length r.session.posted)) failed_is in
-      let served : IsServed put_may flush_may z shards first unread.left left.left end list over old new =
-      served-so put_may flush_may z shards first r.session unread left how end out.between over list left.left old out.middle new fresh r.stopped r.left same refl forwards
-      (subst (λ b. Flushes flush_may out.between b out.middle new) failed_is out.flushed) in
+      let start : SentWhole put_may flush_may flag (texts_in before) none old old = whole-start put_may flush_may flag before none old unfailed idle.0 idle.1 in
+      let sent : SentWhole put_may flush_may end.failed (texts_in r.session.posted) bytes old new = subst (λ (b : Bool). SentWhole put_may flush_may b (texts_in r.session.posted) bytes old new) failed_is
+      (subst (λ (xs : List Sent). SentWhole put_may flush_may failed (texts_in xs) bytes old new) whole
+      (subst (λ n. SentWhole put_may flush_may failed (texts_in after) n old new) (sym bytes_is) (out.whole old start))) in
+      let served : IsServed put_may flush_may z shards first unread.left left.left end bytes list over old new =
+      served-so put_may flush_may z shards first r.session unread left how end bytes out.between over list left.left old out.middle new fresh r.stopped r.left same refl forwards
+      (subst (λ b. Flushes flush_may out.between b out.middle new) failed_is out.flushed) sent in
       record {
-        served = subst (λ p. IsServed put_may flush_may z shards first unread.left p.left end mine seat old last) (sym pump_is)
-            (subst (λ m. IsServed put_may flush_may z shards first unread.left left.left end m seat old last) (sym mine_is)
-            (subst (λ v. IsServed put_may flush_may z shards first unread.left left.left end list v old last) (sym seat_is)
-            (subst (λ w. IsServed put_may flush_may z shards first unread.left left.left end list over old w) (sym last_is) served)));
+        served = subst (λ p. IsServed put_may flush_may z shards first unread.left p.left end bytes mine seat old last) (sym pump_is)
+            (subst (λ m. IsServed put_may flush_may z shards first unread.left left.left end bytes m seat old last) (sym mine_is)
+            (subst (λ v. IsServed put_may flush_may z shards first unread.left left.left end bytes list v old last) (sym seat_is)
+            (subst (λ w. IsServed put_may flush_may z shards first unread.left left.left end bytes list over old w) (sym last_is) served)));
         reads = subst (λ (e : SessionEnd). EndFaults e.end unread.faults pump.faults) (sym end_is) (subst (λ p. EndFaults how unread.faults p.faults) (sym pump_is) r.stopped.faults_are);
         to_the_end = λ is. r.stopped.to_the_end (ap (λ (e : SessionEnd). e.end) (sym end_is) ∙ is);
         credits = ap (λ v. v.credits) seat_is ∙ r.left.credits ∙ ap (λ v. v.credits) r.stopped.same.opened;

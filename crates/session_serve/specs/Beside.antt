@@ -15,6 +15,7 @@ use Rattle.reply_planner.specs.Parcels.{Sent}
 use Rattle.device_model.specs.Devices.{Forwards}
 use Rattle.session_pass.specs.Calls.{KeepsAll, CallPosts, CallRefused}
 use Rattle.session_pass.specs.Views.{SessionView}
+use Rattle.session_serve.specs.Whole.{KeepsWhole}
 use Rattle.session_serve.specs.Working.{HasStopped, IsLeft}
 
 -- the session gave some replies back, and did nothing else
@@ -52,8 +53,10 @@ pub record RanToTheEnd (z : Sizes) (shards : ℕ) (first : SessionView) (unread 
 
 module _ {W : Type 0} (put_may : W → Bor (List ℕ) → (W × Bool) → Type 0) (flush_may : W → (W × Bool) → Type 0) where
   -- some replies more were completed and put, and last of all the wire was flushed, where nothing has failed
-  pub record ForwardsOut (failed now : Bool) (before after : List Sent) (old new : W) : Type 0 where
+  pub record ForwardsOut (failed now : Bool) (before after : List Sent) (bytes counted : ℕ) (old new : W) : Type 0 where
     pub between : Bool
     pub middle : W
     pub forwards : Forwards put_may flush_may failed between before after old middle
     pub flushed : Flushes flush_may between now middle new
+    -- and their bytes were counted, where they were put whole
+    pub whole : KeepsWhole put_may flush_may failed now before after bytes counted old new

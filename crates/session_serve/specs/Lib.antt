@@ -1,4 +1,5 @@
 pub mod Wires
+pub mod Whole
 pub mod Working
 pub mod Served
 pub mod Beside

@@ -8,21 +8,24 @@ use Rattle.pin_core.specs.declared.sizes.Sizes.{Sizes}
 use Rattle.pinned_pool.specs.declared.view.View.{View}
 use Rattle.order_book.specs.Pages.{SessionList}
 use Rattle.serve_model.specs.Handed.{HasRun}
+use Rattle.transcript_model.specs.Sessions.{joined}
+use Rattle.session_serve.specs.Whole.{SentWhole}
 use Rattle.session_serve.specs.Wires.{SendsOut}
 use Rattle.session_pass.specs.Views.{SessionView}
 
 module _ {W : Type 0} (put_may : W → Bor (List ℕ) → (W × Bool) → Type 0) (flush_may : W → (W × Bool) → Type 0) where
-  -- The session ran, and its text, which is that of its replies, was put on its wire.
+  -- The session ran, and the texts of its replies were put on its wire, so many bytes of them in whole replies.
   pub record IsServed (z : Sizes) (shards : ℕ) (session : SessionView) (input left : Option (List ℕ)) (end : SessionEnd)
-      (list : SessionList) (last : View) (old new : W) : Type 0 where
-    pub text : List ℕ
-    pub ran : HasRun z shards session.pass.list.number input left end list last text
-    pub sends : SendsOut put_may flush_may false end.failed text old new
+      (bytes : ℕ) (list : SessionList) (last : View) (old new : W) : Type 0 where
+    pub texts : List (List ℕ)
+    pub ran : HasRun z shards session.pass.list.number input left end list last texts
+    pub sends : SendsOut put_may flush_may false end.failed (joined texts) old new
+    pub whole : SentWhole put_may flush_may end.failed texts bytes old new
 
   -- and this is true of what it leaves
   pub record HasServed (z : Sizes) (shards : ℕ) (session : SessionView) (pump : PumpState) (old : W) (end : SessionEnd)
-      (mine : SessionList) (seat : View) (left : PumpState) (new : W) : Type 0 where
-    pub served : IsServed z shards session pump.left left.left end mine seat old new
+      (bytes : ℕ) (mine : SessionList) (seat : View) (left : PumpState) (new : W) : Type 0 where
+    pub served : IsServed z shards session pump.left left.left end bytes mine seat old new
     pub reads : EndFaults end.end pump.faults left.faults
     pub to_the_end : end.end ≢ Left
     pub credits : seat.credits ≡ session.opened.credits

@@ -19,7 +19,7 @@ use Rattle.tx_ring.specs.Shown.{device_ring, completed}
 use Rattle.tx_ring.specs.declared.device.DeviceEnd.{DeviceEnd}
 use Rattle.reply_planner.specs.Owned.{bare_all, fresh_all}
 use Rattle.reply_planner.specs.Parcels.{Sent}
-use Rattle.device_model.specs.Devices.{texts_of}
+use Rattle.drive_model.specs.Matches.{texts_in}
 use Rattle.call_model.specs.Outcomes.{Outcomes}
 use Rattle.serve_model.specs.Demand.{stage_row}
 use Rattle.serve_model.specs.Going as model
@@ -68,7 +68,7 @@ pub record IsWorking (z : Sizes) (shards : ℕ) (first : SessionView) (input : O
     (given : List Command) (calls : List Outcomes) (session : SessionView) (pump : PumpState) : Type 0 where
   pub pump_is : IsPump input before given pump
   pub count : length session.posted ≡ length given
-  pub going : model.IsGoing z shards first.pass.list.number given calls (texts_of session.posted)
+  pub going : model.IsGoing z shards first.pass.list.number given calls (texts_in session.posted)
       (paid_in session.posted) session.pass.list.told first.pass.seat session.pass.seat
   pub same : IsSame first session
 
@@ -99,7 +99,7 @@ pub record HasStopped (z : Sizes) (shards : ℕ) (first : SessionView) (input : 
   pub behind : Outcomes
   pub ended : (failed : Bool) → model.HasEnded z shards first.pass.list.number
       (run_of commands calls behind session.pass.list.looks how pump.taken (length session.posted) failed)
-      (texts_of session.posted) (paid_in session.posted) session.pass.list.told first.pass.seat session.pass.seat
+      (texts_in session.posted) (paid_in session.posted) session.pass.list.told first.pass.seat session.pass.seat
   pub is_session : (failed : Bool) → IsSession (session_of input pump.left
       (run_of commands calls behind session.pass.list.looks how pump.taken (length session.posted) failed))
   pub same : IsSame first session

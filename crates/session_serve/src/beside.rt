@@ -50,8 +50,8 @@ pub fn serve_beside<
     requires ring { device_ring line.device.end ≡ line.session.ring }
     requires unfailed { line.device.failed ≡ false }
     ensures served { IsServed (λ w p r. PUT.post put.now w p r) (λ w r. FLUSH.post flush.now w r) P.sizes
-        N.sizes.shards line.session line.pump.left result.1.pump.left result.1.end result.1.mine result.1.seat wire
-        result.0 }
+        N.sizes.shards line.session line.pump.left result.1.pump.left result.1.end result.1.sent result.1.mine
+        result.1.seat wire result.0 }
     ensures reads { EndFaults result.1.end.end line.pump.faults result.1.pump.faults }
     ensures to_the_end { result.1.end.end ≢ End.Left }
     ensures credits { result.1.seat.credits ≡ line.session.opened.credits }
@@ -69,7 +69,11 @@ pub fn serve_beside<
         pump,
         room,
     };
-    let outlet = Outlet { device, wire };
+    let outlet = Outlet {
+        device,
+        wire,
+        sent: 0,
+    };
     serve_sides(rt, shop, inlet, gate, outlet, put, flush)
 }
 
@@ -96,9 +100,10 @@ fn serve_sides<
     requires fresh { IsFresh P.sizes inlet.session inlet.pump }
     requires ring { device_ring outlet.device.end ≡ inlet.session.ring }
     requires unfailed { outlet.device.failed ≡ false }
-    requires none { completed outlet.device.end ≡ [] }
+    requires none { (completed outlet.device.end ≡ []) × (outlet.sent ≡ 0) }
     ensures { HasServed (λ w p r. PUT.post put.now w p r) (λ w r. FLUSH.post flush.now w r) P.sizes N.sizes.shards
-        inlet.session inlet.pump outlet.wire result.1.end result.1.mine result.1.seat result.1.pump result.0 }
+        inlet.session inlet.pump outlet.wire result.1.end result.1.sent result.1.mine result.1.seat
+        result.1.pump result.0 }
 {
     let (went, came) = both_sides(rt, shop, inlet, gate, outlet, put, flush, &Meeting::new());
     match came {
@@ -148,7 +153,7 @@ fn both_sides<
     ensures out { IfOk result.0 (λ o. (device_ring o.device.end ≡ device_ring outlet.device.end)
         × (ended o.device.end ≡ true) × ForwardsOut (λ w p r. PUT.post put.now w p r)
         (λ w r. FLUSH.post flush.now w r) outlet.device.failed o.device.failed (completed outlet.device.end)
-        (completed o.device.end) outlet.wire o.wire) }
+        (completed o.device.end) outlet.sent o.sent outlet.wire o.wire) }
     ensures idle { IfErr result.0 (λ o. o ≡ outlet) }
     ensures ran { IfOk result.1 (λ e. RanToTheEnd P.sizes N.sizes.shards inlet.session inlet.pump e.end e.replies
         e.remains.seat e.remains.mine e.pump e.remains.closed) }
@@ -162,7 +167,7 @@ fn both_sides<
             ensures { IfOk result (λ o. (device_ring o.device.end ≡ device_ring outlet.device.end)
                 × (ended o.device.end ≡ true) × ForwardsOut (λ w p r. PUT.post put.entry.now w p r)
                 (λ w r. FLUSH.post flush.entry.now w r) outlet.device.failed o.device.failed
-                (completed outlet.device.end) (completed o.device.end) outlet.wire o.wire)
+                (completed outlet.device.end) (completed o.device.end) outlet.sent o.sent outlet.wire o.wire)
                 × IfErr result (λ o. o ≡ outlet) }
         { outlet.beside(rt, pool, put, flush, meeting) },
         move || -> Result<Ended<N, P, S>, Inlet<N, P, S>>
@@ -197,14 +202,19 @@ fn take_turns<
     requires ring { device_ring outlet.device.end ≡ inlet.session.ring }
     requires unfailed { outlet.device.failed ≡ false }
     ensures { HasServed (λ w p r. PUT.post put.now w p r) (λ w r. FLUSH.post flush.now w r) P.sizes N.sizes.shards
-        inlet.session inlet.pump outlet.wire result.1.end result.1.mine result.1.seat result.1.pump result.0 }
+        inlet.session inlet.pump outlet.wire result.1.end result.1.sent result.1.mine result.1.seat
+        result.1.pump result.0 }
 {
     let Inlet {
         session,
         pump,
         room,
     } = inlet;
-    let Outlet { device, wire } = outlet;
+    let Outlet {
+        device,
+        wire,
+        sent: _,
+    } = outlet;
     let line = Line {
         session,
         pump,
@@ -223,6 +233,7 @@ fn settled<N: BookName, P: PoolName + Send, S: Source, W: Drop>(
     ensures end { result.1.end ≡ ended_at ended.end ended.pump.taken ended.replies outlet.device.failed }
     ensures seat { result.1.seat ≡ ended.remains.seat }
     ensures mine { result.1.mine ≡ ended.remains.mine }
+    ensures sent { result.1.sent ≡ outlet.sent }
     ensures pump { result.1.pump ≡ ended.pump }
     ensures wire { result.0 ≡ outlet.wire }
 {
@@ -237,7 +248,11 @@ fn settled<N: BookName, P: PoolName + Send, S: Source, W: Drop>(
         mine,
         mut closed,
     } = remains;
-    let Outlet { mut device, wire } = outlet;
+    let Outlet {
+        mut device,
+        wire,
+        sent,
+    } = outlet;
     device.settle(&mut closed);
     let end = SessionEnd {
         end,
@@ -249,6 +264,7 @@ fn settled<N: BookName, P: PoolName + Send, S: Source, W: Drop>(
         end,
         seat,
         mine,
+        sent,
         pump,
     };
     (wire, account)

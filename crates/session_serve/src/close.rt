@@ -12,11 +12,12 @@ use pinned_pool::PoolName;
 use session_pass::Finish;
 
 impl<N: BookName, P: PoolName + Send, S: Source> Line<N, P, S> {
-    /// Gives all replies back, closes ring and pass, and flushes the wire.
+    /// Gives all replies back, closes ring and pass, and flushes the wire. So many bytes were put in whole replies.
     pub(crate) fn close<W: Drop, PUT: Fn(W, &[u8]) -> (W, bool), FLUSH: Fn(W) -> (W, bool)>(
         self,
         shop: &Shop<'_, N, P>,
         end: End,
+        sent: u64,
         wire: W,
         put: &PUT,
         flush: &FLUSH,
@@ -25,6 +26,7 @@ impl<N: BookName, P: PoolName + Send, S: Source> Line<N, P, S> {
         requires gathered { IsGathered self.session self.device.end }
         ensures left { IsLeft self.session result.1.seat result.1.mine }
         ensures end { result.1.end ≡ ended_at end self.pump.taken (length self.session.posted) result.1.end.failed }
+        ensures sent { result.1.sent ≡ sent }
         ensures pump { result.1.pump ≡ self.pump }
         ensures flushed { Flushes (λ w r. FLUSH.post flush.now w r) self.device.failed result.1.end.failed wire
             result.0 }
@@ -53,6 +55,7 @@ impl<N: BookName, P: PoolName + Send, S: Source> Line<N, P, S> {
                     end,
                     seat,
                     mine,
+                    sent,
                     pump,
                 };
                 (wire, account)

@@ -3,6 +3,7 @@
 
 mod beside;
 mod close;
+mod counting;
 mod inlet;
 pub mod laws;
 mod line;

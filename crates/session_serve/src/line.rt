@@ -25,6 +25,8 @@ pub struct Account<N: BookName, P: PoolName, S: Source> {
     pub end: SessionEnd,
     pub seat: PoolSeat<P>,
     pub mine: SessionSeat<N>,
+    /// So many bytes were put in whole replies; a full count stands still.
+    pub sent: u64,
     /// With its source, and what that has left.
     pub pump: Pump<S>,
 }

@@ -3,6 +3,7 @@ ghost use Rattle.std.specs.Prelude.{◌≡◌, true, IfOk, IfErr};
 ghost use Rattle.tx_ring.specs.Shown.{device_ring, completed, ended};
 ghost use Rattle.session_serve.specs.Beside.{ForwardsOut};
 
+use crate::counting::{counted, whole_bytes};
 use crate::meeting::Meeting;
 use crate::naps::Naps;
 use device_model::{Device, Gathered};
@@ -19,6 +20,8 @@ where
 {
     pub device: Device<P>,
     pub wire: W,
+    /// So many bytes were put in whole replies; a full count stands still.
+    pub sent: u64,
 }
 
 impl<P: PoolName + Send, W: Drop> Outlet<P, W> {
@@ -34,21 +37,23 @@ impl<P: PoolName + Send, W: Drop> Outlet<P, W> {
         ensures ring { device_ring result.device.end ≡ device_ring self.device.end }
         ensures ended { ended result.device.end ≡ true }
         ensures out { ForwardsOut (λ w p r. PUT.post put.now w p r) (λ w r. FLUSH.post flush.now w r)
-            self.device.failed result.device.failed (completed self.device.end) (completed result.device.end)
-            self.wire result.wire }
+            self.device.failed result.device.failed (completed self.device.end) (completed result.device.end) self.sent
+            result.sent self.wire result.wire }
     {
-        let Outlet { device, wire } = self;
+        let Outlet { device, wire, sent } = self;
         let mut device = device;
         let mut wire = wire;
+        let mut sent = sent;
         let mut naps = Naps::new();
         for _ in rt.forever() {
             let (after, found) = device.gather(pool, wire, put, flush);
             wire = after;
+            sent = counted(sent, whole_bytes(found));
             match found {
                 Gathered::Sent { .. } => naps.found(),
                 Gathered::Dropped { .. } => naps.found(),
                 Gathered::Empty => naps.wait(rt),
-                Gathered::Closed => return Outlet { device, wire },
+                Gathered::Closed => return Outlet { device, wire, sent },
             }
         }
         unreachable!()
@@ -68,7 +73,7 @@ impl<P: PoolName + Send, W: Drop> Outlet<P, W> {
         ensures ended { IfOk result (λ o. ended o.device.end ≡ true) }
         ensures out { IfOk result (λ o. ForwardsOut (λ w p r. PUT.post put.now w p r)
             (λ w r. FLUSH.post flush.now w r) self.device.failed o.device.failed (completed self.device.end)
-            (completed o.device.end) self.wire o.wire) }
+            (completed o.device.end) self.sent o.sent self.wire o.wire) }
         ensures back { IfErr result (λ o. o ≡ self) }
     {
         if meeting.come() {

@@ -5,6 +5,7 @@ ghost use Rattle.tx_ring.specs.Shown.{device_ring};
 ghost use Rattle.session_serve.specs.Served.{IsServed};
 ghost use Rattle.session_serve.specs.Working.{IsFresh};
 
+use crate::counting::counted;
 use crate::line::{Account, Line};
 use crate::room::Room;
 use command_exec::Shop;
@@ -41,8 +42,8 @@ pub(crate) fn serve_in_turns<
     requires ring { device_ring line.device.end ≡ line.session.ring }
     requires unfailed { line.device.failed ≡ false }
     ensures served { IsServed (λ w p r. PUT.post put.now w p r) (λ w r. FLUSH.post flush.now w r) P.sizes
-        N.sizes.shards line.session line.pump.left result.1.pump.left result.1.end result.1.mine result.1.seat wire
-        result.0 }
+        N.sizes.shards line.session line.pump.left result.1.pump.left result.1.end result.1.sent result.1.mine
+        result.1.seat wire result.0 }
     ensures reads { EndFaults result.1.end.end line.pump.faults result.1.pump.faults }
     ensures to_the_end { result.1.end.end ≢ End.Left }
     ensures credits { result.1.seat.credits ≡ line.session.opened.credits }
@@ -51,13 +52,15 @@ pub(crate) fn serve_in_turns<
     let mut line = line;
     let mut room = room;
     let mut wire = wire;
+    let mut sent = 0;
     laws::both_ends(&mut line.session, &mut line.device);
     let end = 'turns: loop {
         let (after, turned) = line.turn(rt, shop, gate, &mut room, wire, put, flush);
         wire = after;
-        if let Err(end) = turned {
-            break end;
+        match turned {
+            Ok(bytes) => sent = counted(sent, bytes),
+            Err(end) => break end,
         }
     };
-    line.close(shop, end, wire, put, flush)
+    line.close(shop, end, sent, wire, put, flush)
 }

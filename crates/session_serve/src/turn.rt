@@ -1,12 +1,14 @@
 // One command after another.
-ghost use Rattle.std.specs.Prelude.{◌≡◌, ℕ, List, Option, length, OnOk, IfErr};
+ghost use Rattle.std.specs.Prelude.{◌≡◌, ℕ, List, Option, length, IfOk, IfErr, OnOk, OnErr};
 ghost use Rattle.flake_model.specs.Command.{Command as Meaning};
 ghost use Rattle.call_model.specs.Outcomes.{Outcomes};
 ghost use Rattle.tx_ring.specs.Shown.{completed};
 ghost use Rattle.device_model.specs.Devices.{Forwards};
 ghost use Rattle.session_pass.specs.Views.{SessionView};
+ghost use Rattle.session_serve.specs.Whole.{SendsMore};
 ghost use Rattle.session_serve.specs.Working.{IsGathered, IsReady, IsWorking, CallsMore, HasStopped, HasOneMore};
 
+use crate::counting::whole_bytes;
 use crate::line::Line;
 use crate::room::Room;
 use command_exec::Shop;
@@ -17,7 +19,8 @@ use session_pass::{CallError, Gate, laws};
 use std::sync::Wait;
 
 impl<N: BookName, P: PoolName + Send, S: Source> Line<N, P, S> {
-    /// Runs the next command and puts its reply; or says how the session ends.
+    /// Runs the next command and puts its reply, and answers how many bytes were put in a whole reply; or says how the
+    /// session ends.
     pub(crate) fn turn<
         R: Wait,
         G: Gate,
@@ -33,7 +36,7 @@ impl<N: BookName, P: PoolName + Send, S: Source> Line<N, P, S> {
         wire: W,
         put: &PUT,
         flush: &FLUSH,
-    ) -> (W, Result<(), End>)
+    ) -> (W, Result<u64, End>)
         requires calls { PUT.IsAlwaysCallable put.now × FLUSH.IsAlwaysCallable flush.now }
         requires gathered { IsGathered self.old.session self.old.device.end }
         requires ready { IsReady self.old.session }
@@ -41,6 +44,12 @@ impl<N: BookName, P: PoolName + Send, S: Source> Line<N, P, S> {
         ensures forwards { Forwards (λ w p r. PUT.post put.now w p r) (λ w r. FLUSH.post flush.now w r)
             self.old.device.failed self.new.device.failed self.old.session.posted self.new.session.posted wire
             result.0 }
+        ensures sent { IfOk result.1 (λ bytes. SendsMore (λ w p r. PUT.post put.now w p r)
+            (λ w r. FLUSH.post flush.now w r) self.old.device.failed self.new.device.failed self.old.session.posted
+            self.new.session.posted bytes wire result.0) }
+        ensures none_sent { OnErr result.1 (SendsMore (λ w p r. PUT.post put.now w p r)
+            (λ w r. FLUSH.post flush.now w r) self.old.device.failed self.new.device.failed self.old.session.posted
+            self.new.session.posted 0 wire result.0) }
         ensures unstopped { OnOk result.1 (self.new.session.stopped ≡ self.old.session.stopped) }
         ensures call { OnOk result.1 ((first : SessionView) (input : Option (List ℕ)) (before : ℕ)
             (given : List Meaning) (calls : List Outcomes)
@@ -65,18 +74,18 @@ impl<N: BookName, P: PoolName + Send, S: Source> Line<N, P, S> {
             Err(_) => unreachable!(),
         }
         self.pump.give_back(command);
-        let wire = self.forward(shop, wire, put, flush);
-        (wire, Ok(()))
+        let (wire, bytes) = self.forward(shop, wire, put, flush);
+        (wire, Ok(bytes))
     }
 
-    // Puts the reply that was posted last.
+    // Puts the reply that was posted last, and answers how many bytes were put in a whole reply.
     fn forward<W: Drop, PUT: Fn(W, &[u8]) -> (W, bool), FLUSH: Fn(W) -> (W, bool)>(
         &mut self,
         shop: &Shop<'_, N, P>,
         wire: W,
         put: &PUT,
         flush: &FLUSH,
-    ) -> W
+    ) -> (W, u64)
         requires calls { PUT.IsAlwaysCallable put.now × FLUSH.IsAlwaysCallable flush.now }
         requires one { HasOneMore self.old.session self.old.device.end }
         ensures gathered { IsGathered self.new.session self.new.device.end }
@@ -85,12 +94,15 @@ impl<N: BookName, P: PoolName + Send, S: Source> Line<N, P, S> {
         ensures pump { self.new.pump ≡ self.old.pump }
         ensures forwards { Forwards (λ w p r. PUT.post put.now w p r) (λ w r. FLUSH.post flush.now w r)
             self.old.device.failed self.new.device.failed (completed self.old.device.end) self.old.session.posted wire
-            result }
+            result.0 }
+        ensures sent { SendsMore (λ w p r. PUT.post put.now w p r) (λ w r. FLUSH.post flush.now w r)
+            self.old.device.failed self.new.device.failed (completed self.old.device.end) self.old.session.posted
+            result.1 wire result.0 }
     {
         // The device is told what was posted, and then the session what was gathered.
         laws::both_ends(&mut self.session, &mut self.device);
-        let (wire, _) = self.device.gather(shop.pool, wire, put, flush);
+        let (wire, found) = self.device.gather(shop.pool, wire, put, flush);
         laws::both_ends(&mut self.session, &mut self.device);
-        wire
+        (wire, whole_bytes(found))
     }
 }

@@ -26,8 +26,8 @@ module _ {g : Ghosts Sent} where
 module _ {W : Type 0} (put_may : W → Bor (List ℕ) → (W × Bool) → Type 0) (flush_may : W → (W × Bool) → Type 0) where
   -- what became of a session
   pub record IsDone (z : Sizes) (shards : ℕ) (session : SessionView) (pump : PumpState) (old : W) (end : SessionEnd)
-      (mine : SessionList) (seat : View) (left : PumpState) (new : W) : Type 0 where
-    pub served : IsServed put_may flush_may z shards session pump.left left.left end mine seat old new
+      (bytes : ℕ) (mine : SessionList) (seat : View) (left : PumpState) (new : W) : Type 0 where
+    pub served : IsServed put_may flush_may z shards session pump.left left.left end bytes mine seat old new
     pub reads : EndFaults end.end pump.faults left.faults
     pub to_the_end : end.end ≢ Left
     pub credits : seat.credits ≡ session.opened.credits

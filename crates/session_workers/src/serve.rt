@@ -42,7 +42,8 @@ pub fn serve_all<
         job.line.device.failed) jobs.items }
     ensures served { IfOk result (λ dones. AllZip (λ job done. IsDone (λ w p r. PUT.post put.now w p r)
         (λ w r. FLUSH.post flush.now w r) P.sizes N.sizes.shards job.line.session job.line.pump job.wire
-        done.account.end done.account.mine done.account.seat done.account.pump done.wire) jobs.items dones.items) }
+        done.account.end done.account.sent done.account.mine done.account.seat done.account.pump done.wire)
+        jobs.items dones.items) }
     ensures back { IfErr result (λ back. back ≡ jobs) }
 {
     let served = jobs_in_workers(
@@ -54,8 +55,8 @@ pub fn serve_all<
             requires { IsNewJob P.sizes job.line.session job.line.pump job.line.device.end job.line.device.failed
                 × (PUT.IsAlwaysCallable put.now × FLUSH.IsAlwaysCallable flush.now) }
             ensures { IsDone (λ w p r. PUT.post put.entry.now w p r) (λ w r. FLUSH.post flush.entry.now w r) P.sizes
-                N.sizes.shards job.line.session job.line.pump job.wire result.account.end result.account.mine
-                result.account.seat result.account.pump result.wire }
+                N.sizes.shards job.line.session job.line.pump job.wire result.account.end result.account.sent
+                result.account.mine result.account.seat result.account.pump result.wire }
         { serve_job(rt, shop, job, gate, put, flush) },
     );
     match served {
@@ -85,8 +86,8 @@ fn serve_job<
     requires calls { PUT.IsAlwaysCallable put.now × FLUSH.IsAlwaysCallable flush.now }
     requires fresh { IsNewJob P.sizes job.line.session job.line.pump job.line.device.end job.line.device.failed }
     ensures { IsDone (λ w p r. PUT.post put.now w p r) (λ w r. FLUSH.post flush.now w r) P.sizes N.sizes.shards
-        job.line.session job.line.pump job.wire result.account.end result.account.mine result.account.seat
-        result.account.pump result.wire }
+        job.line.session job.line.pump job.wire result.account.end result.account.sent result.account.mine
+        result.account.seat result.account.pump result.wire }
 {
     let Job { line, room, wire } = job;
     let (wire, account) = serve_beside(rt, shop, line, room, gate, wire, put, flush);

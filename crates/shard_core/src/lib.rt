@@ -13,8 +13,6 @@ mod reading;
 mod setting;
 mod shelf;
 mod showing;
-#[cfg(test)]
-mod tests;
 
 pub use answer::PartAnswer;
 pub use shelf::Shelf;

@@ -6,8 +6,6 @@ mod locks;
 mod parts;
 mod shard;
 mod store;
-#[cfg(test)]
-mod tests;
 
 pub use parts::Parts;
 pub use shard_core::PartAnswer;

@@ -7,5 +7,6 @@ mod parts;
 mod tests;
 
 pub use lines::{
-    at_end, dropped, nothing_posted, nothing_reaped, posted, reaped, ring_full, sent, stage_full,
+    at_end, dropped, nothing_posted, nothing_reaped, one_segment, posted, posted_front, reaped,
+    ring_full, sent, stage_full,
 };

@@ -1,10 +1,10 @@
 // Lines, each in the place of what stood there.
 ghost use Rattle.std.specs.Prelude.{◌≡◌, ◌+◌, ◌*◌, ◌≤◌, length, vec_capacity};
 ghost use Rattle.transcript_model.specs.Lines as event;
-ghost use Rattle.transcript_model.specs.Lines.{line_text};
-ghost use Rattle.transcript_text.specs.Told.{said, line_room};
+ghost use Rattle.transcript_model.specs.Lines.{line_text, segment_text};
+ghost use Rattle.transcript_text.specs.Told.{said, front_text, line_room};
 
-use crate::parts::{put, put_numbers, put_reaped, put_segments, put_stored};
+use crate::parts::{put, put_numbers, put_reaped, put_segment, put_segments, put_stored};
 use flake_base::Seg;
 
 /// A call was posted, behind so many reaps.
@@ -28,6 +28,29 @@ pub fn posted(
     put_segments(text, sent);
     put_stored(text, stored);
     put(text, b"\n");
+}
+
+/// The front of such a line, before its segments.
+pub fn posted_front(text: &mut Vec<u8>, session: u16, call: u32, reaped: u32)
+    requires { line_room ≤ vec_capacity text.old }
+    ensures text { text.new.items ≡ front_text session call reaped }
+    ensures room { vec_capacity text.old ≤ vec_capacity text.new }
+{
+    text.clear();
+    put(text, b"call");
+    put_numbers(text, &[u64::from(session), u64::from(call)]);
+    put_reaped(text, reaped);
+    put(text, b" send");
+}
+
+/// One of its segments.
+pub fn one_segment(text: &mut Vec<u8>, segment: &Seg)
+    requires { line_room ≤ vec_capacity text.old }
+    ensures text { text.new.items ≡ segment_text segment.now }
+    ensures room { vec_capacity text.old ≤ vec_capacity text.new }
+{
+    text.clear();
+    put_segment(text, segment);
 }
 
 /// A call needs so many descriptors, and so many are free.

@@ -54,7 +54,8 @@ pub(crate) fn put_segments(text: &mut Vec<u8>, segments: &[Seg])
     }
 }
 
-fn put_segment(text: &mut Vec<u8>, segment: &Seg)
+/// A blank, the address and the length.
+pub(crate) fn put_segment(text: &mut Vec<u8>, segment: &Seg)
     requires { vec_len text.old + 42 ≤ vec_capacity text.old }
     ensures items { text.new.items ≡ text.old.items ++ segment_text segment.now }
     ensures len { vec_len text.new ≤ vec_len text.old + 42 }

@@ -7,8 +7,6 @@ mod hand;
 mod passes;
 mod room;
 mod slots;
-#[cfg(test)]
-mod tests;
 mod workers;
 
 pub use workers::{in_workers, jobs_in_workers};

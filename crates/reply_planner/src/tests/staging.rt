@@ -1,12 +1,11 @@
-ghost use Rattle.std.specs.Prelude.{◌≡◌, ◌<◌, ◌≤◌};
+ghost use Rattle.std.specs.Prelude.{◌≡◌};
 
 use crate::lists::Lists;
-use crate::{Need, OpenError, Stage};
+use crate::{Need, Stage};
 use flake_base::Memory;
-use pinned_pool::{Class, Held, NoBuffer, PoolBlank, PoolName};
+use pinned_pool::{Held, PoolBlank, PoolName};
 use std::alloc::Global;
 use std::marker::Brand;
-use std::process::Abort;
 use std::test::Fail;
 
 // A need of so many staging buffers.
@@ -86,47 +85,4 @@ fn the_least_buffers_are_lent(rt: HostRuntime) -> Result<(), Fail> {
     assert_eq!(rt; turns.free, 128);
     assert_eq!(rt; turns.held, Held { small: 0, large: 0 });
     Ok(())
-}
-
-// Claims a small buffer, opens a stage, which is refused, and gives the buffer back. The answer is also how many are
-// held then.
-fn open_beside<N: PoolName>(alloc: Global, blank: PoolBlank) -> Result<(NoBuffer, Held), Memory>
-    requires name { (blank.table ≡ N.table) × (blank.sizes ≡ N.sizes) }
-{
-    let (pool, mut seat) = blank.name::<N>();
-    let Ok(hold) = pool.claim(&mut seat, Class::Small) else {
-        return Err(Memory);
-    };
-    let Err(OpenError::NoBuffer(none)) = Stage::open(alloc, &pool, &mut seat) else {
-        return Err(Memory);
-    };
-    pool.unpin(&mut seat, hold);
-    Ok((none, pool.close(seat).held()))
-}
-
-fn opened_beside(alloc: Global, blank: PoolBlank) -> Result<(NoBuffer, Held), Memory> {
-    open_beside::<Brand>(alloc, blank)
-}
-
-// A stage of a pool with one buffer too few.
-fn check_refused(rt: &impl Abort, alloc: Global, small: u32) -> Result<(), Fail>
-    requires { (0 < small) × (small ≤ 128) }
-{
-    let blank = PoolBlank::open(alloc, small, 3, 2)?;
-    let (none, held) = opened_beside(alloc, blank)?;
-    let all = NoBuffer {
-        class: Class::Small,
-        looked: small,
-    };
-    assert_eq!(rt; none, all);
-    assert_eq!(rt; held, Held { small: 0, large: 0 });
-    Ok(())
-}
-
-#[test]
-fn a_stage_of_too_few_is_refused(rt: HostRuntime) -> Result<(), Fail> {
-    check_refused(&rt, rt.alloc(), 1)?;
-    check_refused(&rt, rt.alloc(), 2)?;
-    check_refused(&rt, rt.alloc(), 127)?;
-    check_refused(&rt, rt.alloc(), 128)
 }

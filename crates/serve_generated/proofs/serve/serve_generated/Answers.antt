@@ -16,6 +16,6 @@ serve_inputs-requires-clause-wires g c κs within = omega (arith, c.in-Ok.ensure
 pub returns-in-Ok-serve_inputs-clause-ran : goal.returns-in-Ok-serve_inputs-clause-ran
 returns-in-Ok-serve_inputs-clause-ran g c =
     let served = c.in-Ok-serve_inputs.served in
-    ran_generated _ _ c.args.task.now c.in-Some.sizes c.in-Ok.sources.items served.sources.items served.ends.items (histories served.journal.items) served.pool
+    ran_generated _ _ c.args.task.now c.in-Some.sizes c.in-Ok.sources.items served.sources.items served.ends.items served.sent.items (histories served.journal.items) served.pool
     c.args.wires.items served.wires.items c.requires.task.sessions.1 c.requires.task.requests.1 c.in-Some.ensures.sizes c.in-Ok.ensures.inputs
     c.in-Ok-serve_inputs.ensures.ran c.in-Ok-serve_inputs.ensures.reads (recursion_from_All (λ (end : SessionEnd). end.end ≢ Left) served.ends.items c.in-Ok-serve_inputs.ensures.to_the_end)

@@ -14,6 +14,7 @@ loop-done-init g c =
       all = gives.0;
       left = omega (arith, gives.1, long, c.args.dones.ok.0);
       ends = c.requires.ends.0;
+      sent = c.requires.sent.0;
       lists = c.requires.lists.0;
       lefts = ap (map (λ s. g.S.Source.left s)) c.requires.sources.0;
       faults = ap (map (λ s. g.S.Source.read_faults s)) c.requires.sources.0;
@@ -21,6 +22,7 @@ loop-done-init g c =
       seats = joins_none c.args.main.now;
       end_room = omega (arith, long, c.requires.ends.1);
       list_room = omega (arith, long, c.requires.lists.1);
+      sent_room = omega (arith, long, c.requires.sent.1, ap length c.requires.sent.0, c.args.crop.sent.ok.0);
       source_room = omega (
         arith,
         long,
@@ -53,12 +55,20 @@ loop-done-preserved g c =
           c.push_reserved.ensures.items before.lefts c.into_source.ensures.left;
       faults = both_more c.loop-done.sources.items _ _ given done (λ s. g.S.Source.read_faults s)
           (λ d. d.account.pump.faults) c.push_reserved.ensures.items before.faults c.into_source.ensures.faults;
+      sent = items_more given done (λ d. d.account.sent) _ _ _ c.push_reserved-in-loop-done-2.ensures.items before.sent refl;
       wires = items_more given done (λ d. d.wire) _ _ _ c.push_reserved-in-loop-done.ensures.items before.wires refl;
       seats = subst (λ l. HasJoined l c.args.main.now c.join.new.into)
           (sym (map-append (λ d. d.account.seat) given (done ∷ [])))
           (joins_more _ _ c.loop-done.main done.account.seat c.join.new.into before.seats c.join.ensures.joined);
       end_room = omega (arith, before.end_room, long, c.push.ensures.spare);
       list_room = omega (arith, before.list_room, long, c.push-in-loop-done.ensures.spare);
+      sent_room = omega (
+        arith,
+        before.sent_room,
+        long,
+        c.push_reserved-in-loop-done-2.ensures.len,
+        c.push_reserved-in-loop-done-2.ensures.capacity,
+      );
       source_room = omega (
         arith,
         before.source_room,

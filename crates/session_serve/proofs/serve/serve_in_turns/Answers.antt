@@ -3,6 +3,9 @@ use Rattle.device_model.proofs.Forwarding.{forwards-on}
 use Rattle.session_serve.proofs.Gathering.{gathered-starts}
 use Rattle.session_serve.proofs.Calling.{work-starts, work-told, work-bounded, work-longer}
 use Rattle.session_serve.proofs.Serving.{forwards-nothing, forwards-as, served-so}
+use Rattle.drive_model.specs.Matches.{texts_in}
+use Rattle.session_serve.proofs.Whole.{whole-start, whole-more, whole-closed}
+use Rattle.session_serve.specs.Whole.{SentWhole}
 use Rattle.session_serve.specs.Working.{IsWorking}
 use Rattle.session_serve.proofs.serve.serve_in_turns.Goals as goal
 
@@ -23,6 +26,7 @@ turns-init g c =
       );
       forwards = forwards-as _ _ _ _ _ _ _ _ _ _ _ _ refl (sym (ends.failed ∙ c.requires.unfailed)) refl refl
           (forwards-nothing _ _ _ [] c.both_ends.new.session.posted c.args.wire (ap (λ s. s.posted) ends.session ∙ fresh.none_posted));
+      whole = whole-start _ _ _ _ _ c.args.wire (ends.failed ∙ c.requires.unfailed) (ap (λ s. s.posted) ends.session ∙ fresh.none_posted) refl;
     }
 
 pub turn-after-requires-clause-ready : goal.turn-after-requires-clause-ready
@@ -34,7 +38,7 @@ turn-after-requires-clause-ready g c κs within =
 pub turns-smaller : goal.turns-smaller
 turns-smaller g c =
     let w = c.turns.invariant.working in
-    let call = rw c.in_default.is at c.turn-after.ensures.call in
+    let call = rw c.in-Ok.is at c.turn-after.ensures.call in
     let more = work-longer _ _ c.args.line.session _ _ w.0 w.1 c.turns.line.session c.turn-after.new.self.session c.turns.line.pump c.turn-after.new.self.pump w.2
     (call c.args.line.session _ _ w.0 w.1 w.2) in
     omega (arith, more.0, more.1)
@@ -43,14 +47,16 @@ pub turns-preserved : goal.turns-preserved
 turns-preserved g c =
     let before = c.turns.invariant in
     let w = before.working in
-    let call = rw c.in_default.is at c.turn-after.ensures.call in
-    let unstopped = rw c.in_default.is at c.turn-after.ensures.unstopped in
+    let call = rw c.in-Ok.is at c.turn-after.ensures.call in
+    let unstopped = rw c.in-Ok.is at c.turn-after.ensures.unstopped in
+    let sent = rw c.in-Ok.is at c.turn-after.ensures.sent in
     let more = call c.args.line.session _ _ w.0 w.1 w.2 in
     record {
       gathered = c.turn-after.ensures.gathered;
       unstopped = unstopped ∙ before.unstopped;
       working = (w.0 ++ more.command ∷ [], w.1 ++ more.outcomes ∷ [], more.working);
       forwards = forwards-on _ _ _ _ _ _ _ _ _ _ _ before.forwards c.turn-after.ensures.forwards;
+      whole = whole-more _ _ _ _ _ _ _ _ _ c.args.wire _ _ before.whole sent c.counted-sent.ensures;
     }
 
 pub returns-clause-served : goal.returns-clause-served
@@ -59,10 +65,12 @@ returns-clause-served g c =
     let w = before.working in
     let first = c.args.line.session in
     let end = rw c.in-Err.is at c.turn-after.ensures.end in
+    let none = rw c.in-Err.is at c.turn-after.ensures.none_sent in
     let stopped = end first _ _ w.0 w.1 w.2 in
-    served-so _ _ _ _ first c.turn-after.new.self.session c.args.line.pump c.turn-after.new.self.pump c.in-Err.end c.close.result.1.end c.turn-after.new.self.device.failed
+    served-so _ _ _ _ first c.turn-after.new.self.session c.args.line.pump c.turn-after.new.self.pump c.in-Err.end c.close.result.1.end _ c.turn-after.new.self.device.failed
     c.close.result.1.seat c.close.result.1.mine _ c.args.wire c.turn-after.result.0 c.close.result.0 c.requires.fresh stopped c.close.ensures.left c.close.ensures.end
     (ap (λ p. p.left) c.close.ensures.pump) (forwards-on _ _ _ _ _ _ _ _ _ _ _ before.forwards c.turn-after.ensures.forwards) c.close.ensures.flushed
+    (whole-closed _ _ _ _ _ _ _ _ _ c.args.wire _ _ _ before.whole none c.close.ensures.flushed c.close.ensures.sent)
 
 pub returns-clause-reads : goal.returns-clause-reads
 returns-clause-reads g c =

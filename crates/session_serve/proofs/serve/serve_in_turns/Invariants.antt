@@ -3,6 +3,8 @@ use Rattle.flake_model.specs.Command.{Command}
 use Rattle.flake_model.specs.Resp.{judged_bytes}
 use Rattle.call_model.specs.Outcomes.{Outcomes}
 use Rattle.device_model.specs.Devices.{Forwards}
+use Rattle.drive_model.specs.Matches.{texts_in}
+use Rattle.session_serve.specs.Whole.{SentWhole}
 use Rattle.session_serve.specs.Working.{IsGathered, IsWorking}
 use Rattle.session_serve.proofs.serve.serve_in_turns.Given as goal
 
@@ -13,6 +15,7 @@ invariant-turns g l = record {
   working : (given : List Command) × (calls : List Outcomes)
       × IsWorking g.P.PoolName.sizes g.N.BookName.sizes.shards l.fn.line.session l.fn.line.pump.left l.fn.line.pump.faults given calls l.line.session l.line.pump;
   forwards : Forwards (λ w p r. goal.PUT-post g l.put w p r) (λ w r. goal.FLUSH-post g l.flush w r) false l.line.device.failed [] l.line.session.posted l.fn.wire l.wire;
+  whole : SentWhole (λ w p r. goal.PUT-post g l.put w p r) (λ w r. goal.FLUSH-post g l.flush w r) l.line.device.failed (texts_in l.line.session.posted) l.sent l.fn.wire l.wire;
 }
 
 abbrev pub decreases-turns : goal.decreases-turns

@@ -1,9 +1,4 @@
-use Rattle.std.proofs.Common.{◌≡◌, ◌++◌, ◌∷◌, [], List, sym, ◌∙◌, ap, refl, subst, arith, append-nil, length}
-use Rattle.schedule_text.specs.declared.line.Line.{Line}
-use Rattle.schedule_text.specs.Text.{session_of}
-use Rattle.transcript_model.specs.Lines.{Event, line_of}
-use Rattle.drive_script.specs.Happened.{event_of}
-use Rattle.drive_script.specs.Lanes.{IsLane, sends_by}
+use Rattle.std.proofs.Common.{[], sym, ◌∙◌, arith, append-nil}
 use Rattle.drive_script.specs.Shown.{session_shown, device_shown}
 use Rattle.drive_script.proofs.Acted.{call_goes, reap_goes, stays_asked, lane_same}
 use Rattle.drive_script.proofs.ByPuts.{puts_are_sending}

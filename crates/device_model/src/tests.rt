@@ -1,3 +1,0 @@
-mod making;
-mod putting;
-mod threads;

@@ -1,0 +1,72 @@
+-- Driven sessions before the first line.
+use Rattle.std.proofs.Common.{◌≡◌, ℕ, Bool, true, false, List, [], ◌∷◌, length, All, map, slice_get, Option, Some, None, zero, suc, refl, ap, sym, ◌∙◌, subst}
+use Rattle.std.specs.Prelude.{is_some}
+use Rattle.std.proofs.lemmas.List.Elements.{All-head, All-tail}
+use Rattle.flake_base.specs.declared.session.End.{End}
+use Rattle.flake_base.specs.declared.session.End.TheVariants.{Left}
+use Rattle.flake_model.specs.Command.{Command}
+use Rattle.flake_model.specs.Deed.{Deed}
+use Rattle.pin_core.specs.declared.sizes.Sizes.{Sizes}
+use Rattle.reply_planner.specs.Parcels.{Sent}
+use Rattle.transcript_model.specs.Sessions.{Sending, WireGrew}
+use Rattle.transcript_model.specs.Terms.{Terms}
+use Rattle.drive_model.specs.Matches.{texts_in}
+use Rattle.drive_model.specs.Wires.{IsSending}
+use Rattle.drive_model.proofs.Finals.{kept_at_first}
+use Rattle.drive_model.proofs.Wires.{wire_fresh}
+use Rattle.drive_script.specs.Asked.{IsAsked}
+use Rattle.drive_script.specs.Driving.{Driving, fixed_at, IsNew, IsUnderWay, AreFresh}
+use Rattle.drive_script.specs.Lanes.{IsEndSaid}
+use Rattle.drive_script.specs.Left.{terms_at}
+use Rattle.drive_script.specs.Shown.{session_shown}
+
+module _ {W : Type 0} (sends : Sending W) (is : IsSending sends) (z : Sizes) where
+  new_goes : (d : Driving W) → IsNew z d → IsUnderWay sends z d [] d
+  new_goes d new =
+      let terms : Terms = terms_at (fixed_at z d.session) [] (record { end = Left; taken = 0; replies = 0; failed = false }) 0 [] in
+      record {
+        ring = new.ring;
+        small = new.small;
+        start = new.wire;
+        start_is = new.wire_is;
+        wire = new.wire;
+        wire_is = new.wire_is;
+        given = [];
+        asked = subst (λ (k : Option Command). IsAsked d.pump.left d.pump.faults [] (length d.session.posted) k d.end d.pump) (sym new.none_kept)
+            (subst (λ (e : Option End). IsAsked d.pump.left d.pump.faults [] (length d.session.posted) None e d.pump) (sym new.none_ended)
+            (record { pump_is = new.unread; kept_back = sym (ap (λ (list : List Sent). length list) new.none_posted) }));
+        lane = record {
+          whole = 0;
+          driven = record {
+            terms = terms;
+            fixed_is = refl;
+            given_is = refl;
+            whole_is = refl;
+            kept = kept_at_first terms (session_shown z d.session) d.device (record {
+              number = refl;
+              sizes = refl;
+              ring = refl;
+              threshold = refl;
+              stage = refl;
+              posted = new.none_posted;
+              reaped = new.none_reaped;
+              told = new.told;
+              deeds = ap (λ (list : List (ℕ × Deed)). map (λ (one : ℕ × Deed). one.1) list) new.none_told;
+              completed = new.none_completed;
+              device_told = new.device_told;
+              failed = new.unfailed;
+              no_deeds = refl;
+              none_sent = refl;
+            });
+            ended_is = sym (ap is_some new.none_ended);
+            end_is = subst (λ (e : Option End). IsEndSaid e Left) (sym new.none_ended) tt;
+          };
+          grew = subst (λ (b : Bool). WireGrew sends b 0 (texts_in d.session.posted) new.wire new.wire) (sym new.unfailed) (wire_fresh sends is (texts_in d.session.posted) new.wire);
+        };
+      }
+
+  pub new_are_fresh : {A : Type 0} (xs : List A) (view : A → Driving W) → All (λ x. IsNew z (view x)) xs → AreFresh sends z (map view xs)
+  new_are_fresh [] view all session first at = absurd (cc)
+  new_are_fresh (x ∷ xs) view all zero first at =
+      let same : view x ≡ first = cc in subst (λ (d : Driving W). IsUnderWay sends z d [] d) same (new_goes (view x) (All-head (λ y. IsNew z (view y)) x xs all))
+  new_are_fresh (x ∷ xs) view all (suc session) first at = new_are_fresh xs view (All-tail (λ y. IsNew z (view y)) x xs all) session first at

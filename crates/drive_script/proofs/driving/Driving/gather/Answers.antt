@@ -1,0 +1,8 @@
+use Rattle.std.proofs.Common.{sym, ◌∙◌, refl}
+use Rattle.drive_script.proofs.OneMore.{gather_goes_on}
+use Rattle.drive_script.proofs.driving.Driving.gather.Goals as goal
+
+pub returns-clause-right : goal.returns-clause-right
+returns-clause-right g c = λ first events was.
+    gather_goes_on _ _ first _ _ events _ c.in-Some.wire c.gather-wire.result.0 (sym c.take.ensures.value ∙ c.in-Some.is) c.gather-wire.ensures.ring c.gather-wire.ensures.pass c.gather-wire.ensures.posted refl refl refl refl
+    (λ start given lane. c.gather-wire.ensures.right _ start given _ events lane) was

@@ -1,0 +1,117 @@
+// A whole schedule.
+ghost use Rattle.std.specs.Prelude.{◌≡◌, ◌≤◌, ◌<◌, [], All, List, IfOk, IfErr, OnErr, length, map, vec_capacity};
+ghost use Rattle.std.specs.List.{AllZip};
+ghost use Rattle.schedule_text.specs.Text.{session_of};
+ghost use Rattle.transcript_model.specs.Lines.{Event};
+ghost use Rattle.drive_script.specs.Driven.{leaving_of, DroveAll};
+ghost use Rattle.drive_script.specs.Driving.{Driving as Shown, driving_of, IsNew, IsUnderWay};
+ghost use Rattle.drive_script.specs.Lanes.{sends_by};
+ghost use Rattle.drive_script.specs.Left.{IsGoing, HasLeft};
+
+use crate::driving::Driving;
+use crate::leaving::Account;
+use crate::lines::drive_lines;
+use crate::saying::LineRoom;
+use command_exec::Shop;
+use flake_base::{Host, Source};
+use order_book::BookName;
+use pinned_pool::PoolName;
+use schedule_text::Line;
+use std::alloc::Global;
+use std::sync::Wait;
+
+/// What a schedule leaves: of each session, in order; and whether a say failed.
+#[derive(Drop)]
+pub struct Driven<N: BookName, P: PoolName, S: Source, W> {
+    pub accounts: Vec<Account<N, P, S, W>>,
+    pub failed: bool,
+}
+
+/// Does each line of a schedule and says what happened, until a say fails; then gathers and gives back what is left,
+/// session by session, without lines. Where memory is wanting at the start the sessions come back as they were, and
+/// nothing was said.
+pub fn drive<
+    R: Wait,
+    N: BookName,
+    P: PoolName + Send,
+    S: Source + Drop,
+    W: Drop,
+    H: Host,
+    PUT: Fn(W, &[u8]) -> (W, bool),
+    FLUSH: Fn(W) -> (W, bool),
+>(
+    rt: &R,
+    alloc: Global,
+    shop: &Shop<'_, N, P>,
+    schedule: &[Line],
+    sessions: Vec<Driving<N, P, S, W>>,
+    host: &mut H,
+    put: &PUT,
+    flush: &FLUSH,
+) -> Result<Driven<N, P, S, W>, Vec<Driving<N, P, S, W>>>
+    requires calls { PUT.IsAlwaysCallable put.now × FLUSH.IsAlwaysCallable flush.now }
+    requires there { All (λ line. session_of line < length sessions.items) schedule.now }
+    requires fresh { All (λ d. IsNew P.sizes (driving_of d.lane.session d.lane.device.failed d.lane.device.end
+        d.asking.kept d.asking.end d.asking.pump d.wire)) sessions.items }
+    ensures driven { IfOk result (λ driven. DroveAll (sends_by (λ w p r. PUT.post put.now w p r)
+        (λ w r. FLUSH.post flush.now w r)) P.sizes (map (λ d. driving_of d.lane.session d.lane.device.failed
+        d.lane.device.end d.asking.kept d.asking.end d.asking.pump d.wire) sessions.items) schedule.now
+        (map (λ a. leaving_of a.end a.mine a.pump a.wire) driven.accounts.items) driven.failed
+        (H.host_told host.old) (H.host_told host.new)) }
+    ensures back { IfErr result (λ back. back ≡ sessions) }
+    ensures silent { OnErr result (host.new ≡ host.old) }
+{
+    let mut sessions = sessions;
+    let Ok(mut room) = LineRoom::new(alloc) else {
+        return Err(sessions);
+    };
+    let Ok(accounts) = Vec::with_capacity(alloc, sessions.len()) else {
+        return Err(sessions);
+    };
+    let failed = drive_lines(
+        rt,
+        shop,
+        schedule,
+        &mut sessions,
+        &mut room,
+        host,
+        put,
+        flush,
+    );
+    let accounts = leave_all(shop, sessions, accounts, put, flush);
+    Ok(Driven { accounts, failed })
+}
+
+// One after another.
+fn leave_all<
+    N: BookName,
+    P: PoolName + Send,
+    S: Source + Drop,
+    W: Drop,
+    PUT: Fn(W, &[u8]) -> (W, bool),
+    FLUSH: Fn(W) -> (W, bool),
+>(
+    shop: &Shop<'_, N, P>,
+    sessions: Vec<Driving<N, P, S, W>>,
+    accounts: Vec<Account<N, P, S, W>>,
+    put: &PUT,
+    flush: &FLUSH,
+) -> Vec<Account<N, P, S, W>>
+    requires calls { PUT.IsAlwaysCallable put.now × FLUSH.IsAlwaysCallable flush.now }
+    requires going { All (λ d. IsGoing (sends_by (λ w p r. PUT.post put.now w p r) (λ w r. FLUSH.post flush.now w r))
+        P.sizes (driving_of d.lane.session d.lane.device.failed d.lane.device.end d.asking.kept d.asking.end
+        d.asking.pump d.wire)) sessions.items }
+    requires room { (accounts.items ≡ []) × (length sessions.items ≤ vec_capacity accounts) }
+    ensures { AllZip (λ d a. (first : Shown W) (events : List Event)
+        → IsUnderWay (sends_by (λ w p r. PUT.post put.now w p r) (λ w r. FLUSH.post flush.now w r)) P.sizes first
+        events (driving_of d.lane.session d.lane.device.failed d.lane.device.end d.asking.kept d.asking.end
+        d.asking.pump d.wire)
+        → HasLeft (sends_by (λ w p r. PUT.post put.now w p r) (λ w r. FLUSH.post flush.now w r)) P.sizes first
+        events a.end a.mine a.pump a.wire) sessions.items result.items }
+{
+    let mut accounts = accounts;
+    for session in sessions {
+        accounts.push_reserved(session.leave(shop, put, flush));
+    }
+    accounts
+}

@@ -1,0 +1,141 @@
+// A session that is driven, with its input and its wire.
+ghost use Rattle.std.specs.Prelude.{◌≡◌, ◌++◌, ◌∷◌, [], List, IsSome};
+ghost use Rattle.schedule_text.specs.Text.{session_of};
+ghost use Rattle.schedule_text.specs.declared.line.Line.TheVariants as asked;
+ghost use Rattle.tx_ring.specs.Shown.{device_ring};
+ghost use Rattle.transcript_model.specs.Lines.{Event, line_of};
+ghost use Rattle.drive_script.specs.Driving.{Driving as Shown, driving_of, IsAble, IsUnderWay};
+ghost use Rattle.drive_script.specs.Happened.{event_of};
+ghost use Rattle.drive_script.specs.Lanes.{sends_by};
+ghost use Rattle.drive_script.specs.Left.{IsGoing, GathersAll};
+
+use crate::asking::Asking;
+use crate::happened::Happened;
+use crate::lane::Lane;
+use command_exec::Shop;
+use flake_base::{Segs, Source};
+use order_book::BookName;
+use pinned_pool::{Pool, PoolName};
+use reply_planner::Parcel;
+use schedule_text::Line;
+use std::sync::Wait;
+use tx_descriptor::Framed;
+
+/// A session with all that its lines need. Its wire is there between any two lines.
+#[derive(Drop)]
+pub struct Driving<N: BookName, P: PoolName + Send, S: Source, W>
+where
+    Parcel<P>: Framed,
+{
+    pub lane: Lane<N, P>,
+    pub asking: Asking<S>,
+    pub wire: Option<W>,
+}
+
+impl<N: BookName, P: PoolName + Send, S: Source, W: Drop> Driving<N, P, S, W> {
+    /// Does what a line of a schedule asks of it. Where a call is posted, `sent` becomes its segments, and `stored` the
+    /// fragments that were stored.
+    pub fn act<R: Wait, PUT: Fn(W, &[u8]) -> (W, bool), FLUSH: Fn(W) -> (W, bool)>(
+        &mut self,
+        rt: &R,
+        shop: &Shop<'_, N, P>,
+        line: Line,
+        sent: &mut Segs,
+        stored: &mut Segs,
+        put: &PUT,
+        flush: &FLUSH,
+    ) -> Happened
+        requires calls { PUT.IsAlwaysCallable put.now × FLUSH.IsAlwaysCallable flush.now }
+        requires able { IsAble P.sizes (driving_of self.old.lane.session self.old.lane.device.failed
+            self.old.lane.device.end self.old.asking.kept self.old.asking.end self.old.asking.pump self.old.wire) }
+        ensures answers { line_of (record {
+          session = session_of line;
+          event = event_of result sent.new.items stored.new.items;
+        }) ≡ line }
+        ensures right { (first : Shown W) (events : List Event)
+            → IsUnderWay (sends_by (λ w p r. PUT.post put.now w p r) (λ w r. FLUSH.post flush.now w r)) P.sizes first
+            events (driving_of self.old.lane.session self.old.lane.device.failed self.old.lane.device.end
+            self.old.asking.kept self.old.asking.end self.old.asking.pump self.old.wire)
+            → IsUnderWay (sends_by (λ w p r. PUT.post put.now w p r) (λ w r. FLUSH.post flush.now w r)) P.sizes first
+            (events ++ event_of result sent.new.items stored.new.items ∷ []) (driving_of self.new.lane.session
+            self.new.lane.device.failed self.new.lane.device.end self.new.asking.kept self.new.asking.end
+            self.new.asking.pump self.new.wire) }
+    {
+        let Some(wire) = self.wire.take() else {
+            unreachable!()
+        };
+        let (wire, happened) = self.lane.act(
+            rt,
+            shop,
+            line,
+            &mut self.asking,
+            sent,
+            stored,
+            wire,
+            put,
+            flush,
+        );
+        self.wire = Some(wire);
+        happened
+    }
+
+    /// Gathers the next reply, without a line.
+    fn gather<PUT: Fn(W, &[u8]) -> (W, bool), FLUSH: Fn(W) -> (W, bool)>(
+        &mut self,
+        pool: &Pool<P>,
+        put: &PUT,
+        flush: &FLUSH,
+    ) -> Happened
+        requires calls { PUT.IsAlwaysCallable put.now × FLUSH.IsAlwaysCallable flush.now }
+        requires ring { device_ring self.old.lane.device.end ≡ self.old.lane.session.ring }
+        requires wire { IsSome self.old.wire }
+        ensures ring { device_ring self.new.lane.device.end ≡ self.new.lane.session.ring }
+        ensures wire { IsSome self.new.wire }
+        ensures posted { self.new.lane.session.posted ≡ self.old.lane.session.posted }
+        ensures answers { line_of (record { session = 0; event = event_of result [] [] }) ≡ asked.Gather 0 }
+        ensures right { (first : Shown W) (events : List Event)
+            → IsUnderWay (sends_by (λ w p r. PUT.post put.now w p r) (λ w r. FLUSH.post flush.now w r)) P.sizes first
+            events (driving_of self.old.lane.session self.old.lane.device.failed self.old.lane.device.end
+            self.old.asking.kept self.old.asking.end self.old.asking.pump self.old.wire)
+            → IsUnderWay (sends_by (λ w p r. PUT.post put.now w p r) (λ w r. FLUSH.post flush.now w r)) P.sizes first
+            (events ++ event_of result [] [] ∷ []) (driving_of self.new.lane.session self.new.lane.device.failed
+            self.new.lane.device.end self.new.asking.kept self.new.asking.end self.new.asking.pump self.new.wire) }
+    {
+        let Some(wire) = self.wire.take() else {
+            unreachable!()
+        };
+        let (wire, happened) = self.lane.gather(pool, wire, put, flush);
+        self.wire = Some(wire);
+        happened
+    }
+
+    /// Gathers what is left, without lines, and flushes the wire.
+    pub fn gather_all<PUT: Fn(W, &[u8]) -> (W, bool), FLUSH: Fn(W) -> (W, bool)>(
+        &mut self,
+        pool: &Pool<P>,
+        put: &PUT,
+        flush: &FLUSH,
+    )
+        requires calls { PUT.IsAlwaysCallable put.now × FLUSH.IsAlwaysCallable flush.now }
+        requires going { IsGoing (sends_by (λ w p r. PUT.post put.now w p r) (λ w r. FLUSH.post flush.now w r)) P.sizes
+            (driving_of self.old.lane.session self.old.lane.device.failed self.old.lane.device.end
+            self.old.asking.kept self.old.asking.end self.old.asking.pump self.old.wire) }
+        ensures ring { device_ring self.new.lane.device.end ≡ self.new.lane.session.ring }
+        ensures wire { IsSome self.new.wire }
+        ensures right { (first : Shown W) (events : List Event)
+            → IsUnderWay (sends_by (λ w p r. PUT.post put.now w p r) (λ w r. FLUSH.post flush.now w r)) P.sizes first
+            events (driving_of self.old.lane.session self.old.lane.device.failed self.old.lane.device.end
+            self.old.asking.kept self.old.asking.end self.old.asking.pump self.old.wire)
+            → GathersAll (sends_by (λ w p r. PUT.post put.now w p r) (λ w r. FLUSH.post flush.now w r)) P.sizes first
+            events (driving_of self.new.lane.session self.new.lane.device.failed
+            self.new.lane.device.end self.new.asking.kept self.new.asking.end self.new.asking.pump self.new.wire) }
+    {
+        let calls = self.lane.session.calls();
+        for i in 0..u64::from(calls) + 1 {
+            if let Happened::NothingPosted = self.gather(pool, put, flush) {
+                return;
+            }
+        }
+        unreachable!()
+    }
+}

@@ -1,0 +1,108 @@
+// The end of a driven session.
+ghost use Rattle.std.specs.Prelude.{◌≡◌, List, length, unwrap_or};
+ghost use Rattle.flake_base.specs.declared.session.End.TheVariants as ends;
+ghost use Rattle.command_pump.specs.Pump.{ended_at};
+ghost use Rattle.tx_ring.specs.Shown.{device_ring, completed};
+ghost use Rattle.transcript_model.specs.Lines.{Event};
+ghost use Rattle.drive_script.specs.Driving.{Driving as Shown, driving_of, IsUnderWay};
+ghost use Rattle.drive_script.specs.Lanes.{sends_by};
+ghost use Rattle.drive_script.specs.Left.{IsGoing, HasLeft};
+
+use crate::asking::Asking;
+use crate::driving::Driving;
+use crate::lane::Lane;
+use command_exec::Shop;
+use command_pump::Pump;
+use flake_base::{End, SessionEnd, Source};
+use order_book::{BookName, SessionSeat};
+use pinned_pool::{PoolName, PoolSeat};
+use session_pass::Finish;
+
+/// What a lane leaves.
+#[derive(Drop)]
+pub(crate) struct Remains<N: BookName, P: PoolName> {
+    pub end: SessionEnd,
+    pub seat: PoolSeat<P>,
+    pub mine: SessionSeat<N>,
+}
+
+/// What a driven session leaves.
+#[derive(Drop)]
+pub struct Account<N: BookName, P: PoolName, S: Source, W> {
+    pub end: SessionEnd,
+    pub seat: PoolSeat<P>,
+    pub mine: SessionSeat<N>,
+    /// With its source, and what that has left.
+    pub pump: Pump<S>,
+    pub wire: W,
+}
+
+impl<N: BookName, P: PoolName + Send> Lane<N, P> {
+    // Gives all replies back, and closes ring and pass.
+    fn close(self, shop: &Shop<'_, N, P>, end: End, taken: u64) -> Remains<N, P>
+        requires ring { device_ring self.device.end ≡ self.session.ring }
+        requires all { completed self.device.end ≡ self.session.posted }
+        requires told { self.session.told ≡ length self.session.posted }
+        ensures end { result.end ≡ ended_at end taken (length self.session.posted) self.device.failed }
+        ensures list { result.mine ≡ self.session.pass.list }
+    {
+        let Lane {
+            session,
+            mut device,
+        } = self;
+        let replies = session.calls();
+        match session.finish(shop) {
+            Finish::Done {
+                seat,
+                mine,
+                mut closed,
+            } => {
+                device.settle(&mut closed);
+                let end = SessionEnd {
+                    end,
+                    taken,
+                    replies,
+                    failed: device.failed(),
+                };
+                Remains { end, seat, mine }
+            }
+            Finish::NotYet(_) => unreachable!(),
+        }
+    }
+}
+
+impl<N: BookName, P: PoolName + Send, S: Source, W: Drop> Driving<N, P, S, W> {
+    /// Gathers and gives back what is left, without lines, and closes ring and pass. Where no end was said, the session
+    /// is left.
+    pub fn leave<PUT: Fn(W, &[u8]) -> (W, bool), FLUSH: Fn(W) -> (W, bool)>(
+        self,
+        shop: &Shop<'_, N, P>,
+        put: &PUT,
+        flush: &FLUSH,
+    ) -> Account<N, P, S, W>
+        requires calls { PUT.IsAlwaysCallable put.now × FLUSH.IsAlwaysCallable flush.now }
+        requires going { IsGoing (sends_by (λ w p r. PUT.post put.now w p r) (λ w r. FLUSH.post flush.now w r)) P.sizes
+            (driving_of self.lane.session self.lane.device.failed self.lane.device.end self.asking.kept self.asking.end
+            self.asking.pump self.wire) }
+        ensures left { (first : Shown W) (events : List Event)
+            → IsUnderWay (sends_by (λ w p r. PUT.post put.now w p r) (λ w r. FLUSH.post flush.now w r)) P.sizes first
+            events (driving_of self.lane.session self.lane.device.failed self.lane.device.end self.asking.kept
+            self.asking.end self.asking.pump self.wire)
+            → HasLeft (sends_by (λ w p r. PUT.post put.now w p r) (λ w r. FLUSH.post flush.now w r)) P.sizes first
+            events result.end result.mine result.pump result.wire }
+    {
+        let mut driving = self;
+        driving.gather_all(shop.pool, put, flush);
+        let Driving { lane, asking, wire } = driving;
+        let Asking { pump, kept: _, end } = asking;
+        let Some(wire) = wire else { unreachable!() };
+        let Remains { end, seat, mine } = lane.close(shop, end.unwrap_or(End::Left), pump.taken());
+        Account {
+            end,
+            seat,
+            mine,
+            pump,
+            wire,
+        }
+    }
+}

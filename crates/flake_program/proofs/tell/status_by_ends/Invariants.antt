@@ -1,7 +1,0 @@
-use Rattle.std.proofs.Common.{◌≡◌, take}
-use Rattle.flake_program.specs.Causes.{highest_by}
-use Rattle.flake_program.specs.Outcome.{ways}
-use Rattle.flake_program.proofs.tell.status_by_ends.Given as goal
-
-abbrev pub invariant-loop-end : goal.invariant-loop-end
-invariant-loop-end l = l.status ≡ highest_by (ways (take l.end-index l.ends))

@@ -1,0 +1,106 @@
+-- What is known of a run that served its files, and the clauses that this gives.
+use Rattle.std.proofs.Common.{◌≡◌, ◌≢◌, ◌⊎◌, ◌≤◌, ◌<◌, ℕ, Bool, false, true, List, [], ◌∷◌, Option, Some, All, length, map, refl, sym, ap, ◌∙◌, subst}
+use Rattle.std.specs.List.{range_with_len, list_any}
+use Rattle.std.proofs.lemmas.List.{length-map}
+use Rattle.std.proofs.lemmas.List.FromFn.{length-range_with_len}
+use Rattle.flake_base.specs.Causes.{Rose}
+use Rattle.flake_base.specs.Growth.{Grew}
+use Rattle.flake_base.specs.Told.{HostTold, WireTold}
+use Rattle.flake_base.specs.declared.journal.Entry.{Entry}
+use Rattle.flake_base.specs.declared.session.End.TheVariants.{Left}
+use Rattle.flake_base.specs.declared.session.SessionEnd.{SessionEnd}
+use Rattle.flake_model.specs.Session.{Session}
+use Rattle.pin_core.specs.declared.class.Held.{Held}
+use Rattle.pinned_pool.specs.Ends.{End as PoolEnd}
+use Rattle.serve_inputs.specs.Opened.{pool_sizes}
+use Rattle.serve_inputs.specs.Ran.{AreReads}
+use Rattle.flake_run.specs.declared.outcome.Detail.TheVariants.{Nothing}
+use Rattle.flake_run.specs.Opening.{AreOpened}
+use Rattle.flake_run.specs.Task.{Job, Task}
+use Rattle.flake_run.specs.Outside.{outside, LeavesFiles}
+use Rattle.flake_run.specs.Outcome.{Done, SourceTold, ways, files_of, lefts_of, read_faults_of}
+use Rattle.flake_run.specs.Serving.{IsRun}
+use Rattle.flake_run.specs.Served.{Served}
+use Rattle.flake_run.specs.Untouched.{Untouched}
+use Rattle.flake_run.specs.Causes.{Causes, AreCountsOf, highest_by}
+use Rattle.flake_run.specs.Complete.{Complete}
+use Rattle.flake_run.specs.Said.{Said, Says, served_text}
+
+-- the statuses of what was served
+abbrev pub IsServedStatus : ℕ → Type 0
+IsServedStatus status = (status ≡ 0) ⊎ (status ≡ 3) ⊎ (status ≡ 4) ⊎ (status ≡ 5) ⊎ (status ≡ 6)
+
+-- the words were accepted
+pub record IsTask {W : Type 0} (task : Task) (job : Job) (wires : List W) : Type 0 where
+  pub task_is : task ≡ Some job
+  pub some_names : 0 < length job.names
+  pub some_wires : length job.names ≤ length wires
+
+-- the files were opened and their sessions served, and that was said
+pub record Ran {W : Type 0} (tells : W → WireTold) (job : Job) (host now : HostTold) (wires after : List W) (done : Done) : Type 0 where
+  pub detail_is : done.detail ≡ Nothing
+  -- the files were opened, with these inputs
+  pub between : HostTold
+  pub inputs : List (Option (List ℕ))
+  pub zeros : List ℕ
+  pub opened : AreOpened job.names host between inputs zeros
+  pub files : LeavesFiles between now
+  pub files_are : files_of done.sources ≡ range_with_len 0 (length job.names)
+  pub pool : PoolEnd
+  pub pool_is : done.pool ≡ Some pool
+  pub held : (done.held.small ≡ pool.small) × (done.held.large ≡ pool.large)
+  pub run : IsRun (pool_sizes (length job.names) job.sizes) inputs (lefts_of done.sources) done.ends done.journal pool wires after tells
+  pub shards : length done.journal ≡ job.sizes.shards
+  pub reads : AreCountsOf (ways done.ends) (read_faults_of done.sources)
+  pub to_the_end : All (λ way. way ≢ Left) (ways done.ends)
+  pub said : done.status ≢ 6 → Says (served_text job.journal done.journal done.ends done.held) host now
+  pub statuses : IsServedStatus done.status
+  pub by_end : done.status ≢ 5 → done.status ≢ 6 → (done.status ≡ highest_by (ways done.ends))
+      × (list_any (λ (end : SessionEnd). end.failed) done.ends ≡ false) × (now.say_faults ≡ host.say_faults)
+  pub failed : done.status ≡ 5 → (highest_by (ways done.ends) ≢ 6)
+      × ((list_any (λ (end : SessionEnd). end.failed) done.ends ≡ true) ⊎ Rose host.say_faults now.say_faults)
+
+-- there are as many sources, and as many sessions, as files
+pub sources_are : (sources : List SourceTold) (n : ℕ) → files_of sources ≡ range_with_len 0 n → length sources ≡ n
+sources_are sources n is = sym (length-map sources (λ (source : SourceTold). source.file)) ∙ ap length is ∙ length-range_with_len 0 n
+
+pub sessions_are : {W : Type 0} (tells : W → WireTold) (job : Job) (host now : HostTold) (wires after : List W) (done : Done) → Ran tells job host now wires after done
+    → length done.ends ≡ length job.names
+sessions_are tells job host now wires after done r =
+    let sessions = r.run.run.sessions in
+    let ends : length sessions ≡ length done.ends = sym (length-map sessions (λ (session : Session). session.end)) ∙ ap length r.run.run.ends_are in
+    let inputs : length sessions ≡ length r.inputs = sym (length-map sessions (λ (session : Session). session.input)) ∙ ap length r.run.run.inputs_are in
+    sym ends ∙ inputs ∙ r.opened.as_many
+
+-- all clauses of a run
+pub record Clauses {W : Type 0} (tells : W → WireTold) (task : Task) (host now : HostTold) (wires after : List W) (done : Done) : Type 0 where
+  pub served : done.ends ≢ [] → Served task (outside host wires tells) (outside now after tells) done
+  pub untouched : Untouched task (outside host wires tells) (outside now after tells) done
+  pub causes : Causes task (outside host wires tells) (outside now after tells) done
+  pub complete : Complete task (outside host wires tells) (outside now after tells) done
+  pub said : Said task (outside host wires tells) (outside now after tells) done
+
+-- said behind a call that said nothing
+pub says_since : (text : List ℕ) (old mid new : HostTold) → mid.said ≡ old.said → mid.say_faults ≡ old.say_faults → Says text mid new → Says text old new
+says_since text old mid new said count says = record {
+  front = subst (λ o. Grew true text o new.said) said says.front;
+  whole = λ quiet. subst (λ o. Grew false text o new.said) said (says.whole (λ rose. quiet (subst (λ n. Rose n new.say_faults) count rose)));
+}
+
+-- sources whose reads had not failed before
+pub counts_from : (ends : List SessionEnd) (names : List (List ℕ)) (nows : List ℕ) → AreReads ends (map (λ (name : List ℕ). 0) names) nows → AreCountsOf (ways ends) nows
+counts_from [] [] [] reads = refl
+counts_from [] [] (now ∷ nows) reads = absurd reads
+counts_from [] (name ∷ names) nows reads = absurd reads
+counts_from (end ∷ ends) [] nows reads = absurd reads
+counts_from (end ∷ ends) (name ∷ names) [] reads = absurd reads
+counts_from (end ∷ ends) (name ∷ names) (now ∷ nows) reads = (reads.0, counts_from ends names nows reads.1)
+
+-- what a report of sessions has said and answered
+pub record Reported (old new : HostTold) (status : ℕ) (shows : Bool) (journal : List (List Entry)) (ends : List SessionEnd) (held : Held) : Type 0 where
+  pub said : status ≢ 6 → Says (served_text shows journal ends held) old new
+  pub statuses : IsServedStatus status
+  pub by_end : status ≢ 5 → status ≢ 6 → (status ≡ highest_by (ways ends))
+      × (list_any (λ (end : SessionEnd). end.failed) ends ≡ false) × (new.say_faults ≡ old.say_faults)
+  pub failed : status ≡ 5 → (highest_by (ways ends) ≢ 6)
+      × ((list_any (λ (end : SessionEnd). end.failed) ends ≡ true) ⊎ Rose old.say_faults new.say_faults)

@@ -1,0 +1,85 @@
+-- When a run answers what.
+use Rattle.std.specs.Prelude.{◌≡◌, ◌≢◌, ◌⊎◌, ◌≤◌, ◌<◌, ◌∷◌, [], ℕ, List, length, max, slice_get, slice_index}
+use Rattle.std.specs.Prelude.{All, IsNone, IfSome, IsSomeAnd}
+use Rattle.std.specs.List.{range_with_len}
+use Rattle.flake_base.specs.Causes.{Rose}
+use Rattle.flake_base.specs.Told.{HostTold}
+use Rattle.flake_base.specs.declared.session.End.{End}
+use Rattle.flake_base.specs.declared.session.End.TheVariants.{Clean, Protocol, Truncated, TooLong, ReadFault, Memory}
+use Rattle.flake_base.specs.declared.session.End.TheVariants.{Left}
+use Rattle.command_pump.specs.Pump.{EndFaults}
+use Rattle.flake_run.specs.Task.{Task, names_of}
+use Rattle.flake_run.specs.Outside.{Outside, faults_of}
+use Rattle.flake_run.specs.Outcome.{Done, ways, files_of, read_faults_of}
+use Rattle.flake_run.specs.declared.outcome.Detail.{Detail}
+use Rattle.flake_run.specs.declared.outcome.Detail.TheVariants.{Nothing, File}
+
+-- the status of a session that ended so, where nothing else failed
+abbrev pub status_by : End → ℕ
+status_by Clean = 0
+status_by (Protocol kind place) = 3
+status_by (Truncated place) = 3
+status_by TooLong = 3
+status_by ReadFault = 4
+status_by Memory = 6
+status_by Left = 0
+
+-- the status of sessions that ended so: the highest
+abbrev pub highest_by : List End → ℕ
+highest_by [] = 0
+highest_by (way ∷ ways) = max (status_by way) (highest_by ways)
+
+-- each session's source has the count of faults of its end, from 0
+abbrev pub AreCountsOf : List End → List ℕ → Type 0
+AreCountsOf [] counts = counts ≡ []
+AreCountsOf (end ∷ ends) [] = ⊥
+AreCountsOf (end ∷ ends) (count ∷ counts) = EndFaults end 0 count × AreCountsOf ends counts
+
+-- the count of puts that failed rose on one of so many first wires
+abbrev pub SomePutFailed : {W : Type 0} → ℕ → Outside W → Outside W → Type 0
+SomePutFailed sessions before after = (session : ℕ) × (session < sessions)
+    × Rose (slice_index (faults_of before) session) (slice_index (faults_of after) session)
+
+-- the open of the file that is named failed
+abbrev pub OpenFailed : List (List ℕ) → Detail → HostTold → HostTold → Type 0
+OpenFailed names (File file) old new =
+    IsSomeAnd (slice_get names file) (λ name. Rose (old.open_faults name) (new.open_faults name))
+OpenFailed names detail old new = ⊥
+
+-- there is no task, or not a wire for each file
+abbrev pub IsRefusable : {W : Type 0} → Task → Outside W → Type 0
+IsRefusable task before = IsNone task ⊎ (length before.wires < length (names_of task))
+
+pub record Causes {W : Type 0} (task : Task) (before after : Outside W) (done : Done) : Type 0 where
+  pub statuses : (done.status ≡ 0) ⊎ (done.status ≡ 1) ⊎ (done.status ≡ 2) ⊎ (done.status ≡ 3)
+      ⊎ (done.status ≡ 4) ⊎ (done.status ≡ 5) ⊎ (done.status ≡ 6)
+  -- where the words are accepted, the files were opened and memory was not wanting, each session has its end
+  pub served : (done.status ≡ 0) ⊎ (done.status ≡ 3) ⊎ (done.status ≡ 4) ⊎ (done.status ≡ 5)
+      → (done.ends ≢ []) × (length done.ends ≡ length (names_of task))
+  -- and no other has, or none has
+  pub sessions : (done.ends ≡ []) ⊎ (length done.ends ≡ length (names_of task))
+  -- the status is the highest by the ends, where nothing else failed
+  pub by_end : done.ends ≢ [] → done.status ≢ 5 → done.status ≢ 6 → done.status ≡ highest_by (ways done.ends)
+  -- 1 comes where the words are bad words or there are fewer wires than files
+  pub bad_words : done.status ≡ 1 → IsRefusable task before
+  -- and there nothing else comes, but that memory was wanting
+  pub refused : done.status ≢ 6 → IsRefusable task before → done.status ≡ 1
+  -- 2 only where an open of the file that the detail names failed
+  pub open_fault : done.status ≡ 2 → IfSome task (λ job. OpenFailed job.names done.detail before.host after.host)
+  -- and with every other status but 6 none did
+  pub opened : done.status ≢ 2 → done.status ≢ 6
+      → (name : List ℕ) → after.host.open_faults name ≡ before.host.open_faults name
+  -- a read failed exactly where the end says so
+  pub reads : done.ends ≢ [] → AreCountsOf (ways done.ends) (read_faults_of done.sources)
+  -- 5 only where a put or a say failed, and memory was not wanting
+  pub write_fault : done.status ≡ 5 → All (λ way. status_by way ≢ 6) (ways done.ends)
+      × (Rose before.host.say_faults after.host.say_faults ⊎ SomePutFailed (length done.ends) before after)
+  -- and with 0, 3 and 4 none did
+  pub written : (done.status ≡ 0) ⊎ (done.status ≡ 3) ⊎ (done.status ≡ 4)
+      → (after.host.say_faults ≡ before.host.say_faults) × (faults_of after ≡ faults_of before)
+  -- the detail names the file that did not open, the one behind those that did
+  pub detail : done.status ≡ 2 → done.detail ≡ File (length done.sources)
+  pub no_detail : done.status ≢ 2 → done.detail ≡ Nothing
+  -- at most as many sources were opened as there are files, each in its order
+  pub sources : length done.sources ≤ length (names_of task)
+  pub in_order : files_of done.sources ≡ range_with_len 0 (length done.sources)

@@ -1,0 +1,142 @@
+-- What a run of generated requests does, and what it says.
+use Rattle.std.specs.Prelude.{◌≡◌, ◌≢◌, ◌⊎◌, ◌≤◌, ◌<◌, ℕ, ◌++◌, Bool, List, [], ◌∷◌, Option, Some, None, codes, length, map}
+use Rattle.std.specs.Prelude.{drop, take, All, IsNone, IfSome}
+use Rattle.std.specs.Fmt.{decimal}
+use Rattle.std.specs.List.{AllByRecursion}
+use Rattle.view_sums.specs.Total.{total}
+use Rattle.flake_base.specs.Causes.{Rose}
+use Rattle.flake_base.specs.Growth.{Grew}
+use Rattle.flake_base.specs.Told.{WireTold, raised}
+use Rattle.flake_base.specs.declared.journal.Entry.{Entry}
+use Rattle.flake_base.specs.declared.session.End.TheVariants.{Clean, Memory}
+use Rattle.flake_base.specs.declared.session.SessionEnd.{SessionEnd}
+use Rattle.flake_model.specs.Run.{WasServed, all_commands, missing_writes, wire_texts}
+use Rattle.flake_model.specs.Said.{said_line}
+use Rattle.flake_model.specs.Wire.{FaultsAre, BytesAre, KeptAre}
+use Rattle.pin_core.specs.declared.class.Held.{Held}
+use Rattle.pinned_pool.specs.Ends.{End}
+use Rattle.transcript_model.specs.Sessions.{AreWhole, WireGrew, joined}
+use Rattle.serve_model.specs.Replies.{all_replies}
+use Rattle.serve_model.specs.Shown.{IsCounted}
+use Rattle.serve_inputs.specs.Opened.{pool_sizes}
+use Rattle.gen_words.specs.declared.task.GenTask.{GenTask}
+use Rattle.serve_generated.specs.Generated.{HadMemory, IsTooMuch, commands_in_all, inputs_of, sizes_of}
+use Rattle.flake_run.specs.Causes.{SomePutFailed, status_by}
+use Rattle.flake_run.specs.Outside.{Outside, LeavesFiles, sent_by, bytes_of, kept_by, faults_of}
+use Rattle.flake_run.specs.Outcome.{Done, none_held, ways}
+use Rattle.flake_run.specs.Said.{Says}
+use Rattle.flake_run.specs.Serving.{IsRun}
+use Rattle.flake_run.specs.declared.outcome.Detail.TheVariants.{Nothing}
+
+-- all replies, and their bytes
+abbrev pub replies_in : List SessionEnd → ℕ
+replies_in ends = total (λ (end : SessionEnd). end.replies) ends
+
+abbrev pub sum_of : List ℕ → ℕ
+sum_of counts = total (λ (count : ℕ). count) counts
+
+-- what is said of generated requests that were served
+abbrev pub total_line : ℕ → ℕ → Held → List ℕ
+total_line replies bytes held = said_line (codes "requests " ++ decimal replies ++ codes " bytes " ++ decimal bytes
+    ++ codes " held " ++ decimal held.small ++ 32 ∷ decimal held.large)
+
+-- So many of a session's replies were sent whole: all of them where its wire didn't fail; and where it did, a front of
+-- the next one behind them, if there is one. They have so many bytes.
+pub record SentInWhole (replies : Bool × List (List ℕ)) (bytes : ℕ) (old new : Option (List ℕ)) : Type 0 where
+  pub whole : ℕ
+  pub are_whole : AreWhole replies.0 whole (length replies.1)
+  pub grew : WireGrew Grew replies.0 whole replies.1 old new
+  pub bytes_are : bytes ≡ length (joined (take whole replies.1))
+
+-- so it is of each session, and wires past them are as they were
+abbrev pub AllInWhole : List (Bool × List (List ℕ)) → List ℕ → List (Option (List ℕ)) → List (Option (List ℕ)) → Type 0
+AllInWhole [] counts olds news = (counts ≡ []) × (news ≡ olds)
+AllInWhole (replies ∷ more) [] olds news = ⊥
+AllInWhole (replies ∷ more) (count ∷ counts) [] news = ⊥
+AllInWhole (replies ∷ more) (count ∷ counts) (old ∷ olds) [] = ⊥
+AllInWhole (replies ∷ more) (count ∷ counts) (old ∷ olds) (new ∷ news) =
+    SentInWhole replies count old new × AllInWhole more counts olds news
+
+-- The generated inputs were served, and so many bytes of each were sent in whole replies, as a `u64` shows it.
+pub record IsGeneratedRun {W : Type 0} (task : GenTask) (lefts : List (Option (List ℕ))) (ends : List SessionEnd)
+    (shown : List ℕ) (journal : List (List Entry)) (pool : End) (olds news : List W) (told : W → WireTold) : Type 0 where
+  pub run : IsRun (pool_sizes task.sessions (sizes_of task)) (inputs_of task) lefts ends journal pool olds news told
+  pub ways : AllByRecursion (λ end. (end.end ≡ Clean) ⊎ (end.end ≡ Memory)) ends
+  pub commands : HadMemory ends → all_commands run.run.sessions ≡ commands_in_all task
+  pub none_missing : HadMemory ends → missing_writes run.run.sessions journal ≡ 0
+  pub counts : List ℕ
+  pub wholes : AllInWhole (all_replies run.run.sessions journal) counts (map (λ wire. (told wire).sent) olds)
+      (map (λ wire. (told wire).sent) news)
+  pub sums : raised 0 (sum_of shown) ≡ raised 0 (sum_of counts)
+
+-- What a run says of generated requests that it served.
+pub record ServedRequests {W : Type 0} (task : GenTask) (before after : Outside W) (done : Done) : Type 0 where
+  -- the inputs were the generated ones; these are what is left of them
+  pub lefts : List (Option (List ℕ))
+  -- the journal has the parts that were run, in one history, and the wires were sent the texts of the replies that it
+  -- gives
+  pub run : WasServed (inputs_of task) lefts done.ends done.journal (sent_by before) (sent_by after)
+  -- what the closed pool shows by the journal: it had as many buffers as the commands may claim
+  pub pool : End
+  pub pool_is : done.pool ≡ Some pool
+  pub shows : IsCounted (pool_sizes task.sessions (sizes_of task)) run.sessions done.journal pool
+  pub held : (done.held.small ≡ pool.small) × (done.held.large ≡ pool.large)
+  -- each session ended clean, but for want of memory
+  pub ways : AllByRecursion (λ end. (end.end ≡ Clean) ⊎ (end.end ≡ Memory)) done.ends
+  -- without that their commands are those that were generated, and each write found its buffers
+  pub commands : HadMemory done.ends → all_commands run.sessions ≡ commands_in_all task
+  pub none_missing : HadMemory done.ends → missing_writes run.sessions done.journal ≡ 0
+  -- as many bytes were put as the texts have, also on a wire that doesn't tell which
+  pub bytes : BytesAre (wire_texts run.sessions done.journal) (bytes_of before) (bytes_of after)
+  -- a wire that didn't fail keeps none of them back
+  pub flushed : KeptAre (map (λ end. end.failed) done.ends) (kept_by before) (kept_by after)
+  -- a session failed where its wire's count of faults rose, and else that count is as it was
+  pub faults : FaultsAre (map (λ end. end.failed) done.ends) (faults_of before) (faults_of after)
+  -- the wires past the sessions are as handed in
+  pub others : drop (length done.ends) after.wires ≡ drop (length done.ends) before.wires
+  pub sessions : length done.ends ≡ task.sessions
+  pub shards : length done.journal ≡ 8
+  -- so many bytes of each session were sent in whole replies
+  pub counts : List ℕ
+  pub wholes : AllInWhole (all_replies run.sessions done.journal) counts (sent_by before) (sent_by after)
+  -- and that is said, unless memory was wanting: all replies, all these bytes, and what is held
+  pub said : done.status ≢ 6 → Says (total_line (replies_in done.ends) (raised 0 (sum_of counts)) done.held)
+      before.host after.host
+
+-- there is no task, or not a wire for each session, or no pool can have as many buffers as it needs
+abbrev pub IsUngenerated : {W : Type 0} → Option GenTask → Outside W → Type 0
+IsUngenerated None before = Unit {0}
+IsUngenerated (Some task) before = (length before.wires < task.sessions) ⊎ IsTooMuch task
+
+-- No file is opened for generated requests, whatever comes of them.
+pub record Generated {W : Type 0} (task : Option GenTask) (before after : Outside W) (done : Done) : Type 0 where
+  pub statuses : (done.status ≡ 0) ⊎ (done.status ≡ 1) ⊎ (done.status ≡ 5) ⊎ (done.status ≡ 6)
+  -- the headline, where something was served
+  pub served : done.ends ≢ [] → IfSome task (λ task. ServedRequests task before after done)
+  -- which is so with 0 and 5
+  pub some : (done.status ≡ 0) ⊎ (done.status ≡ 5) → (done.ends ≢ []) × IfSome task (λ _. Unit {0})
+  -- where nothing was, the wires are as handed in, and there is no history and no pool
+  pub wires : done.ends ≡ [] → after.wires ≡ before.wires
+  pub journal : done.ends ≡ [] → done.journal ≡ []
+  pub pool : done.ends ≡ [] → (done.pool ≡ None) × (done.held ≡ none_held)
+  -- no file is opened, and no source comes back
+  pub files : LeavesFiles before.host after.host
+  pub sources : done.sources ≡ []
+  pub detail : done.detail ≡ Nothing
+  -- 1 comes where the words are bad words, there are fewer wires than sessions or no pool can be large enough
+  pub bad_words : done.status ≡ 1 → IsUngenerated task before
+  pub nothing : done.status ≡ 1 → done.ends ≡ []
+  -- and there nothing else comes, but that memory was wanting
+  pub refused : done.status ≢ 6 → IsUngenerated task before → done.status ≡ 1
+  -- 5 only where a put or a say failed, and memory was not wanting
+  pub write_fault : done.status ≡ 5 → All (λ way. status_by way ≢ 6) (ways done.ends)
+      × (Rose before.host.say_faults after.host.say_faults ⊎ SomePutFailed (length done.ends) before after)
+  -- and with 0 none did
+  pub written : done.status ≡ 0
+      → (after.host.say_faults ≡ before.host.say_faults) × (faults_of after ≡ faults_of before)
+  -- so it is 0 where nothing is wanting and nothing fails
+  pub whole : IfSome task (λ task. task.sessions ≤ length before.wires → (IsTooMuch task → ⊥) → done.status ≢ 6
+      → (Rose before.host.say_faults after.host.say_faults → ⊥) → (SomePutFailed task.sessions before after → ⊥)
+      → done.status ≡ 0)
+  -- what is said where the words are bad words; of what was served `served` says it
+  pub said : done.status ≡ 1 → Says (said_line (codes "bad words")) before.host after.host

@@ -1,0 +1,15 @@
+pub mod Serving
+pub mod Opening
+pub mod Refusals
+pub mod Task
+pub mod Outside
+pub mod Outcome
+pub mod Served
+pub mod Untouched
+pub mod Causes
+pub mod Complete
+pub mod Said
+pub mod Generated
+pub mod Finding
+pub mod Files
+pub mod Checked

@@ -1,0 +1,50 @@
+-- What a run says to its host.
+use Rattle.std.specs.Prelude.{◌≢◌, ℕ, ◌==◌, ◌++◌, ◌∷◌, Bool, if◌then◌else◌, true, false, List, [], codes}
+use Rattle.std.specs.Fmt.{decimal}
+use Rattle.flake_base.specs.Causes.{Rose}
+use Rattle.flake_base.specs.Growth.{Grew}
+use Rattle.flake_base.specs.Told.{HostTold}
+use Rattle.flake_base.specs.declared.journal.Entry.{Entry}
+use Rattle.flake_base.specs.declared.session.SessionEnd.{SessionEnd}
+use Rattle.flake_model.specs.Said.{said_line, summary_from}
+use Rattle.journal_text.specs.Text.{text_of as journal_text}
+use Rattle.pin_core.specs.declared.class.Held.{Held}
+use Rattle.flake_run.specs.Task.{Task, shows_journal}
+use Rattle.flake_run.specs.Outside.{Outside}
+use Rattle.flake_run.specs.Outcome.{Done}
+use Rattle.flake_run.specs.declared.outcome.Detail.{Detail}
+use Rattle.flake_run.specs.declared.outcome.Detail.TheVariants.{File}
+
+-- a text was said, or a front of it where a say failed
+pub record Says (text : List ℕ) (old new : HostTold) : Type 0 where
+  pub front : Grew true text old.said new.said
+  pub whole : (Rose old.say_faults new.say_faults → ⊥) → Grew false text old.said new.said
+
+-- how many small and large buffers are held at the end
+abbrev pub held_line : Held → List ℕ
+held_line held = said_line (codes "held " ++ decimal held.small ++ 32 ∷ decimal held.large)
+
+-- how each session ended, and what is held
+abbrev pub summary_of : List SessionEnd → Held → List ℕ
+summary_of ends held = summary_from 0 ends ++ held_line held
+
+-- what is said of files that were served: the journal's text alone, or the summary
+abbrev pub served_text : Bool → List (List Entry) → List SessionEnd → Held → List ℕ
+served_text shows journal ends held = if shows then journal_text journal else summary_of ends held
+
+-- which file did not open
+abbrev pub unopened_text : Detail → List ℕ
+unopened_text (File file) = said_line (codes "cannot open " ++ decimal file)
+unopened_text detail = []
+
+-- what is said with a status: why nothing was served, or what is said of what was
+abbrev pub text_of : ℕ → Detail → List ℕ → List ℕ
+text_of status detail served =
+    if status == 1 then said_line (codes "bad words") else
+    if status == 2 then unopened_text detail else served
+
+pub record Said {W : Type 0} (task : Task) (before after : Outside W) (done : Done) : Type 0 where
+  -- the text of the status, unless memory was wanting
+  pub text : done.status ≢ 6
+      → Says (text_of done.status done.detail (served_text (shows_journal task) done.journal done.ends done.held))
+      before.host after.host

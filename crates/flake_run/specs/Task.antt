@@ -1,0 +1,67 @@
+-- What the words of the command line ask for.
+use Rattle.std.specs.Prelude.{ℕ, Bool, false, List, [], Option, Some, None, String, length, map}
+use Rattle.std.specs.Global.{Global}
+use Rattle.std.specs.Option.{option_map, option_map_or}
+use Rattle.pin_core.specs.declared.sizes.Sizes as pool
+use Rattle.serve_inputs.specs.Opened.{pool_sizes}
+use Rattle.serve_inputs.specs.declared.sizes.Sizes.{Sizes}
+use Rattle.serve_words.specs.Task as words
+use Rattle.serve_words.specs.declared.sizes.Sizes as typed
+use Rattle.flake_run.specs.declared.words.FilesTask.{FilesTask}
+
+-- the names of the files that are to be served, the sizes to serve them with, how many workers do it, and whether the
+-- journal is what is said of it
+pub record Job : Type 0 where
+  pub names : List (List ℕ)
+  pub sizes : Sizes
+  pub workers : ℕ
+  pub journal : Bool
+
+-- none where the words are bad words
+abbrev pub Task : Type 0
+Task = Option Job
+
+abbrev pub sizes_of : typed.Sizes → Sizes
+sizes_of sizes = record {
+  shards = sizes.shards;
+  small = sizes.small;
+  large = sizes.large;
+  ring = sizes.ring;
+  threshold = sizes.threshold;
+}
+
+abbrev pub job_of : words.Task → Job
+job_of task = record {
+  names = task.files;
+  sizes = sizes_of task.sizes;
+  workers = task.workers;
+  journal = task.journal;
+}
+
+abbrev pub task_of : List (String Global) → Task
+task_of typed = option_map job_of (words.task_of (words.texts_of typed))
+
+-- the task, as the code holds it
+abbrev pub shown_task : FilesTask → Job
+shown_task task = record {
+  names = map (λ file. file.now) task.files.items;
+  sizes = task.sizes;
+  workers = task.workers;
+  journal = task.journal;
+}
+
+abbrev pub names_of : Task → List (List ℕ)
+names_of None = []
+names_of (Some job) = job.names
+
+abbrev pub pool_of : Task → pool.Sizes
+pool_of task =
+    option_map_or (λ (job : Job). pool_sizes (length job.names) job.sizes) task
+    (record { small = 0; large = 0; credits = 0 })
+
+abbrev pub shards_of : Task → ℕ
+shards_of task = option_map_or (λ (job : Job). job.sizes.shards) task 0
+
+-- whether the journal is what is said
+abbrev pub shows_journal : Task → Bool
+shows_journal task = option_map_or (λ (job : Job). job.journal) task false

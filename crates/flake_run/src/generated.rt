@@ -1,0 +1,103 @@
+// Generated requests, from the words to what is said.
+ghost use Rattle.std.specs.Prelude.{◌≡◌, ◌≤◌, ◌<◌, length, map, Some, IfOk, IfErr};
+ghost use Rattle.shard_store.specs.Journals.{histories};
+ghost use Rattle.serve_words.specs.Task.{texts_of};
+ghost use Rattle.gen_words.specs.Task.{IsAllowed, task_of};
+ghost use Rattle.serve_generated.specs.Generated.{IsTooMuch};
+ghost use Rattle.wire_told.specs.Sent.{PutIs, FlushIs};
+ghost use Rattle.flake_run.specs.Outside.{outside};
+ghost use Rattle.flake_run.specs.Outcome.{done, source_told};
+ghost use Rattle.flake_run.specs.Generated.{Generated, IsGeneratedRun};
+
+use crate::outcome::{Detail, Outcome, Refusal};
+use crate::source::{flush, put};
+use crate::tell::{refuse, report_total};
+use crate::total::sum_of;
+use flake_base::{Host, Memory, Wire};
+use gen_words::{GenTask, gen_task};
+use serve_generated::{InputSource, Refused, serve_generated};
+use serve_inputs::Served;
+use session_pass::Gate;
+use std::alloc::Global;
+use std::sync::Wait;
+use std::thread::Threads;
+
+// Serves the requests of a task; the replies go to the wire at their session's place.
+fn serve_requests<R: Threads + Wait + Sync, G: Gate>(
+    rt: &R,
+    alloc: Global,
+    task: &GenTask,
+    wires: Vec<Box<dyn Wire>>,
+    gate: &G,
+) -> Result<Served<InputSource, Box<dyn Wire>>, (Refused, Vec<Box<dyn Wire>>)>
+    requires task { IsAllowed task.now }
+    requires wires { task.now.sessions ≤ length wires.items }
+    ensures run { IfOk result (λ r. IsGeneratedRun task.now (map Some r.sources.items) r.ends.items r.sent.items
+        (histories r.journal.items) r.pool wires.items r.wires.items (λ w. wire_told w)) }
+    ensures shards { IfOk result (λ r. length r.journal.items ≡ 8) }
+    ensures ends { IfOk result (λ r. length r.ends.items ≡ task.now.sessions) }
+    ensures fits { IfOk result (λ r. IsTooMuch task.now → ⊥) }
+    ensures too_much { IfErr result (λ e. e.0 ≡ Refused.TooMuch → IsTooMuch task.now) }
+    ensures back { IfErr result (λ e. e.1.items ≡ wires.items) }
+{
+    let served = serve_generated(
+        rt,
+        alloc,
+        task,
+        wires,
+        gate,
+        &|w: Box<dyn Wire>, piece: &[u8]| -> (Box<dyn Wire>, bool)
+            ensures { 0 < length piece.now → PutIs result.1 piece.now (wire_told w) (wire_told result.0) }
+        { put(w, piece) },
+        &|w: Box<dyn Wire>| -> (Box<dyn Wire>, bool)
+            ensures { FlushIs result.1 (wire_told w) (wire_told result.0) }
+        { flush(w) },
+    );
+    match served {
+        Ok(served) => Ok(served),
+        Err(back) => Err(back),
+    }
+}
+
+/// Serves the requests that the words ask for, and says how many replies they got, of how many bytes, and what is held.
+pub fn generate<R: Threads + Wait + Sync, H: Host, G: Gate>(
+    rt: &R,
+    alloc: Global,
+    words: &[String],
+    host: &mut H,
+    wires: Vec<Box<dyn Wire>>,
+    gate: &G,
+) -> Outcome<H::In>
+    ensures { Generated (task_of (texts_of words.now))
+        (outside (H.host_told host.old) wires.items (λ w. wire_told w))
+        (outside (H.host_told host.new) result.wires.items (λ w. wire_told w))
+        (done result.status result.detail result.ends.items result.journal.items result.held result.pool
+        (map (λ s. source_told s.file (H.In.left s.source) (H.In.read_faults s.source)) result.sources.items)) }
+{
+    let task = match gen_task(alloc, words) {
+        Ok(Some(task)) => task,
+        Ok(None) => return refuse(alloc, host, Refusal::BadWords, wires),
+        Err(Memory) => return refuse(alloc, host, Refusal::Memory, wires),
+    };
+    if wires.len() < usize::from(task.sessions) {
+        return refuse(alloc, host, Refusal::BadWords, wires);
+    }
+    match serve_requests(rt, alloc, &task, wires, gate) {
+        Ok(ran) => {
+            let held = ran.pool.held();
+            let bytes = sum_of(ran.sent.as_slice());
+            Outcome {
+                status: report_total(alloc, host, ran.ends.as_slice(), bytes, held),
+                detail: Detail::Nothing,
+                ends: ran.ends,
+                journal: ran.journal,
+                held,
+                pool: Some(ran.pool),
+                sources: Vec::new(alloc),
+                wires: ran.wires,
+            }
+        }
+        Err((Refused::TooMuch, wires)) => refuse(alloc, host, Refusal::BadWords, wires),
+        Err((Refused::Memory, wires)) => refuse(alloc, host, Refusal::Memory, wires),
+    }
+}

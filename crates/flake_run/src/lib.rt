@@ -1,0 +1,18 @@
+//! A key-value server over files: requests from a file, replies to a wire; over any host, any wires and any runtime.
+#![tactic(auto)]
+
+mod check;
+mod files;
+mod finding;
+mod generated;
+mod opening;
+mod outcome;
+pub mod run;
+mod serve;
+mod source;
+mod summary;
+mod tell;
+mod total;
+mod words;
+
+pub use outcome::{Detail, OUT_OF_MEMORY, Opened, Outcome, Refusal};

@@ -1,0 +1,46 @@
+// Files that are opened before any is read.
+ghost use Rattle.std.specs.Prelude.{◌≡◌, ◌≤◌, [], length, map, vec_capacity, IfOk, IfErr};
+ghost use Rattle.std.specs.List.{range_with_len};
+ghost use Rattle.flake_run.specs.Opening.{AreOpened, FailsToOpen};
+
+use crate::outcome::Opened;
+use flake_base::{Host, Source};
+
+/// Opens each file, in order. The first that doesn't open ends it: the sources of those in front come back.
+pub fn open_files<H: Host>(
+    host: &mut H,
+    files: &[&str],
+    room: Vec<H::In>,
+) -> Result<Vec<H::In>, Vec<H::In>>
+    requires { (room.items ≡ []) × (length files.now ≤ vec_capacity room) }
+    ensures opened { IfOk result (λ sources. AreOpened (map (λ file. file.now) files.entry.now)
+        (H.host_told host.old) (H.host_told host.new) (map (λ s. H.In.left s) sources.items)
+        (map (λ s. H.In.read_faults s) sources.items)) }
+    ensures failed { IfErr result (λ sources. FailsToOpen (map (λ file. file.now) files.entry.now)
+        (H.host_told host.old) (H.host_told host.new) (map (λ s. H.In.left s) sources.items)
+        (map (λ s. H.In.read_faults s) sources.items)) }
+{
+    let mut sources = room;
+    for file in files {
+        let Ok(source) = host.open(*file) else {
+            return Err(sources);
+        };
+        let _ = sources.push(source);
+    }
+    Ok(sources)
+}
+
+/// The sources with their files' numbers, in room that was taken ahead.
+pub fn numbered<S: Source + Drop>(sources: Vec<S>, room: Vec<Opened<S>>) -> Vec<Opened<S>>
+    requires room { (room.items ≡ []) × (length sources.items ≤ vec_capacity room) }
+    requires few { length sources.items ≤ 16 }
+    ensures files { map (λ s. s.file) result.items ≡ range_with_len 0 (length sources.items) }
+    ensures sources { map (λ s. s.source) result.items ≡ sources.items }
+{
+    let mut opened = room;
+    for source in sources {
+        let file = opened.len() as u16;
+        let _ = opened.push(Opened { file, source });
+    }
+    opened
+}

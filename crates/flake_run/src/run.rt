@@ -1,0 +1,89 @@
+// The whole program, over any host and any wires.
+ghost use Rattle.std.specs.Prelude.{◌≡◌, ◌≢◌, [], map};
+ghost use Rattle.serve_words.specs.Check.{check_of};
+ghost use Rattle.serve_words.specs.Named.{name_of};
+ghost use Rattle.serve_words.specs.Task.{texts_of};
+ghost use Rattle.flake_run.specs.Task.{task_of};
+ghost use Rattle.flake_run.specs.Outside.{outside};
+ghost use Rattle.flake_run.specs.Outcome.{done, source_told};
+ghost use Rattle.flake_run.specs.Served.{Served};
+ghost use Rattle.flake_run.specs.Untouched.{Untouched};
+ghost use Rattle.flake_run.specs.Causes.{Causes};
+ghost use Rattle.flake_run.specs.Complete.{Complete};
+ghost use Rattle.flake_run.specs.Said.{Said};
+ghost use Rattle.gen_words.specs.Task.{task_of as gen_task_of};
+ghost use Rattle.flake_run.specs.Checked.{Checked};
+ghost use Rattle.flake_run.specs.Generated.{Generated};
+
+use crate::check::check;
+use crate::generated::generate;
+use crate::outcome::Outcome;
+use crate::serve::serve;
+use flake_base::{Host, Source, Wire};
+use serve_words::{CommandName, command_name};
+use session_pass::Gate;
+use std::alloc::Global;
+use std::sync::Wait;
+use std::thread::Threads;
+
+/// Does what the first word names: `serve` serves the files that the words name, with the sizes and by as many workers
+/// as they ask for, and the replies to a file's requests go to the wire at its place; `check` judges replies by a
+/// journal; `gen` serves requests that are generated from a number.
+pub fn run<R: Threads + Wait + Sync, H: Host, G: Gate>(
+    rt: &R,
+    alloc: Global,
+    words: &[String],
+    host: &mut H,
+    wires: Vec<Box<dyn Wire>>,
+    gate: &G,
+) -> Outcome<H::In>
+    // The headline, where something was served.
+    ensures served { name_of (texts_of words.now) ≡ CommandName.Serve → result.ends.items ≢ []
+        → Served (task_of words.now)
+        (outside (H.host_told host.old) wires.items (λ w. wire_told w))
+        (outside (H.host_told host.new) result.wires.items (λ w. wire_told w))
+        (done result.status result.detail result.ends.items result.journal.items result.held result.pool
+        (map (λ s. source_told s.file (H.In.left s.source) (H.In.read_faults s.source)) result.sources.items)) }
+    // What stays as it was.
+    ensures untouched { name_of (texts_of words.now) ≡ CommandName.Serve → Untouched (task_of words.now)
+        (outside (H.host_told host.old) wires.items (λ w. wire_told w))
+        (outside (H.host_told host.new) result.wires.items (λ w. wire_told w))
+        (done result.status result.detail result.ends.items result.journal.items result.held result.pool
+        (map (λ s. source_told s.file (H.In.left s.source) (H.In.read_faults s.source)) result.sources.items)) }
+    // Each status, end and detail has its cause.
+    ensures causes { name_of (texts_of words.now) ≡ CommandName.Serve → Causes (task_of words.now)
+        (outside (H.host_told host.old) wires.items (λ w. wire_told w))
+        (outside (H.host_told host.new) result.wires.items (λ w. wire_told w))
+        (done result.status result.detail result.ends.items result.journal.items result.held result.pool
+        (map (λ s. source_told s.file (H.In.left s.source) (H.In.read_faults s.source)) result.sources.items)) }
+    // Nothing is refused without a cause.
+    ensures complete { name_of (texts_of words.now) ≡ CommandName.Serve → Complete (task_of words.now)
+        (outside (H.host_told host.old) wires.items (λ w. wire_told w))
+        (outside (H.host_told host.new) result.wires.items (λ w. wire_told w))
+        (done result.status result.detail result.ends.items result.journal.items result.held result.pool
+        (map (λ s. source_told s.file (H.In.left s.source) (H.In.read_faults s.source)) result.sources.items)) }
+    // What is said of it.
+    ensures said { name_of (texts_of words.now) ≡ CommandName.Serve → Said (task_of words.now)
+        (outside (H.host_told host.old) wires.items (λ w. wire_told w))
+        (outside (H.host_told host.new) result.wires.items (λ w. wire_told w))
+        (done result.status result.detail result.ends.items result.journal.items result.held result.pool
+        (map (λ s. source_told s.file (H.In.left s.source) (H.In.read_faults s.source)) result.sources.items)) }
+    // What `check` does.
+    ensures checked { name_of (texts_of words.now) ≡ CommandName.Check → Checked (check_of (texts_of words.now))
+        (outside (H.host_told host.old) wires.items (λ w. wire_told w))
+        (outside (H.host_told host.new) result.wires.items (λ w. wire_told w))
+        (done result.status result.detail result.ends.items result.journal.items result.held result.pool
+        (map (λ s. source_told s.file (H.In.left s.source) (H.In.read_faults s.source)) result.sources.items)) }
+    // What `gen` does.
+    ensures generated { name_of (texts_of words.now) ≡ CommandName.Gen → Generated (gen_task_of (texts_of words.now))
+        (outside (H.host_told host.old) wires.items (λ w. wire_told w))
+        (outside (H.host_told host.new) result.wires.items (λ w. wire_told w))
+        (done result.status result.detail result.ends.items result.journal.items result.held result.pool
+        (map (λ s. source_told s.file (H.In.left s.source) (H.In.read_faults s.source)) result.sources.items)) }
+{
+    match command_name(words) {
+        CommandName::Serve => serve(rt, alloc, words, host, wires, gate),
+        CommandName::Check => check(alloc, words, host, wires),
+        CommandName::Gen => generate(rt, alloc, words, host, wires, gate),
+    }
+}

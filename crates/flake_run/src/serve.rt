@@ -1,0 +1,115 @@
+// The command `serve`, over any host and any wires.
+ghost use Rattle.std.specs.Prelude.{◌≡◌, ◌≢◌, [], map};
+ghost use Rattle.flake_run.specs.Task.{task_of};
+ghost use Rattle.flake_run.specs.Outside.{outside};
+ghost use Rattle.flake_run.specs.Outcome.{done, source_told};
+ghost use Rattle.flake_run.specs.Served.{Served};
+ghost use Rattle.flake_run.specs.Untouched.{Untouched};
+ghost use Rattle.flake_run.specs.Causes.{Causes};
+ghost use Rattle.flake_run.specs.Complete.{Complete};
+ghost use Rattle.flake_run.specs.Said.{Said};
+
+use crate::opening::{numbered, open_files};
+use crate::outcome::{Detail, Outcome, Refusal};
+use crate::source::serve_sources;
+use crate::tell::{refuse, report};
+use crate::words::files_task;
+use flake_base::{Host, Memory, Source, Wire};
+use session_pass::Gate;
+use std::alloc::Global;
+use std::sync::Wait;
+use std::thread::Threads;
+
+/// Serves the files that the words name, with the sizes and by as many workers as they ask for: the replies to a file's
+/// requests go to the wire at its place.
+pub fn serve<R: Threads + Wait + Sync, H: Host, G: Gate>(
+    rt: &R,
+    alloc: Global,
+    words: &[String],
+    host: &mut H,
+    wires: Vec<Box<dyn Wire>>,
+    gate: &G,
+) -> Outcome<H::In>
+    // The headline, where something was served.
+    ensures served { result.ends.items ≢ [] → Served (task_of words.now)
+        (outside (H.host_told host.old) wires.items (λ w. wire_told w))
+        (outside (H.host_told host.new) result.wires.items (λ w. wire_told w))
+        (done result.status result.detail result.ends.items result.journal.items result.held result.pool
+        (map (λ s. source_told s.file (H.In.left s.source) (H.In.read_faults s.source)) result.sources.items)) }
+    // What stays as it was.
+    ensures untouched { Untouched (task_of words.now)
+        (outside (H.host_told host.old) wires.items (λ w. wire_told w))
+        (outside (H.host_told host.new) result.wires.items (λ w. wire_told w))
+        (done result.status result.detail result.ends.items result.journal.items result.held result.pool
+        (map (λ s. source_told s.file (H.In.left s.source) (H.In.read_faults s.source)) result.sources.items)) }
+    // Each status, end and detail has its cause.
+    ensures causes { Causes (task_of words.now)
+        (outside (H.host_told host.old) wires.items (λ w. wire_told w))
+        (outside (H.host_told host.new) result.wires.items (λ w. wire_told w))
+        (done result.status result.detail result.ends.items result.journal.items result.held result.pool
+        (map (λ s. source_told s.file (H.In.left s.source) (H.In.read_faults s.source)) result.sources.items)) }
+    // Nothing is refused without a cause.
+    ensures complete { Complete (task_of words.now)
+        (outside (H.host_told host.old) wires.items (λ w. wire_told w))
+        (outside (H.host_told host.new) result.wires.items (λ w. wire_told w))
+        (done result.status result.detail result.ends.items result.journal.items result.held result.pool
+        (map (λ s. source_told s.file (H.In.left s.source) (H.In.read_faults s.source)) result.sources.items)) }
+    // What is said of it.
+    ensures said { Said (task_of words.now)
+        (outside (H.host_told host.old) wires.items (λ w. wire_told w))
+        (outside (H.host_told host.new) result.wires.items (λ w. wire_told w))
+        (done result.status result.detail result.ends.items result.journal.items result.held result.pool
+        (map (λ s. source_told s.file (H.In.left s.source) (H.In.read_faults s.source)) result.sources.items)) }
+{
+    let task = match files_task(alloc, words) {
+        Ok(Some(task)) => task,
+        Ok(None) => return refuse(alloc, host, Refusal::BadWords, wires),
+        Err(Memory) => return refuse(alloc, host, Refusal::Memory, wires),
+    };
+    let count = task.files.len();
+    if wires.len() < count {
+        return refuse(alloc, host, Refusal::BadWords, wires);
+    }
+    let (Ok(room), Ok(places)) = (
+        Vec::with_capacity(alloc, count),
+        Vec::with_capacity(alloc, count),
+    ) else {
+        return refuse(alloc, host, Refusal::Memory, wires);
+    };
+    let sources = match open_files(host, task.files.as_slice(), room) {
+        Ok(sources) => sources,
+        Err(sources) => {
+            let refusal = Refusal::OpenFault(sources.len() as u16);
+            let mut outcome = refuse(alloc, host, refusal, wires);
+            outcome.sources = numbered(sources, places);
+            return outcome;
+        }
+    };
+    match serve_sources(rt, alloc, &task.sizes, task.workers, sources, wires, gate) {
+        Ok(ran) => {
+            let held = ran.pool.held();
+            Outcome {
+                status: report(
+                    alloc,
+                    host,
+                    task.journal,
+                    &ran.journal,
+                    ran.ends.as_slice(),
+                    held,
+                ),
+                detail: Detail::Nothing,
+                ends: ran.ends,
+                journal: ran.journal,
+                held,
+                pool: Some(ran.pool),
+                sources: numbered(ran.sources, places),
+                wires: ran.wires,
+            }
+        }
+        Err((sources, wires)) => {
+            let mut outcome = refuse(alloc, host, Refusal::Memory, wires);
+            outcome.sources = numbered(sources, places);
+            outcome
+        }
+    }
+}

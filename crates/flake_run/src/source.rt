@@ -1,0 +1,81 @@
+// Sources that are served to the first wires.
+ghost use Rattle.std.specs.Prelude.{◌≡◌, ◌≢◌, ◌<◌, ◌≤◌, length, map, All, IfOk, IfErr};
+ghost use Rattle.shard_store.specs.Journals.{histories};
+ghost use Rattle.flake_run.specs.Serving.{IsRun};
+ghost use Rattle.serve_inputs.specs.Opened.{IsSized, pool_sizes};
+ghost use Rattle.serve_inputs.specs.Ran.{AreReads};
+ghost use Rattle.wire_told.specs.Sent.{PutIs, FlushIs};
+
+use flake_base::{End, Source, Wire};
+use serve_inputs::{Served, Sizes, serve_inputs};
+use session_pass::Gate;
+use std::alloc::Global;
+use std::sync::Wait;
+use std::thread::Threads;
+
+/// Puts a piece that has bytes; answers whether that failed.
+pub(crate) fn put(wire: Box<dyn Wire>, piece: &[u8]) -> (Box<dyn Wire>, bool)
+    ensures { 0 < length piece.now → PutIs result.1 piece.now (wire_told wire) (wire_told result.0) }
+{
+    let mut wire = wire;
+    if piece.is_empty() {
+        return (wire, false);
+    }
+    let failed = wire.put(piece).is_err();
+    (wire, failed)
+}
+
+/// Flushes; answers whether that failed.
+pub(crate) fn flush(wire: Box<dyn Wire>) -> (Box<dyn Wire>, bool)
+    ensures { FlushIs result.1 (wire_told wire) (wire_told result.0) }
+{
+    let mut wire = wire;
+    let failed = wire.flush().is_err();
+    (wire, failed)
+}
+
+/// Serves the requests of each source, to its end or until memory is wanting; the replies go to the wire at its place.
+/// Where memory is wanting before the first read all comes back.
+pub fn serve_sources<R: Threads + Wait + Sync, S: Source + Send + Drop, G: Gate>(
+    rt: &R,
+    alloc: Global,
+    sizes: &Sizes,
+    workers: u16,
+    sources: Vec<S>,
+    wires: Vec<Box<dyn Wire>>,
+    gate: &G,
+) -> Result<Served<S, Box<dyn Wire>>, (Vec<S>, Vec<Box<dyn Wire>>)>
+    requires sized { IsSized (length sources.items) sizes.now }
+    requires workers { (0 < workers) × (workers ≤ 16) }
+    requires wires { length sources.items ≤ length wires.items }
+    ensures run { IfOk result (λ r. IsRun (pool_sizes (length sources.items) sizes.now)
+        (map (λ s. S.left s) sources.items) (map (λ s. S.left s) r.sources.items) r.ends.items
+        (histories r.journal.items) r.pool wires.items r.wires.items (λ w. wire_told w)) }
+    ensures reads { IfOk result (λ r. AreReads r.ends.items (map (λ s. S.read_faults s) sources.items)
+        (map (λ s. S.read_faults s) r.sources.items)) }
+    ensures to_the_end { IfOk result (λ r. All (λ end. end.end ≢ End.Left) r.ends.items) }
+    ensures shards { IfOk result (λ r. length r.journal.items ≡ sizes.now.shards) }
+    ensures sources { IfOk result (λ r. length r.sources.items ≡ length sources.items) }
+    ensures ends { IfOk result (λ r. length r.ends.items ≡ length sources.items) }
+    ensures back { IfErr result (λ e. (e.0.items ≡ sources.items) × (e.1.items ≡ wires.items)) }
+{
+    let served = serve_inputs(
+        rt,
+        alloc,
+        sizes,
+        workers,
+        sources,
+        wires,
+        gate,
+        &|w: Box<dyn Wire>, piece: &[u8]| -> (Box<dyn Wire>, bool)
+            ensures { 0 < length piece.now → PutIs result.1 piece.now (wire_told w) (wire_told result.0) }
+        { put(w, piece) },
+        &|w: Box<dyn Wire>| -> (Box<dyn Wire>, bool)
+            ensures { FlushIs result.1 (wire_told w) (wire_told result.0) }
+        { flush(w) },
+    );
+    match served {
+        Ok(served) => Ok(served),
+        Err(back) => Err(back),
+    }
+}

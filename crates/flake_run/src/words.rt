@@ -1,0 +1,59 @@
+// The words of the command line.
+ghost use Rattle.std.specs.Prelude.{◌≡◌, ◌<◌, ◌≤◌, length, IfOk, IfSome};
+ghost use Rattle.std.specs.Option.{option_map};
+ghost use Rattle.serve_inputs.specs.Opened.{IsSized};
+ghost use Rattle.serve_words.specs.Task.{IsAllowed, shown};
+ghost use Rattle.flake_run.specs.Task.{job_of, shown_task, sizes_of, task_of};
+
+use flake_base::Memory;
+use serve_inputs::Sizes;
+use serve_words::{ServeTask, serve_task};
+use std::alloc::Global;
+
+/// The files that are to be served, the sizes to serve them with, how many workers do it, and whether the journal is
+/// what is said of it.
+#[derive(Debug, Drop)]
+pub struct FilesTask<'a> {
+    pub files: Vec<&'a str>,
+    pub sizes: Sizes,
+    pub workers: u16,
+    pub journal: bool,
+}
+
+/// The task that the words ask for; none where they are bad words.
+pub fn files_task<'a>(alloc: Global, words: &'a [String]) -> Result<Option<FilesTask<'a>>, Memory>
+    ensures value { IfOk result (λ task. option_map shown_task task ≡ task_of words.entry.now) }
+    ensures sized { IfOk result (λ task. IfSome task (λ t. IsSized (length t.files.items) t.sizes)) }
+    ensures workers { IfOk result (λ task. IfSome task (λ t. (0 < t.workers) × (t.workers ≤ 16))) }
+{
+    match serve_task(alloc, words)? {
+        Some(task) => Ok(Some(sized_task(task))),
+        None => Ok(None),
+    }
+}
+
+fn sized_task<'a>(task: ServeTask<'a>) -> FilesTask<'a>
+    requires { IsAllowed (shown task) }
+    ensures value { shown_task result ≡ job_of (shown task.entry) }
+    ensures sized { IsSized (length result.files.items) result.sizes }
+    ensures workers { (0 < result.workers) × (result.workers ≤ 16) }
+{
+    FilesTask {
+        sizes: sizes_of(&task.sizes),
+        workers: task.workers,
+        journal: task.journal,
+        files: task.files,
+    }
+}
+
+fn sizes_of(sizes: &serve_words::Sizes) -> Sizes
+    ensures { result ≡ sizes_of sizes.now }
+{
+    Sizes {
+        shards: sizes.shards,
+        small: sizes.small,
+        large: sizes.large,
+        ring: sizes.ring,
+        threshold: sizes.threshold,
+    }
+}

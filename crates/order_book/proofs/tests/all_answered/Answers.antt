@@ -1,8 +1,0 @@
-use Rattle.std.proofs.Common.{◌≡◌, [], sym, subst}
-use Rattle.view_sums.specs.Total.{Each}
-use Rattle.order_book.specs.Pages.{ShardList}
-use Rattle.order_book.proofs.Shown.{none_told}
-use Rattle.order_book.proofs.tests.all_answered.Goals as goal
-
-pub shelves_of-requires : goal.shelves_of-requires
-shelves_of-requires g c = subst (Each (λ (list : ShardList). list.told ≡ [])) (sym c.name-book.ensures.shards) (none_told 0 g.N.BookName.sizes.shards)

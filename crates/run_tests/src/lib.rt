@@ -1,0 +1,5 @@
+//! Tests of whole runs, over memory.
+#![tactic(auto)]
+
+#[cfg(test)]
+mod tests;

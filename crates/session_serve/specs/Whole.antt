@@ -1,0 +1,36 @@
+-- How many of a session's replies its wire was sent whole, and their bytes.
+use Rattle.std.specs.Prelude.{◌≡◌, ℕ, Bool, false, List, length, take}
+use Rattle.std.specs.Borrow.{Bor}
+use Rattle.flake_base.specs.Told.{raised}
+use Rattle.any_wire.specs.Sends.{Sends}
+use Rattle.reply_planner.specs.Parcels.{Sent}
+use Rattle.device_model.specs.declared.gathered.Gathered.{Gathered}
+use Rattle.device_model.specs.declared.gathered.Gathered.TheVariants as found
+use Rattle.transcript_model.specs.Sessions.{AreWhole, WireGrew, joined}
+use Rattle.drive_model.specs.Matches.{texts_in}
+
+-- how many bytes were put in a whole reply by a call of a device that gives this
+abbrev pub whole_bytes_of : Gathered → ℕ
+whole_bytes_of (found.Sent call bytes) = bytes
+whole_bytes_of (found.Dropped call bytes) = 0
+whole_bytes_of found.Empty = 0
+whole_bytes_of found.Closed = 0
+
+module _ {W : Type 0} (put_may : W → Bor (List ℕ) → (W × Bool) → Type 0) (flush_may : W → (W × Bool) → Type 0) where
+  -- So many of these texts were sent whole, one after another: all of them, where nothing failed; and where something
+  -- did, a front of the next one behind them, if there is one. They have so many bytes, as a `u64` shows it.
+  pub record SentWhole (failed : Bool) (texts : List (List ℕ)) (bytes : ℕ) (old new : W) : Type 0 where
+    pub whole : ℕ
+    pub are_whole : AreWhole failed whole (length texts)
+    pub grew : WireGrew (Sends put_may flush_may false) failed whole texts old new
+    pub bytes_are : bytes ≡ raised 0 (length (joined (take whole texts)))
+
+  -- of some replies more; whatever was sent before
+  abbrev pub KeepsWhole : Bool → Bool → List Sent → List Sent → ℕ → ℕ → W → W → Type 0
+  KeepsWhole failed now before after bytes counted old new = (start : W)
+      → SentWhole failed (texts_in before) bytes start old → SentWhole now (texts_in after) counted start new
+
+  -- with so many bytes more
+  abbrev pub SendsMore : Bool → Bool → List Sent → List Sent → ℕ → W → W → Type 0
+  SendsMore failed now before after more old new = (bytes : ℕ)
+      → KeepsWhole failed now before after bytes (raised bytes more) old new

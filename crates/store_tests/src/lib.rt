@@ -1,0 +1,13 @@
+//! Tests of shards, of the store, and of commands on it, by public items.
+#![tactic(auto)]
+
+#[cfg(test)]
+mod calls;
+#[cfg(test)]
+mod copier;
+#[cfg(test)]
+mod seats;
+#[cfg(test)]
+mod shelves;
+#[cfg(test)]
+mod stores;

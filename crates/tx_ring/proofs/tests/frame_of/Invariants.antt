@@ -1,6 +1,0 @@
-use Rattle.std.proofs.Common.{◌≡◌, length}
-use Rattle.tx_ring.specs.Words.{Each, IsShort}
-use Rattle.tx_ring.proofs.tests.frame_of.Given as goal
-
-abbrev pub invariant-loop-i : goal.invariant-loop-i
-invariant-loop-i l = Each IsShort l.segs.items × (length l.segs.items ≡ l.i)
