@@ -19,6 +19,17 @@ check() {
   fi
 }
 
+# awaits COMMAND..: waits until it ends well, for two minutes at most, so that a check fails and doesn't hang. No check relies
+# on how long anything takes.
+awaits() {
+  for _ in $(seq 1200); do
+    ! "$@" >/dev/null 2>&1 || return 0
+    sleep 0.1
+  done
+  printf 'two minutes went by without: %s\n' "$*"
+  return 1
+}
+
 # leaves_out WHAT WHY: said in place of checks whose means aren't here; they are not counted.
 leaves_out() { printf 'not run %s: %s\n' "$1" "$2"; }
 

@@ -29,11 +29,20 @@ fi
 exit "${ENDS-7}"
 END
 
-# RT_FAILS has it fail, RT_EDITS change a source, RT_WAITS wait for a minute; RT_SHOWS has it take its time.
+# RT_FAILS has it fail, RT_EDITS change a source, RT_WAITS write its number there and wait for a minute, RT_HELD wait until
+# there is such a file. RT_SHOWS has it say how far it is: further where the file RT_SHOWN has the text RT_SHOWS, and where no
+# such file is named after a while.
 cat >"$room/bin/rt" <<'END'
 #!/bin/sh
 echo "$*" >>"$RT_CALLS"
 [ "$(pwd -P | sed 's|.*/||')" = flake_program ] || exit 9
+# waits_for COMMAND..: until it ends well, a minute at most
+waits_for() {
+  for _ in $(seq 600); do ! "$@" || return 0; sleep 0.1; done
+}
+until_shown() {
+  if [ -n "${RT_SHOWN-}" ]; then waits_for grep -q "$1" "$RT_SHOWN"; else sleep 1.5; fi
+}
 if [ "$1" = try ]; then
   echo 'words of rt try' >&2
   [ -z "${RT_FAILS-}" ] || exit 1
@@ -46,9 +55,10 @@ if [ "$1" = try ]; then
 fi
 echo 'words of rt'
 [ -z "${RT_WAITS-}" ] || { echo $$ >"$RT_WAITS"; exec sleep 60; }
+[ -z "${RT_HELD-}" ] || waits_for test -e "$RT_HELD"
 [ -z "${RT_SHOWS-}" ] || {
-  echo 'rt: chose --jobs 4 for low'; echo 'so far: 3 of 9 functions checked'; sleep 1.5
-  echo 'crate low: modules loaded=1 checked=2'; sleep 1.5
+  echo 'rt: chose --jobs 4 for low'; echo 'so far: 3 of 9 functions checked'; until_shown "$RT_SHOWS"
+  echo 'crate low: modules loaded=1 checked=2'; until_shown 'crate 2 of 2'
 }
 [ -z "${RT_FAILS-}" ] || exit 1
 [ -z "${RT_EDITS-}" ] || echo edited >>src/main.rt

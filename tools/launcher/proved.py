@@ -35,9 +35,10 @@ class Proved:
             raise Refused(f"there is no {CRATE} beside this command")
         self.sum = self.sum_of_sources()
         if not self.is_noted():
-            if not self.is_of_gate():
+            if self.is_of_gate():
+                self.write_note()
+            else:
                 self.build()
-            self.write_note()
         self.voice.note("the program that runs was proved from the sources as they stand")
         return self.program
 
@@ -91,8 +92,9 @@ class Proved:
                     "nothing was run. Call it in a clone of your own, or with --unproved"
                 ) from None
             self.run_rt(log)
-        if self.sum_of_sources() != self.sum:
-            raise Refused("the sources changed while they were proved, so nothing was run: call this again")
+            if self.sum_of_sources() != self.sum:
+                raise Refused("the sources changed while they were proved, so nothing was run: call this again")
+            self.write_note()  # (before the next call has its turn, so that it finds the note)
 
     def wait_for_turn(self, held):
         """Waits until no other call builds here. The lock leaves no file, and ends with the call that has it."""
