@@ -1,6 +1,7 @@
 -- At the end no two fragments lie in one buffer.
 use Rattle.std.proofs.Common.{◌≡◌, ℕ, zero, suc, ◌+◌, ◌*◌, ◌<◌, ◌≤◌, ◌⊎◌, inl, inr, cond, List, [], ◌∷◌, Some, map}
-use Rattle.std.proofs.Common.{Bool, true, false, if◌then◌else◌, nat_lt, slice_get, refl, ap, sym, ◌∙◌, subst, eq-eqb, ne_eqb}
+use Rattle.std.proofs.Common.{Bool, true, false, if◌then◌else◌, nat_lt, slice_get, refl, ap, sym, ◌∙◌, subst}
+use Rattle.std.proofs.Common.{eq-eqb, ne_eqb}
 use Rattle.std.proofs.Common.{⊎_elim, arith}
 use mathlib.Core.Logic.{dite}
 use native.Mathlib.Decide.{ℕ_discrete}

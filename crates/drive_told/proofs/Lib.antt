@@ -8,3 +8,4 @@ pub mod Ran
 pub mod Told
 pub mod Joined
 pub mod Wires
+pub mod Worked

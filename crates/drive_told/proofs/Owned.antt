@@ -48,8 +48,8 @@ record HasRunOf (shards n : ℕ) (all : List SessionRun) (list : SessionList) : 
   there : slice_get all place ≡ Some ran
   is : list_of shards (n + place) ran.run ≡ list
 
-run_behind : (shards n : ℕ) (all : List SessionRun) (list : SessionList) → Among (lists_told shards n (runs_in all)) list
-    → HasRunOf shards n all list
+run_behind : (shards n : ℕ) (all : List SessionRun) (list : SessionList)
+    → Among (lists_told shards n (runs_in all)) list → HasRunOf shards n all list
 run_behind shards n [] list among = absurd among
 run_behind shards n (ran ∷ all) list (inl is) =
     let e : n + 0 ≡ n = omega arith in
@@ -82,6 +82,19 @@ list_past shards n [] k is = refl
 list_past shards n (first ∷ all) zero is = absurd (let no : ⊥ = cc in no)
 list_past shards n (first ∷ all) (suc k) is = list_past shards (n + 1) all k is
 
+-- the ranked deed of a list
+record HasRanked (xs : List Ranked) (deed : Deed) : Type 0 where
+  ranked : Ranked
+  among : Among xs ranked
+  is : ranked.deed ≡ deed
+
+behind_own : (xs : List Ranked) (deed : Deed) → Among (own (placed xs)) deed → HasRanked xs deed
+behind_own [] deed among = absurd among
+behind_own (x ∷ xs) deed (inl is) = record { ranked = x; among = inl refl; is = is }
+behind_own (x ∷ xs) deed (inr among) =
+    let rest = behind_own xs deed among in
+    record { ranked = rest.ranked; among = inr rest.among; is = rest.is }
+
 -- an entry that stands for an operation is one of a command's part
 record IsPart (sessions : List (List Command)) (entry : Entry) (operation : Operation) : Type 0 where
   command : Command
@@ -93,7 +106,8 @@ record Gives {A B : Type 0} (f : A → Option B) (from : Option A) (y : B) : Typ
   from_is : from ≡ Some source
   gives : f source ≡ Some y
 
-given_by : {A B : Type 0} (f : A → Option B) (from : Option A) (y : B) → option_and_then f from ≡ Some y → Gives f from y
+given_by : {A B : Type 0} (f : A → Option B) (from : Option A) (y : B) → option_and_then f from ≡ Some y
+    → Gives f from y
 given_by f None y is = absurd (let no : ⊥ = cc in no)
 given_by f (Some x) y is = record { source = x; from_is = refl; gives = is }
 
@@ -211,7 +225,8 @@ module _ (books : Sizes) (all : List SessionRun) (shards : List ShardList) (list
       subst IsToldDeed from.is (shard_told from.page from.ranked from.page_is from.ranked_is)
 
   -- a session's deed stands in its shard's list
-  in_shards : (q : Page) (x : Ranked) → Among qs q → Among q.deeds x → Among (flat_map (λ d. d) (all_deeds shards)) x.deed
+  in_shards : (q : Page) (x : Ranked) → Among qs q → Among q.deeds x
+      → Among (flat_map (λ d. d) (all_deeds shards)) x.deed
   in_shards q x q_is x_is =
       let filed = each-among (λ (y : Ranked). (session_of y ≡ q.number) × (y.shard < books.shards)) q.deeds x
       (each-among (λ (r : Page). Each (λ (y : Ranked). (session_of y ≡ r.number) × (y.shard < books.shards)) r.deeds)
@@ -243,18 +258,16 @@ module _ (books : Sizes) (all : List SessionRun) (shards : List ShardList) (list
         let list : Among lists (list_of books.shards session ran.run) =
         subst (λ l. Among l (list_of books.shards session ran.run)) (sym are.told)
         (subst (λ m. Among (lists_told books.shards 0 (runs_in all)) (list_of books.shards m ran.run)) e
-        (among_place (lists_told books.shards 0 (runs_in all)) session _ (list_there books.shards 0 all session ran is)))
+        (among_place (lists_told books.shards 0 (runs_in all)) session _
+        (list_there books.shards 0 all session ran is)))
         in
         let from = among-mapped shown_session qs (list_of books.shards session ran.run)
         (subst (λ l. Among l (list_of books.shards session ran.run)) are.closed.sessions_shown list) in
         let q = from.source in
         let told : Among (own (placed q.deeds)) deed =
         subst (λ l. Among l deed) (own_is session ran is ∙ sym (ap own_deeds from.is)) among in
-        let pair = among-mapped (λ (told : ℕ × Deed). told.1) (placed q.deeds) deed told in
-        let one = among-mapped (λ (y : Ranked). (y.shard, y.deed)) q.deeds pair.source pair.among in
-        let deed_is : one.source.deed ≡ deed =
-        ap (λ (told : ℕ × Deed). told.1) {x = (one.source.shard, one.source.deed)} one.is ∙ pair.is in
-        subst (Among (flat_map (λ d. d) (all_deeds shards))) deed_is (in_shards q one.source from.among one.among)
+        let one = behind_own q.deeds deed told in
+        subst (Among (flat_map (λ d. d) (all_deeds shards))) one.is (in_shards q one.ranked from.among one.among)
 
   -- a joined list has what its lists have
   shard_behind : (some : List ShardList) (deed : Deed) → Among (flat_map (λ d. d) (all_deeds some)) deed

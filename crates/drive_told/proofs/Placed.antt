@@ -1,6 +1,7 @@
 -- Where the final values of a history lie: each place is that of a fragment which is left.
 use Rattle.std.proofs.Common.{◌≡◌, ℕ, zero, suc, ◌+◌, ◌≤◌, ◌⊎◌, inl, inr, Bool, true, false, cond, List, [], ◌∷◌, ◌++◌}
-use Rattle.std.proofs.Common.{Option, None, Some, length, map, slice_get, unwrap_or, zip, refl, ap, sym, ◌∙◌, subst, eq-eqb}
+use Rattle.std.proofs.Common.{Option, None, Some, length, map, slice_get, unwrap_or, zip, refl, ap, sym, ◌∙◌, subst}
+use Rattle.std.proofs.Common.{eq-eqb}
 use Rattle.std.proofs.Common.{arith}
 use Rattle.std.specs.List.{flat_map}
 use Rattle.std.specs.Ordering.{nat_cmp, eq_by_cmp, is_eq}

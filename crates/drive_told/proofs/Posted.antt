@@ -55,7 +55,8 @@ many_next (Some command) many =
 -- what holds of each part holds of each deed of a call
 by_part : (P : Operation → Type 0) (shards session call number : ℕ) (operations : List Operation)
     (outcomes : Outcomes) → AllByRecursion P operations
-    → AllByRecursion (λ (deed : Deed). P deed.operation) (own (call_told shards session call number operations outcomes))
+    → AllByRecursion (λ (deed : Deed). P deed.operation)
+    (own (call_told shards session call number operations outcomes))
 by_part P shards session call number operations [] all = tt
 by_part P shards session call number [] (outcome ∷ outcomes) all = tt
 by_part P shards session call number (operation ∷ operations) (None ∷ outcomes) all =

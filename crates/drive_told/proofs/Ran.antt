@@ -9,7 +9,8 @@ use Rattle.flake_model.specs.Session.{IsSession}
 use Rattle.flake_model.specs.Wire.{WiresGrew}
 use Rattle.pin_core.specs.declared.sizes.Sizes.{Sizes}
 use Rattle.serve_model.specs.Handed.{SessionRun, session_in, runs_in, AreServed}
-use Rattle.serve_model.specs.Runs.{Run, IsRun, run_text, run_texts, replies_told, lists_told, texts_told, all_texts_told}
+use Rattle.serve_model.specs.Runs.{Run, IsRun, run_text, run_texts, replies_told, lists_told, texts_told}
+use Rattle.serve_model.specs.Runs.{all_texts_told}
 use Rattle.serve_model.specs.Seats.{AreSpentSeats}
 use Rattle.transcript_model.specs.Lines.{Said}
 use Rattle.transcript_model.specs.Sessions.{Sending, events_of}
@@ -100,8 +101,8 @@ module _ {W : Type 0} (sends : Sending W) (z : Sizes) (shards ring threshold : �
       (λ i. text i ∷ texts_are (session + 1) each all.1 i)
 
   pub wires_are : (session : ℕ) (each : List (OneDriven W)) (all : Drove session each)
-      → WiresGrew (texts_told (runs_in (runs_from session each all))) (untold (map (λ (one : OneDriven W). one.end) each))
-      (untold (map (λ (one : OneDriven W). one.end) each))
+      → WiresGrew (texts_told (runs_in (runs_from session each all)))
+      (untold (map (λ (one : OneDriven W). one.end) each)) (untold (map (λ (one : OneDriven W). one.end) each))
   wires_are session [] all = refl
   wires_are session (one ∷ each) all = (refl, wires_are (session + 1) each all.1)
 

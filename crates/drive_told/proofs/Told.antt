@@ -98,7 +98,8 @@ module _ {W : Type 0} (sends : Sending W) (z : Sizes) (shards ring threshold : �
     told : IsTold (terms_of run (own_of lists_in session) session one.end one.stage (slice_index wholes session))
         (events_of session lines)
     grew : WireGrew sends one.end.failed (slice_index wholes session)
-        (texts_of (terms_of run (own_of lists_in session) session one.end [] (slice_index wholes session))) one.old one.new
+        (texts_of (terms_of run (own_of lists_in session) session one.end [] (slice_index wholes session))) one.old
+        one.new
 
   one_at : (session : ℕ) (one : OneDriven W) → slice_get each session ≡ Some one → IsOne session one
   one_at session one there =
@@ -113,8 +114,8 @@ module _ {W : Type 0} (sends : Sending W) (z : Sizes) (shards ring threshold : �
       let own = terms_of run (own_of lists_in session) session one.end one.stage (slice_index wholes session) in
       record {
         told = subst (λ (t : Terms). IsTold t (events_of session lines)) terms at.0.told;
-        grew = subst (λ (texts : List (List ℕ)). WireGrew sends one.end.failed (slice_index wholes session) texts one.old
-            one.new) (same_texts own [] 0 (take one.end.replies own.commands))
+        grew = subst (λ (texts : List (List ℕ)). WireGrew sends one.end.failed (slice_index wholes session) texts
+            one.old one.new) (same_texts own [] 0 (take one.end.replies own.commands))
             (subst (λ (p : ℕ × Terms). WireGrew sends one.end.failed p.0 (texts_of p.1) one.old one.new)
             (λ i. (whole_is i, terms i)) at.0.grew);
       }

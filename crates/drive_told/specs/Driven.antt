@@ -47,7 +47,8 @@ module _ {W : Type 0} (sends : Sending W) (z : Sizes) (shards ring threshold : �
     pub ran : HasRun z shards session one.input one.left one.end one.list one.seat one.texts
     pub stage_is : IsStage z one.stage
     pub told : IsTold (terms_by session ran.run.commands one) events
-    pub grew : WireGrew sends one.end.failed one.whole (texts_of (terms_by session ran.run.commands one)) one.old one.new
+    pub grew : WireGrew sends one.end.failed one.whole (texts_of (terms_by session ran.run.commands one)) one.old
+        one.new
 
   -- so did each, from a number on
   abbrev pub AllDriven : ℕ → List Said → List (OneDriven W) → Type 0
