@@ -1,0 +1,4 @@
+pub mod Driven
+pub mod Closed
+pub mod Together
+pub mod Worked

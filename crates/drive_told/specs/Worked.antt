@@ -1,0 +1,136 @@
+-- Two driven sessions over one shard, and a pool of one buffer besides their stages: the first sets a key, and its
+-- reply is gathered and given back; then the second gets the key, and its reply is gathered without a line.
+use Rattle.std.specs.Prelude.{ℕ, ◌*◌, false, List, [], ◌∷◌, ◌++◌, Option, Some, None, codes}
+use Rattle.std.specs.List.{range_with_len}
+use Rattle.flake_base.specs.Growth.{Grew}
+use Rattle.flake_base.specs.declared.session.End.TheVariants.{Left}
+use Rattle.flake_model.specs.Command.{Command}
+use Rattle.flake_model.specs.Journal.{shard_of}
+use Rattle.flake_model.specs.Store as part
+use Rattle.pin_core.specs.declared.sizes.Sizes as pool_sizes
+use Rattle.pinned_pool.specs.Ends.{end_of}
+use Rattle.pinned_pool.specs.Moves.{joined}
+use Rattle.pinned_pool.specs.Views.{view}
+use Rattle.pinned_pool.specs.declared.view.View.{View}
+use Rattle.order_book.specs.Closed.{journal_of}
+use Rattle.order_book.specs.Pages.{Ranked, Page, page, ShardList, shown_shard}
+use Rattle.order_book.specs.declared.rule.Sizes as book_sizes
+use Rattle.call_model.specs.Outcomes.{Done, entry_at, deed_of}
+use Rattle.reply_layout.specs.Layout.{segment}
+use Rattle.schedule_text.specs.declared.line.Line.{Line}
+use Rattle.schedule_text.specs.declared.line.Line.TheVariants.{Call, Gather, Reap}
+use Rattle.serve_model.specs.Runs.{Run, list_of}
+use Rattle.serve_model.specs.Worked.{setting, getting, key, bytes, set_input, get_input}
+use Rattle.transcript_model.specs.Lines.{Said, posted, sent, reaped}
+use Rattle.transcript_model.specs.Whole.{stage_from}
+use Rattle.transcript_model.specs.Worked.{one}
+use Rattle.drive_told.specs.Driven.{OneDriven}
+use Rattle.drive_told.specs.Together.{HaveDriven}
+
+abbrev pub pool : pool_sizes.Sizes
+pool = record { small = 257; large = 0; credits = 4 }
+
+abbrev pub books : book_sizes.Sizes
+books = record { shards = 1; sessions = 2 }
+
+-- where the buffer lies behind both stages
+abbrev pub place : List ℕ
+place = 1179648 ∷ []
+
+abbrev pub was_set : Done
+was_set = record { answer = part.done; found = []; first = 0; stored = place }
+
+abbrev pub was_found : Done
+was_found = record { answer = part.value bytes; found = place; first = 0; stored = [] }
+
+-- a session that was asked one command, in so many bytes, and was left behind it
+abbrev pub asked : ℕ → Command → Done → Run
+asked taken command done = record {
+  commands = command ∷ [];
+  calls = (Some done ∷ []) ∷ [];
+  behind = [];
+  looks = [];
+  end = record { end = Left; taken = taken; replies = 1; failed = false };
+}
+
+abbrev pub set_run : Run
+set_run = asked 27 setting was_set
+
+abbrev pub get_run : Run
+get_run = asked 20 getting was_found
+
+-- the buffers that the first session claimed, and the second one
+abbrev pub set_claims : List ℕ
+set_claims = range_with_len 0 128 ++ 256 ∷ []
+
+abbrev pub get_claims : List ℕ
+get_claims = range_with_len 128 128
+
+abbrev pub one_of : ℕ → List ℕ → Run → List ℕ → List ℕ → OneDriven (Option (List ℕ))
+one_of session input run claims text = record {
+  input = Some input;
+  left = Some [];
+  end = run.end;
+  list = list_of 1 session run;
+  seat = view [] 1 claims [] 0 [];
+  texts = text ∷ [];
+  stage = stage_from (128 * session);
+  whole = 1;
+  old = Some [];
+  new = Some text;
+}
+
+abbrev pub both : List (OneDriven (Option (List ℕ)))
+both =
+    one_of 0 set_input set_run set_claims (codes "+OK\r\n")
+    ∷ one_of 1 get_input get_run get_claims (codes "$1\r\nx\r\n")
+    ∷ []
+
+-- the book: both deeds in the shard, in the order of their ranks
+abbrev pub set_deed : Ranked
+set_deed = record {
+  deed = deed_of (entry_at 0 0 0) (part.set part.always false key bytes) was_set;
+  shard = shard_of 1 key;
+  rank = 1;
+}
+
+abbrev pub get_deed : Ranked
+get_deed = record {
+  deed = deed_of (entry_at 1 0 0) (part.get key) was_found;
+  shard = shard_of 1 key;
+  rank = 2;
+}
+
+abbrev pub shard_pages : List Page
+shard_pages = page 0 (set_deed ∷ get_deed ∷ []) ∷ []
+
+abbrev pub session_pages : List Page
+session_pages = page 0 (set_deed ∷ []) ∷ page 1 (get_deed ∷ []) ∷ []
+
+abbrev pub shards : List ShardList
+shards = shown_shard (page 0 (set_deed ∷ get_deed ∷ [])) ∷ []
+
+-- the pool: the shard's seat, and that with which the opening began, the sessions' in it
+abbrev pub store : View
+store = view (record { buffer = 256; front = 120 ∷ []; exclusive = false; pinned = false } ∷ []) 1 [] [] 0 []
+
+abbrev pub main : View
+main = view [] 3 (set_claims ++ get_claims) [] 0 []
+
+abbrev pub schedule : List Line
+schedule = Call 0 ∷ Gather 0 ∷ Reap 0 ∷ Call 1 ∷ []
+
+abbrev pub lines : List Said
+lines =
+    record { session = 0; event = posted 0 0 (one 1048576 5) (one 1179648 1) }
+    ∷ record { session = 0; event = sent 0 5 }
+    ∷ record { session = 0; event = reaped 0 0 }
+    ∷ record {
+      session = 1;
+      event = posted 0 0 (segment 1114112 4 ∷ segment 1179648 1 ∷ segment 1114116 2 ∷ []) [];
+    } ∷ []
+
+-- with rings of 1,160 descriptors, and every stored piece where it lies; another wire is past them
+abbrev pub WorkedDrive : Type 0
+WorkedDrive =
+    HaveDriven Grew pool 1160 1 schedule lines both (None ∷ []) (journal_of shards) (end_of pool (joined main store))
