@@ -48,7 +48,8 @@ class Session:
     def __init__(self, number, text, driven, fails):
         self.number, self.driven, self.wire = number, driven, Wire(fails)
         self.stage = [driven.pool.claim(True) for _ in range(STAGE)]
-        self.commands, self.how_it_ends = commands_of(text), end_of(text)
+        self.how_it_ends = end_of(text)
+        self.commands = commands_of(text, self.how_it_ends)
         self.next = next(self.commands, None)
         self.has_ended = False
         self.posted, self.gathered, self.reaped = [], 0, 0

@@ -25,6 +25,9 @@ def is_front(line, form, most):
 def read_line(text, at, form, most, errors):
     """Returns the number of a line, and the place behind it; or how the input ends within the line: `errors` are those of
     its first byte and of the others."""
+    whole = text.find(b"\n", at, at + LINE)
+    if whole >= 0 and is_front(text[at : whole + 1], form, most):
+        return int(text[at + 1 : whole]), whole + 1
     for size in range(1, LINE + 1):
         line = text[at : at + size]
         if len(line) < size:
@@ -65,9 +68,9 @@ def end_of(text):
     return TOO_LONG if len(text) > MOST_BYTES else CLEAN
 
 
-def commands_of(text):
-    """The words of each request of an input; and at its end, where it breaks the protocol, the text of that error."""
-    end = end_of(text)
+def commands_of(text, end):
+    """The words of each request of an input that ends so; and behind them, where it breaks the protocol, the text of that
+    error."""
     yield from requests(text)
     if end.startswith("ERR"):
         yield end
