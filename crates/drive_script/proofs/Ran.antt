@@ -12,13 +12,13 @@ use Rattle.pin_core.specs.declared.sizes.Sizes.{Sizes}
 use Rattle.pinned_pool.specs.declared.view.View.{View}
 use Rattle.pinned_pool.proofs.SoughtLaws.{sought_still}
 use Rattle.flake_base.specs.declared.session.End.{End}
-use Rattle.flake_base.specs.declared.session.End.TheVariants.{Memory, Left}
+use Rattle.flake_base.specs.declared.session.End.TheVariants.{Left}
 use Rattle.flake_base.specs.declared.session.SessionEnd.{SessionEnd}
 use Rattle.flake_model.specs.Command.{Command, parts}
 use Rattle.flake_model.specs.Journal.{next_parts}
 use Rattle.flake_model.specs.Session.{IsSession, IsTold}
 use Rattle.command_pump.specs.Given.{Gave}
-use Rattle.command_pump.specs.Pump.{PumpState, IsPump, HasEnded, EndFaults, ended_at, session_at}
+use Rattle.command_pump.specs.Pump.{PumpState, EndFaults, ended_at, session_at}
 use Rattle.command_pump.proofs.Pumped.{Meant, meant, stopped_at}
 use Rattle.order_book.specs.Closed.{own_deeds}
 use Rattle.order_book.specs.Pages.{SessionList}
@@ -30,8 +30,7 @@ use Rattle.drive_model.proofs.Lists.{get_front}
 use Rattle.serve_model.specs.Demand.{commands_row}
 use Rattle.serve_model.specs.Going as model
 use Rattle.serve_model.specs.Handed.{HasRun}
-use Rattle.serve_model.specs.Runs.{Run, session_of, list_of, missed_by}
-use Rattle.serve_model.specs.Seats.{IsSpentSeat}
+use Rattle.serve_model.specs.Runs.{Run, session_of, missed_by}
 use Rattle.serve_model.proofs.Going.{going_ends, with_stage}
 use Rattle.session_pass.specs.Kept.{paid_in}
 use Rattle.session_pass.specs.Views.{SessionView}
@@ -44,7 +43,7 @@ use Rattle.drive_script.specs.Driving.{Driving, fixed_at, IsUnderWay}
 use Rattle.drive_script.specs.Lanes.{sends_by}
 use Rattle.drive_script.specs.Left.{terms_at, GathersAll}
 use Rattle.drive_script.specs.Ran.{FlushesOnly, GathersOut, HasDriven}
-use Rattle.drive_script.specs.Running.{IsBetween, IsBroken, IsRunning}
+use Rattle.drive_script.specs.Running.{IsBetween, IsRunning}
 use Rattle.drive_script.proofs.ByPuts.{puts_are_sending}
 use Rattle.drive_script.proofs.Closing.{told_left, sent_left}
 use Rattle.drive_script.proofs.OneMore.{one_wire}

@@ -4,10 +4,8 @@ use Rattle.std.specs.Prelude.{is_some}
 use Rattle.std.proofs.lemmas.List.{map-append}
 use Rattle.view_sums.proofs.Sums.{total-append}
 use Rattle.pin_core.specs.declared.sizes.Sizes.{Sizes}
-use Rattle.pinned_pool.specs.declared.view.View.{View}
 use Rattle.flake_base.specs.declared.segment.Seg.{Seg}
 use Rattle.flake_base.specs.declared.session.End.{End}
-use Rattle.flake_base.specs.declared.session.End.TheVariants as ends
 use Rattle.flake_model.specs.Command.{Command}
 use Rattle.command_pump.specs.Pump.{PumpState}
 use Rattle.order_book.specs.Pages.{SessionList}

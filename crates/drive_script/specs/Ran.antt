@@ -1,5 +1,5 @@
 -- A driven session that has ended: it ran, and what was said of it is right.
-use Rattle.std.specs.Prelude.{◌≡◌, ℕ, Bool, false, List, Option, Some}
+use Rattle.std.specs.Prelude.{◌≡◌, ℕ, Bool, false, List, Some}
 use Rattle.std.specs.Borrow.{Bor}
 use Rattle.any_wire.specs.Sends.{Flushes}
 use Rattle.flake_base.specs.declared.session.SessionEnd.{SessionEnd}
