@@ -2,11 +2,13 @@
 ghost use Rattle.std.specs.Prelude.{◌≡◌, ◌≤◌, ◌<◌, [], All, List, IfOk, IfErr, OnErr, length, map, vec_capacity};
 ghost use Rattle.std.specs.List.{AllZip};
 ghost use Rattle.schedule_text.specs.Text.{session_of};
+ghost use Rattle.session_serve.specs.Working.{IsFresh};
 ghost use Rattle.transcript_model.specs.Lines.{Event};
 ghost use Rattle.drive_script.specs.Driven.{leaving_of, DroveAll};
 ghost use Rattle.drive_script.specs.Driving.{Driving as Shown, driving_of, IsNew, IsUnderWay};
 ghost use Rattle.drive_script.specs.Lanes.{sends_by};
 ghost use Rattle.drive_script.specs.Left.{IsGoing, HasLeft};
+ghost use Rattle.drive_script.specs.Ran.{HasDriven};
 
 use crate::driving::Driving;
 use crate::leaving::Account;
@@ -52,11 +54,12 @@ pub fn drive<
     requires calls { PUT.IsAlwaysCallable put.now × FLUSH.IsAlwaysCallable flush.now }
     requires there { All (λ line. session_of line < length sessions.items) schedule.now }
     requires fresh { All (λ d. IsNew P.sizes (driving_of d.lane.session d.lane.device.failed d.lane.device.end
-        d.asking.kept d.asking.end d.asking.pump d.wire)) sessions.items }
-    ensures driven { IfOk result (λ driven. DroveAll (sends_by (λ w p r. PUT.post put.now w p r)
-        (λ w r. FLUSH.post flush.now w r)) P.sizes (map (λ d. driving_of d.lane.session d.lane.device.failed
-        d.lane.device.end d.asking.kept d.asking.end d.asking.pump d.wire) sessions.items) schedule.now
-        (map (λ a. leaving_of a.end a.mine a.pump a.wire) driven.accounts.items) driven.failed
+        d.asking.kept d.asking.end d.asking.pump d.wire) × IsFresh P.sizes d.lane.session d.asking.pump)
+        sessions.items }
+    ensures driven { IfOk result (λ driven. DroveAll (λ w p r. PUT.post put.now w p r)
+        (λ w r. FLUSH.post flush.now w r) P.sizes N.sizes.shards (map (λ d. driving_of d.lane.session
+        d.lane.device.failed d.lane.device.end d.asking.kept d.asking.end d.asking.pump d.wire) sessions.items)
+        schedule.now (map (λ a. leaving_of a.end a.mine a.seat a.pump a.wire) driven.accounts.items) driven.failed
         (H.host_told host.old) (H.host_told host.new)) }
     ensures back { IfErr result (λ back. back ≡ sessions) }
     ensures silent { OnErr result (host.new ≡ host.old) }
@@ -99,15 +102,17 @@ fn leave_all<
 ) -> Vec<Account<N, P, S, W>>
     requires calls { PUT.IsAlwaysCallable put.now × FLUSH.IsAlwaysCallable flush.now }
     requires going { All (λ d. IsGoing (sends_by (λ w p r. PUT.post put.now w p r) (λ w r. FLUSH.post flush.now w r))
-        P.sizes (driving_of d.lane.session d.lane.device.failed d.lane.device.end d.asking.kept d.asking.end
-        d.asking.pump d.wire)) sessions.items }
+        P.sizes N.sizes.shards (driving_of d.lane.session d.lane.device.failed d.lane.device.end d.asking.kept
+        d.asking.end d.asking.pump d.wire)) sessions.items }
     requires room { (accounts.items ≡ []) × (length sessions.items ≤ vec_capacity accounts) }
     ensures { AllZip (λ d a. (first : Shown W) (events : List Event)
-        → IsUnderWay (sends_by (λ w p r. PUT.post put.now w p r) (λ w r. FLUSH.post flush.now w r)) P.sizes first
-        events (driving_of d.lane.session d.lane.device.failed d.lane.device.end d.asking.kept d.asking.end
-        d.asking.pump d.wire)
+        → IsUnderWay (sends_by (λ w p r. PUT.post put.now w p r) (λ w r. FLUSH.post flush.now w r))
+        P.sizes N.sizes.shards first events (driving_of d.lane.session d.lane.device.failed d.lane.device.end
+        d.asking.kept d.asking.end d.asking.pump d.wire)
         → HasLeft (sends_by (λ w p r. PUT.post put.now w p r) (λ w r. FLUSH.post flush.now w r)) P.sizes first
-        events a.end a.mine a.pump a.wire) sessions.items result.items }
+        events a.end a.mine a.pump a.wire
+        × HasDriven (λ w p r. PUT.post put.now w p r) (λ w r. FLUSH.post flush.now w r) P.sizes N.sizes.shards first
+        events a.end a.mine a.seat a.pump a.wire) sessions.items result.items }
 {
     let mut accounts = accounts;
     for session in sessions {
