@@ -1,6 +1,6 @@
 //! What the clauses of driven sessions, of the book and of the pool imply together, as contracts of calls that do
 //! nothing.
-ghost use Rattle.std.specs.Prelude.{Bool, List, ℕ};
+ghost use Rattle.std.specs.Prelude.{false};
 ghost use Rattle.any_wire.specs.Sends.{Sends};
 ghost use Rattle.drive_told.specs.Together.{DrivenTogether, TranscriptTold};
 
