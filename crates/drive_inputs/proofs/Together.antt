@@ -178,7 +178,7 @@ module _ {W D A : Type 0} (put_may : W → Bor (List ℕ) → (W × Bool) → Ty
       let own : List (OneDriven W) = ones drove all in
       let are = subst (λ (n : ℕ). AreDriven (sends_by put_may flush_may) z n ring threshold drove.lines own lists main)
       shards_are (are_driven ring threshold lists spare main drove all fit lists_is empty joins) in
-      let have = together books z ring threshold schedule drove.lines own past end.shards lists journal main end.store
+      let has = together books z ring threshold schedule drove.lines own past end.shards lists journal main end.store
       end.last closed drove.answers are (record {
         parts = end.parts;
         book = end.tied;
@@ -206,16 +206,16 @@ module _ {W D A : Type 0} (put_may : W → Bor (List ℕ) → (W × Bool) → Ty
       let drove_ones : DroveInputs put_may flush_may z ring threshold schedule failed
       (map (λ (one : OneDriven W). one.input) own) (map (λ (one : OneDriven W). one.left) own)
       (map (λ (one : OneDriven W). one.end) own) journal closed first_olds first_news old new = record {
-        ran = have.ran;
+        ran = has.ran;
         sends = subst (λ (texts : List (Bool × List ℕ)). AllSent put_may flush_may texts first_olds first_news)
-            (sym have.texts_are) (each.all_sent put_may flush_may z shards drove.lines past 0 firsts lasts all);
+            (sym has.texts_are) (each.all_sent put_may flush_may z shards drove.lines past 0 firsts lasts all);
         lines = drove.lines;
         said = drove.said;
-        own = have.own;
-        shards = have.shards;
-        told_by = have.told_by;
-        sources = have.sources;
-        apart = have.apart;
+        own = has.own;
+        shards = has.shards;
+        told_by = has.told_by;
+        sources = has.sources;
+        apart = has.apart;
       } in
       subst (λ (q : pool_sizes.Sizes × List (Option (List ℕ)) × List (Option (List ℕ)) × List SessionEnd × List W × List W).
       DroveInputs put_may flush_may q.0 ring threshold schedule failed q.1 q.2 q.3 journal closed q.4 q.5 old new)
