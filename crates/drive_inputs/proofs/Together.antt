@@ -22,8 +22,7 @@ use Rattle.std.proofs.Common.{
   arith,
 }
 use Rattle.std.specs.Borrow.{Bor}
-use Rattle.std.specs.List.{flat_map, range_with_len}
-use Rattle.std.proofs.lemmas.List.{map-append, length-map}
+use Rattle.std.proofs.lemmas.List.{map-append, length-map, length-append}
 use Rattle.std.proofs.lemmas.List.Elements.{All-head, All-tail}
 use Rattle.view_sums.specs.Total.{Each}
 use Rattle.flake_base.specs.Told.{HostTold}
@@ -40,7 +39,6 @@ use Rattle.session_pass.specs.Views.{SessionView}
 use Rattle.drive_script.specs.Driven.{Leaving, DroveAll}
 use Rattle.drive_script.specs.Driving.{Driving}
 use Rattle.drive_script.specs.Lanes.{sends_by}
-use Rattle.drive_told.specs.Closed.{WereClosed}
 use Rattle.drive_told.specs.Driven.{OneDriven, AreDriven}
 use Rattle.drive_told.specs.Together.{DrivenTogether}
 use Rattle.serve_house.specs.Closed.{WasClosed}
@@ -220,6 +218,20 @@ module _ {W D A : Type 0} (put_may : W → Bor (List ℕ) → (W × Bool) → Ty
       subst (λ (q : pool_sizes.Sizes × List (Option (List ℕ)) × List (Option (List ℕ)) × List SessionEnd × List W × List W).
       DroveInputs put_may flush_may q.0 ring threshold schedule failed q.1 q.2 q.3 journal closed q.4 q.5 old new)
       (λ i. (same i, a i, b i, e i, o i, n i)) drove_ones
+
+-- how many wires there are, with those past the sessions
+pub wires_past : {D W : Type 0} (drivings : List D) (wire : D → Option W) (past olds : List W)
+    → map wire drivings ++ map Some past ≡ map Some olds → length drivings + length past ≡ length olds
+wires_past {D} {W} drivings wire past olds is =
+    let all = ap (λ (l : List (Option W)). length l) is in
+    omega (
+      arith,
+      all,
+      length-append (map wire drivings) (map Some past),
+      length-map drivings wire,
+      length-map past Some,
+      length-map olds Some,
+    )
 
 -- the credits of desks' sessions
 pub credits_of : {K : Type 0} (P : K → Type 0) (own : K → SessionView) → ((k : K) → P k → HasCredits (own k))
