@@ -9,7 +9,8 @@ use Rattle.pin_core.specs.declared.sizes.Sizes.{Sizes}
 use Rattle.pinned_pool.specs.Ends.{End}
 use Rattle.schedule_text.specs.declared.line.Line.{Line}
 use Rattle.transcript_model.specs.Transcript.{IsTranscript}
-use Rattle.drive_told.specs.Drove.{DroveInputs, driven_run}
+use Rattle.drive_inputs.specs.Drove.{DroveInputs}
+use Rattle.drive_told.specs.Together.{driven_run}
 use Rattle.wire_told.specs.Sent.{AreTold}
 
 -- the bytes that each wire has, where it tells them

@@ -4,8 +4,8 @@ use Rattle.std.specs.Prelude.{slice_index_or, remove}
 use Rattle.std.specs.List.{AllByRecursion, flat_map, range_with_len}
 use Rattle.flake_base.specs.Told.{HostTold, WireTold}
 use Rattle.pinned_pool.specs.Ends.{End}
-use Rattle.serve_inputs.specs.Opened.{pool_sizes}
-use Rattle.serve_inputs.specs.declared.sizes.Sizes.{Sizes}
+use Rattle.serve_house.specs.Opened.{pool_sizes}
+use Rattle.serve_house.specs.declared.sizes.Sizes.{Sizes}
 use Rattle.transcript_model.specs.Lines.{held_text, line_text}
 use Rattle.drive_script.specs.Says.{Says}
 use Rattle.drive_script.proofs.Sayings.{says_then}

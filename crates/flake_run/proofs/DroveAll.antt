@@ -7,11 +7,11 @@ use Rattle.flake_base.specs.Told.{HostTold, WireTold}
 use Rattle.flake_base.specs.declared.session.SessionEnd.{SessionEnd}
 use Rattle.flake_model.specs.Run.{all_commands}
 use Rattle.flake_model.specs.Wire.{FaultIs}
-use Rattle.serve_inputs.specs.Opened.{pool_sizes}
+use Rattle.serve_house.specs.Opened.{pool_sizes}
 use Rattle.replay_check.specs.declared.verdict.Verdict.{Verdict}
 use Rattle.replay_check.specs.declared.verdict.Verdict.TheVariants.{Same, Differs, BadJournal}
 use Rattle.transcript_model.specs.Transcript.{IsSaid}
-use Rattle.drive_told.specs.Drove.{driven_run}
+use Rattle.drive_told.specs.Together.{driven_run}
 use Rattle.flake_run.specs.Checked.{ConcludesBy, IsConcluded, IsStatus, NoneOpened}
 use Rattle.flake_run.specs.Driven.{CameOf, NotDriven, WasDriven}
 use Rattle.flake_run.specs.DriveTask.{Drive, IsUndrivable, served_names}

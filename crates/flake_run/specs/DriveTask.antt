@@ -2,7 +2,7 @@
 use Rattle.std.specs.Prelude.{ℕ, ◌<◌, List, Option, Some, None, String, length, map, drop}
 use Rattle.std.specs.Global.{Global}
 use Rattle.std.specs.Option.{option_map}
-use Rattle.serve_inputs.specs.declared.sizes.Sizes.{Sizes}
+use Rattle.serve_house.specs.declared.sizes.Sizes.{Sizes}
 use Rattle.serve_words.specs.Drive as words
 use Rattle.serve_words.specs.Task.{texts_of}
 use Rattle.serve_words.specs.declared.drive.DriveTask.{DriveTask}

@@ -12,14 +12,14 @@ use Rattle.pin_core.specs.declared.sizes.Sizes as pool
 use Rattle.pinned_pool.specs.Claims.{count_of}
 use Rattle.pinned_pool.specs.Ends.{End}
 use Rattle.schedule_text.specs.declared.line.Line.{Line}
-use Rattle.serve_inputs.specs.Opened.{pool_sizes}
-use Rattle.serve_inputs.specs.declared.sizes.Sizes.{Sizes}
+use Rattle.serve_house.specs.Opened.{pool_sizes}
+use Rattle.serve_house.specs.declared.sizes.Sizes.{Sizes}
 use Rattle.serve_model.specs.Demand.{demand_of}
 use Rattle.serve_model.specs.Shown.{IsCounted}
 use Rattle.transcript_model.specs.Lines.{Said, line_text}
 use Rattle.transcript_model.specs.Transcript.{IsSaid, IsTranscript}
 use Rattle.drive_script.specs.Says.{Says}
-use Rattle.drive_told.specs.Drove.{driven_run}
+use Rattle.drive_told.specs.Together.{driven_run}
 use Rattle.flake_run.specs.Causes.{AreCountsOf, highest_by}
 use Rattle.flake_run.specs.Checked.{IsConcluded}
 use Rattle.flake_run.specs.Outcome.{Done, ways, files_of, lefts_of, read_faults_of}

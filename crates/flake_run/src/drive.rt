@@ -1,6 +1,6 @@
 // The command `drive`, over any host and any wires.
 ghost use Rattle.std.specs.Prelude.{◌≡◌, ◌<◌, ◌≤◌, [], All, length, map, vec_capacity};
-ghost use Rattle.serve_inputs.specs.Opened.{IsSized};
+ghost use Rattle.serve_house.specs.Opened.{IsSized};
 ghost use Rattle.transcript_model.specs.Lines.{held_text};
 ghost use Rattle.drive_script.specs.Says.{Says};
 ghost use Rattle.drive_show.specs.Held.{held_room};
@@ -20,7 +20,7 @@ use crate::words::sizes_of;
 use drive_show::{HELD_ROOM, held_line};
 use flake_base::{Host, Memory, Source, Wire};
 use pin_core::Held;
-use serve_inputs::Sizes;
+use serve_house::Sizes;
 use serve_words::drive_task;
 use std::alloc::Global;
 use std::sync::Wait;

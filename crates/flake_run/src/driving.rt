@@ -1,8 +1,8 @@
 // Sources that are driven by a schedule, to the first wires.
 ghost use Rattle.std.specs.Prelude.{◌≡◌, ◌<◌, ◌≤◌, All, IfErr, IfOk, OnErr, OnOk, length, map};
 ghost use Rattle.schedule_text.specs.Text.{session_of};
-ghost use Rattle.serve_inputs.specs.Opened.{IsSized, pool_sizes};
-ghost use Rattle.serve_inputs.specs.Ran.{AreReads};
+ghost use Rattle.serve_house.specs.Opened.{IsSized, pool_sizes};
+ghost use Rattle.serve_house.specs.Ran.{AreReads};
 ghost use Rattle.shard_store.specs.Journals.{histories};
 ghost use Rattle.wire_told.specs.Sent.{FlushIs, PutIs};
 ghost use Rattle.flake_run.specs.Driven.{IsDrivenBy, IsDrivenRun};
@@ -14,7 +14,7 @@ use crate::source::{flush, put};
 use drive_inputs::{Driven, drive_inputs};
 use flake_base::{Host, Source, Wire};
 use schedule_text::Line;
-use serve_inputs::Sizes;
+use serve_house::Sizes;
 use std::alloc::Global;
 use std::sync::Wait;
 

@@ -1,7 +1,7 @@
 use Rattle.std.proofs.Common.{◌≡◌, length, map, arith, sym, subst}
 use Rattle.std.proofs.lemmas.List.{length-map}
 use Rattle.shard_store.specs.Journals.{histories}
-use Rattle.serve_inputs.specs.Opened.{pool_sizes}
+use Rattle.serve_house.specs.Opened.{pool_sizes}
 use Rattle.flake_run.specs.Driven.{IsDrivenRun}
 use Rattle.flake_run.specs.Schedule.{HasSchedule}
 use Rattle.flake_run.proofs.driving.drive_by.Goals as goal

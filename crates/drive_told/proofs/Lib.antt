@@ -1,0 +1,10 @@
+pub mod Lists
+pub mod Found
+pub mod Posted
+pub mod Owned
+pub mod Placed
+pub mod Apart
+pub mod Ran
+pub mod Told
+pub mod Joined
+pub mod Wires

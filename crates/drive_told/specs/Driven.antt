@@ -1,0 +1,65 @@
+-- What driven sessions hand up, one by one and together.
+use Rattle.std.specs.Prelude.{◌≡◌, ℕ, ◌+◌, List, [], ◌∷◌, Option, map}
+use Rattle.flake_base.specs.declared.session.SessionEnd.{SessionEnd}
+use Rattle.flake_model.specs.Command.{Command}
+use Rattle.pin_core.specs.declared.sizes.Sizes.{Sizes}
+use Rattle.pinned_pool.specs.declared.view.View.{View}
+use Rattle.order_book.specs.Closed.{own_deeds}
+use Rattle.order_book.specs.Pages.{SessionList}
+use Rattle.serve_model.specs.Handed.{HasRun}
+use Rattle.serve_model.specs.Seats.{HasAll, IsSpare}
+use Rattle.transcript_model.specs.Lines.{Event, Said}
+use Rattle.transcript_model.specs.Sessions.{Sending, WireGrew, IsTold, events_of, texts_of}
+use Rattle.transcript_model.specs.Terms.{Terms}
+use Rattle.transcript_model.specs.Transcript.{IsStage}
+
+-- what comes of one session: its end, its list, its seat, its replies' texts, the addresses of its staging buffers, how
+-- many replies were sent whole, and its wire before and behind it
+pub record OneDriven (W : Type 0) : Type 0 where
+  pub input : Option (List ℕ)
+  pub left : Option (List ℕ)
+  pub end : SessionEnd
+  pub list : SessionList
+  pub seat : View
+  pub texts : List (List ℕ)
+  pub stage : List ℕ
+  pub whole : ℕ
+  pub old : W
+  pub new : W
+
+module _ {W : Type 0} (sends : Sending W) (z : Sizes) (shards ring threshold : ℕ) where
+  -- what its lines are judged by, where its input asks for these commands
+  abbrev pub terms_by : ℕ → List Command → OneDriven W → Terms
+  terms_by session commands one = record {
+    number = session;
+    sizes = z;
+    ring = ring;
+    threshold = threshold;
+    stage = one.stage;
+    commands = commands;
+    end = one.end;
+    whole = one.whole;
+    deeds = own_deeds one.list;
+  }
+
+  -- The session ran, what was said of it is right by its own list, and its wire was sent the texts of its replies.
+  pub record IsDriven (session : ℕ) (events : List Event) (one : OneDriven W) : Type 0 where
+    pub ran : HasRun z shards session one.input one.left one.end one.list one.seat one.texts
+    pub stage_is : IsStage z one.stage
+    pub told : IsTold (terms_by session ran.run.commands one) events
+    pub grew : WireGrew sends one.end.failed one.whole (texts_of (terms_by session ran.run.commands one)) one.old one.new
+
+  -- so did each, from a number on
+  abbrev pub AllDriven : ℕ → List Said → List (OneDriven W) → Type 0
+  AllDriven session lines [] = Unit {0}
+  AllDriven session lines (one ∷ others) =
+      IsDriven session (events_of session lines) one × AllDriven (session + 1) lines others
+
+  -- All sessions did; the lists and the seat are theirs, but for a seat that has nothing.
+  pub record AreDriven (lines : List Said) (each : List (OneDriven W)) (lists : List SessionList) (main : View) : Type 0
+    where
+      pub all : AllDriven 0 lines each
+      pub lists_are : lists ≡ map (λ (one : OneDriven W). one.list) each
+      pub spare : View
+      pub spare_is : IsSpare spare
+      pub seats : HasAll (spare ∷ map (λ (one : OneDriven W). one.seat) each) main
