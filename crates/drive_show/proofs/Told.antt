@@ -1,22 +1,17 @@
 -- A transcript, by what wires tell of what was put on them.
-use Rattle.std.proofs.Common.{◌≡◌, ◌≤◌, ℕ, zero, suc, Bool, false, List, [], ◌∷◌, Option, Some, Bor, length, map, slice_get, slice_index, arith, refl, sym, ap, ◌∙◌, subst}
+use Rattle.std.proofs.Common.{◌≡◌, ℕ, zero, suc, Bool, false, List, [], ◌∷◌, Some, Bor, map, slice_get, slice_index, arith, refl, sym, ◌∙◌, subst}
 use Rattle.std.proofs.lemmas.List.{length-map}
 use Rattle.flake_base.specs.Growth.{Grew}
-use Rattle.flake_base.specs.Told.{HostTold, WireTold}
-use Rattle.flake_base.specs.declared.journal.Entry.{Entry}
-use Rattle.flake_base.specs.declared.session.SessionEnd.{SessionEnd}
+use Rattle.flake_base.specs.Told.{WireTold}
 use Rattle.flake_model.specs.Deed.{Deed}
 use Rattle.flake_model.specs.Run.{all_commands}
-use Rattle.pin_core.specs.declared.sizes.Sizes.{Sizes}
-use Rattle.pinned_pool.specs.Ends.{End}
 use Rattle.schedule_text.specs.declared.line.Line.{Line}
 use Rattle.transcript_model.specs.Lines.{Said}
 use Rattle.transcript_model.specs.Sessions.{WireGrew, texts_of}
-use Rattle.transcript_model.specs.Transcript.{AreSent, IsToldBy, IsTranscript, Run, terms_of}
+use Rattle.transcript_model.specs.Transcript.{AreSent, IsToldBy, Run, terms_of}
 use Rattle.transcript_model.proofs.Sourced.{sourced}
 use Rattle.drive_script.specs.Lanes.{sends_by}
-use Rattle.drive_inputs.specs.Drove.{DroveInputs}
-use Rattle.drive_told.specs.Together.{driven_run}
+use Rattle.drive_told.specs.Drove.{driven_run}
 use Rattle.drive_show.specs.Shown.{IsTranscriptTold, sent_on}
 use Rattle.wire_told.specs.Sent.{AreTold}
 use Rattle.wire_told.proofs.Sent.{sends_told}

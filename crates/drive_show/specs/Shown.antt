@@ -29,6 +29,6 @@ module _
       (failed : Bool) (inputs lefts : List (Option (List ℕ))) (ends : List SessionEnd) (journal : List (List Entry))
       (closed : End) (olds news : List W) (old new : HostTold)
       (d : DroveInputs put_may flush_may z ring threshold schedule failed inputs lefts ends journal closed olds news old
-        new)
+      new)
       → IsTranscript (driven_run z ring threshold (all_commands d.ran.served.sessions) ends journal closed)
       (sent_on tells olds) (sent_on tells news) schedule d.lines

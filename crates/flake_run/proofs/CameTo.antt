@@ -1,5 +1,5 @@
 -- What came of sources that were driven, or of which the schedule's gave none.
-use Rattle.std.proofs.Common.{◌≡◌, ◌≢◌, ◌≤◌, ◌<◌, ℕ, ◌-◌, zero, suc, ◌||◌, Bool, false, List, [], ◌∷◌, ◌++◌, Option, Some, length, map, drop, arith, refl, sym, ap, ◌∙◌, subst, ⊎_elim}
+use Rattle.std.proofs.Common.{◌≡◌, ◌≢◌, ◌≤◌, ◌<◌, ℕ, ◌-◌, suc, ◌||◌, Bool, false, List, [], ◌∷◌, ◌++◌, Option, Some, length, map, drop, arith, refl, ap, ⊎_elim}
 use Rattle.std.specs.Prelude.{slice_index_or, remove}
 use Rattle.std.specs.List.{AllByRecursion, flat_map, range_with_len}
 use Rattle.flake_base.specs.Told.{HostTold, WireTold}
@@ -11,7 +11,7 @@ use Rattle.drive_script.specs.Says.{Says}
 use Rattle.drive_script.proofs.Sayings.{says_then}
 use Rattle.flake_run.specs.Causes.{AreCountsOf, highest_by}
 use Rattle.flake_run.specs.Checked.{ConcludesBy, IsConcluded}
-use Rattle.flake_run.specs.Driven.{CameOf, IsDrivenBy, NotDriven, WasDriven, some_put_failed, status_with}
+use Rattle.flake_run.specs.Driven.{CameOf, IsDrivenBy, NotDriven, some_put_failed, status_with}
 use Rattle.flake_run.specs.Outcome.{Done, SourceTold, files_of, lefts_of, read_faults_of, ways}
 use Rattle.flake_run.specs.Outside.{LeavesFiles, outside}
 use Rattle.flake_run.specs.Schedule.{IsUndriven}

@@ -1,5 +1,5 @@
 -- Driven sources are a served run of their sessions, of which the lines are a transcript.
-use Rattle.std.proofs.Common.{◌≡◌, ℕ, Bool, List, Option, Bor, map, length, sym, subst, refl, ap, ◌∙◌}
+use Rattle.std.proofs.Common.{ℕ, Bool, List, Option, Bor, map, sym, subst}
 use Rattle.flake_base.specs.Told.{HostTold, WireTold}
 use Rattle.flake_base.specs.declared.journal.Entry.{Entry}
 use Rattle.flake_base.specs.declared.session.SessionEnd.{SessionEnd}

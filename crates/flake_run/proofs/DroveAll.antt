@@ -1,21 +1,18 @@
 -- What a run of `drive` says, by what came of the files that it opened.
-use Rattle.std.proofs.Common.{◌≡◌, ◌≢◌, ◌⊎◌, ◌≤◌, ◌<◌, inl, inr, ℕ, ◌-◌, zero, suc, ◌||◌, Bool, true, false, List, [], ◌∷◌, Option, Some, None, IsSomeAnd, IfSome, All, length, map, drop, slice_get, arith, refl, sym, ap, ◌∙◌, subst, ⊎_elim}
+use Rattle.std.proofs.Common.{◌≡◌, ◌≢◌, ◌⊎◌, ◌≤◌, inl, inr, ℕ, List, [], ◌∷◌, Option, Some, None, length, arith, refl, sym, ap, ◌∙◌, subst, ⊎_elim}
 use Rattle.std.specs.List.{AllByRecursion, range_with_len}
-use Rattle.std.proofs.lemmas.List.{length-map}
-use Rattle.flake_base.specs.Causes.{Rose}
 use Rattle.flake_base.specs.Told.{HostTold, WireTold}
 use Rattle.flake_base.specs.declared.session.SessionEnd.{SessionEnd}
 use Rattle.flake_model.specs.Run.{all_commands}
 use Rattle.flake_model.specs.Wire.{FaultIs}
 use Rattle.serve_house.specs.Opened.{pool_sizes}
-use Rattle.replay_check.specs.declared.verdict.Verdict.{Verdict}
-use Rattle.replay_check.specs.declared.verdict.Verdict.TheVariants.{Same, Differs, BadJournal}
 use Rattle.transcript_model.specs.Transcript.{IsSaid}
 use Rattle.drive_told.specs.Together.{driven_run}
-use Rattle.flake_run.specs.Checked.{ConcludesBy, IsConcluded, IsStatus, NoneOpened}
-use Rattle.flake_run.specs.Driven.{CameOf, NotDriven, WasDriven}
+use Rattle.flake_run.specs.Checked.{ConcludesBy, IsConcluded, IsStatus}
+use Rattle.flake_run.specs.Driven.{CameOf, WasDriven}
 use Rattle.flake_run.specs.DriveTask.{Drive, IsUndrivable, served_names}
-use Rattle.flake_run.specs.Drove.{AllOpened, AreDrivable, Drove, DroveFiles, IsAccepted, NoneDriven, NoneFailed, NothingServed, OneFails, WasRefused}
+use Rattle.flake_run.specs.Drove.{AllOpened, Drove, DroveFiles, IsAccepted, NoneDriven, NothingServed, OneFails, WasRefused}
+use Rattle.flake_run.specs.Finding.{finding_detail}
 use Rattle.flake_run.specs.Opening.{AreOpened, FailsToOpen}
 use Rattle.flake_run.specs.Outcome.{Done, SourceTold, files_of, read_faults_of}
 use Rattle.flake_run.specs.Outside.{Outside, LeavesFiles, outside, sent_by}
@@ -23,28 +20,38 @@ use Rattle.flake_run.specs.Refusals.{IsRefused}
 use Rattle.flake_run.specs.Schedule.{IsUndriven}
 use Rattle.flake_run.specs.declared.finding.Finding.{Finding}
 use Rattle.flake_run.specs.declared.finding.Finding.TheVariants.{BadWords, OpenFault, ReadFault, TooLarge, BadLine, Judged, Memory}
+use Rattle.flake_run.specs.declared.outcome.Detail.{Detail}
+use Rattle.flake_run.specs.declared.outcome.Detail.TheVariants.{Nothing, File}
 use Rattle.flake_run.specs.declared.outcome.Refusal.TheVariants as refusal
 use Rattle.flake_run.proofs.CheckedAll.{status_since}
 use Rattle.flake_run.proofs.DroveComplete.{drove_whole}
 use Rattle.flake_run.proofs.Ran.{says_since}
 
--- nothing that is found where nothing is served has one of these statuses
-not_served : {W : Type 0} (finding : Finding) (task : Option Drive) (before : Outside W) (old new : HostTold) (sources : List SourceTold) (status : ℕ) → IsStatus finding old new status → WasRefused finding task before new sources
-    → (status ≡ 0) ⊎ (status ≡ 3) ⊎ (status ≡ 5) → ⊥
-not_served finding task before old new sources status is refused some = by finding is refused some where
-  number : (n : ℕ) → status ≡ n → n ≢ 0 → n ≢ 3 → n ≢ 5 → (status ≡ 0) ⊎ (status ≡ 3) ⊎ (status ≡ 5) → ⊥
-  number n is first three five (inl some) = first (sym is ∙ some)
-  number n is first three five (inr (inl some)) = three (sym is ∙ some)
-  number n is first three five (inr (inr some)) = five (sym is ∙ some)
+-- the statuses that come only where something was served
+abbrev IsSome : ℕ → Detail → Type 0
+IsSome status detail = (status ≡ 0) ⊎ (status ≡ 3) ⊎ (status ≡ 5) ⊎ ((status ≡ 4) × (detail ≡ Nothing))
 
-  by : (finding : Finding) → IsStatus finding old new status → WasRefused finding task before new sources → (status ≡ 0) ⊎ (status ≡ 3) ⊎ (status ≡ 5) → ⊥
-  by BadWords is refused some = number 1 is (omega arith) (omega arith) (omega arith) some
-  by (OpenFault file) is refused some = number 2 is (omega arith) (omega arith) (omega arith) some
-  by (ReadFault file) is refused some = number 4 is (omega arith) (omega arith) (omega arith) some
-  by (TooLarge file) is refused some = number 9 is (omega arith) (omega arith) (omega arith) some
-  by (BadLine line) is refused some = number 7 is (omega arith) (omega arith) (omega arith) some
-  by (Judged verdict) is refused some = absurd refused
-  by Memory is refused some = number 6 is (omega arith) (omega arith) (omega arith) some
+-- nothing that is found where nothing is served has one of them
+not_served : {W : Type 0} (finding : Finding) (task : Option Drive) (before : Outside W) (old new : HostTold) (sources : List SourceTold) (status : ℕ) (detail : Detail) → IsStatus finding old new status → detail ≡ finding_detail finding
+    → WasRefused finding task before new sources → IsSome status detail → ⊥
+not_served finding task before old new sources status detail is detail_is refused some = by finding is detail_is refused some where
+  number : (n : ℕ) → status ≡ n → n ≢ 0 → n ≢ 3 → n ≢ 5 → (n ≡ 4 → detail ≡ Nothing → ⊥) → IsSome status detail → ⊥
+  number n is first three five four (inl some) = first (sym is ∙ some)
+  number n is first three five four (inr (inl some)) = three (sym is ∙ some)
+  number n is first three five four (inr (inr (inl some))) = five (sym is ∙ some)
+  number n is first three five four (inr (inr (inr some))) = four (sym is ∙ some.0) some.1
+
+  named : (file : ℕ) → detail ≡ File file → detail ≡ Nothing → ⊥
+  named file is none = let same : File file ≡ Nothing = sym is ∙ none in cc same
+
+  by : (finding : Finding) → IsStatus finding old new status → detail ≡ finding_detail finding → WasRefused finding task before new sources → IsSome status detail → ⊥
+  by BadWords is detail_is refused some = number 1 is (omega arith) (omega arith) (omega arith) (λ four none. omega (arith, four)) some
+  by (OpenFault file) is detail_is refused some = number 2 is (omega arith) (omega arith) (omega arith) (λ four none. omega (arith, four)) some
+  by (ReadFault file) is detail_is refused some = number 4 is (omega arith) (omega arith) (omega arith) (λ four none. named file detail_is none) some
+  by (TooLarge file) is detail_is refused some = number 9 is (omega arith) (omega arith) (omega arith) (λ four none. omega (arith, four)) some
+  by (BadLine line) is detail_is refused some = number 7 is (omega arith) (omega arith) (omega arith) (λ four none. omega (arith, four)) some
+  by (Judged verdict) is detail_is refused some = absurd refused
+  by Memory is detail_is refused some = number 6 is (omega arith) (omega arith) (omega arith) (λ four none. omega (arith, four)) some
 
 -- a task for which there are wires can be driven
 undrivable : {W : Type 0} (P : Drive → Type 0) (task : Option Drive) (before : Outside W) → IsAccepted task before P → IsUndrivable task before → ⊥
@@ -72,7 +79,7 @@ drove_by task before after done served refused = record {
   refused = refused;
   some = λ status none.
       let why = refused none in
-      not_served why.finding task before before.host after.host done.sources done.status why.concluded.status why.refused status;
+      not_served why.finding task before before.host after.host done.sources done.status done.detail why.concluded.status why.concluded.detail why.refused status;
   bad_words = λ six few. by_ends done.ends refl six few;
   whole = drove_whole task before after done served refused;
 } where
@@ -178,12 +185,12 @@ module _ {W : Type 0} (tells : W → WireTold) (task : Option Drive) (job : Driv
         driven = driven_since left inputs done opened.said opened.say_faults (came.driven some);
       }))
       (λ none.
-          let why = came.refused none in
-          record {
-            finding = why.finding;
-            concluded = concluded_since why.finding done opened.said opened.say_faults why.concluded;
-            refused = none_driven left inputs done why.finding why.count why.counts all why.counts_are why.fresh why.undriven;
-          })
+      let why = came.refused none in
+      record {
+        finding = why.finding;
+        concluded = concluded_since why.finding done opened.said opened.say_faults why.concluded;
+        refused = none_driven left inputs done why.finding why.count why.counts all why.counts_are why.fresh why.undriven;
+      })
     where
       all : AllOpened job.names host now left inputs done.sources
       all = record { between = mid; zeros = zeros; opened = opened; leaves = came.leaves; files = came.files ∙ ap (range_with_len 0) opened.as_many }

@@ -1,13 +1,11 @@
 -- Where nothing failed, a schedule and whole requests are driven with status 0.
-use Rattle.std.proofs.Common.{◌≡◌, ◌≢◌, ◌⊎◌, ◌≤◌, ◌<◌, inl, inr, ℕ, ◌-◌, zero, suc, ◌||◌, Bool, true, false, List, [], ◌∷◌, Option, Some, None, IsSomeAnd, IfSome, All, length, map, drop, slice_get, slice_index_or, arith, refl, sym, ap, ◌∙◌, subst, ⊎_elim}
+use Rattle.std.proofs.Common.{◌≡◌, ◌≢◌, ◌≤◌, ◌<◌, inl, ℕ, ◌-◌, zero, suc, ◌||◌, Bool, true, false, List, [], ◌∷◌, Option, Some, None, IfSome, length, map, drop, slice_get, slice_index_or, arith, refl, sym, ap, ◌∙◌, subst, ⊎_elim}
 use Rattle.std.specs.Prelude.{if◌then◌else◌, ◌==◌}
 use Rattle.std.specs.List.{AllByRecursion}
 use Rattle.std.proofs.lemmas.Bool.{cases_Bool, eqb-true}
 use Rattle.std.proofs.lemmas.List.{length-map}
 use Rattle.std.proofs.lemmas.List.Elements.{recursion_from_All}
 use Rattle.flake_base.specs.Causes.{Rose}
-use Rattle.flake_base.specs.Told.{HostTold}
-use Rattle.flake_base.specs.declared.session.End.{End}
 use Rattle.flake_base.specs.declared.session.SessionEnd.{SessionEnd}
 use Rattle.flake_model.specs.Wire.{FaultIs, FaultsAre}
 use Rattle.journal_text.specs.Lines.{lines_of}
@@ -15,16 +13,15 @@ use Rattle.schedule_text.specs.Reading.{AreLines, IsBadLine}
 use Rattle.schedule_text.specs.Text.{line_text, session_of}
 use Rattle.schedule_text.specs.declared.line.Line.{Line}
 use Rattle.check_files.specs.Named.{AreDistinct}
-use Rattle.check_files.specs.Whole.{IsWhole}
-use Rattle.flake_run.specs.Causes.{SomePutFailed, highest_by, status_by}
+use Rattle.flake_run.specs.Causes.{highest_by}
 use Rattle.flake_run.specs.Checked.{IsStatus}
 use Rattle.flake_run.specs.Complete.{IsWhole as AreRequests}
-use Rattle.flake_run.specs.Driven.{WasDriven, some_put_failed, status_with}
-use Rattle.flake_run.specs.DriveTask.{Drive, IsUndrivable, served_names}
-use Rattle.flake_run.specs.Drove.{AllOpened, AreDrivable, DroveFiles, IsAccepted, NoneDriven, NoneFailed, NothingServed, OneFails, WasRefused}
+use Rattle.flake_run.specs.Driven.{some_put_failed, status_with}
+use Rattle.flake_run.specs.DriveTask.{Drive, served_names}
+use Rattle.flake_run.specs.Drove.{AreDrivable, DroveFiles, IsAccepted, NoneDriven, NoneFailed, NothingServed, OneFails, WasRefused}
 use Rattle.flake_run.specs.Outcome.{Done, SourceTold, ways, read_faults_of}
 use Rattle.flake_run.specs.Outside.{Outside, faults_of}
-use Rattle.flake_run.specs.Schedule.{HasBadLine, IsUndriven, schedule_limit}
+use Rattle.flake_run.specs.Schedule.{IsUndriven, schedule_limit}
 use Rattle.flake_run.specs.declared.finding.Finding.{Finding}
 use Rattle.flake_run.specs.declared.finding.Finding.TheVariants.{BadWords, OpenFault, ReadFault, TooLarge, BadLine, Judged, Memory}
 use Rattle.flake_run.proofs.Highest.{none_is_six}

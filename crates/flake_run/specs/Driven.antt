@@ -100,7 +100,7 @@ pub record WasDriven {W : Type 0} (sizes : Sizes) (left : Option (List ℕ)) (in
   -- held behind it; or a front of one, where a say failed
   pub said : IsSaid
       (driven_run (pool_sizes (length inputs) sizes) sizes.ring sizes.threshold (all_commands run.sessions) done.ends
-        done.journal pool) (sent_by before) (sent_by after) schedule failed before.host.said after.host.said
+      done.journal pool) (sent_by before) (sent_by after) schedule failed before.host.said after.host.said
   -- the status is by the ends, and by what failed
   pub status : done.status ≡ status_with (failed || some_put_failed done.ends) (highest_by (ways done.ends))
   pub detail : done.detail ≡ Nothing

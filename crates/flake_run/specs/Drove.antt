@@ -1,5 +1,5 @@
 -- What a run of `drive` does.
-use Rattle.std.specs.Prelude.{◌≡◌, ◌≢◌, ◌⊎◌, ◌≤◌, ◌<◌, ◌∷◌, ℕ, List, [], Option, Some, All, IsSomeAnd, IfSome, length, map}
+use Rattle.std.specs.Prelude.{◌≡◌, ◌≢◌, ◌⊎◌, ◌≤◌, ◌∷◌, ℕ, List, [], Option, Some, All, IsSomeAnd, IfSome, length, map}
 use Rattle.std.specs.Prelude.{slice_get}
 use Rattle.std.specs.List.{AllByRecursion, range_with_len}
 use Rattle.flake_base.specs.Causes.{Rose}
@@ -7,7 +7,7 @@ use Rattle.flake_base.specs.Told.{HostTold}
 use Rattle.journal_text.specs.Lines.{lines_of}
 use Rattle.schedule_text.specs.Reading.{AreLines}
 use Rattle.schedule_text.specs.declared.line.Line.{Line}
-use Rattle.check_files.specs.Named.{AreDistinct, AreOther, counted_times}
+use Rattle.check_files.specs.Named.{AreDistinct}
 use Rattle.flake_run.specs.Causes.{SomePutFailed}
 use Rattle.flake_run.specs.Checked.{IsConcluded, NoneOpened}
 use Rattle.flake_run.specs.Complete.{IsWhole}
@@ -20,6 +20,7 @@ use Rattle.flake_run.specs.Schedule.{IsUndriven, schedule_limit}
 use Rattle.flake_run.specs.declared.finding.Finding.{Finding}
 use Rattle.flake_run.specs.declared.finding.Finding.TheVariants.{BadWords, OpenFault, ReadFault, TooLarge, BadLine}
 use Rattle.flake_run.specs.declared.finding.Finding.TheVariants.{Judged, Memory}
+use Rattle.flake_run.specs.declared.outcome.Detail.TheVariants.{Nothing}
 
 -- All files were opened, the schedule's first of all, and each source comes back. These bytes were left of the
 -- schedule, and these inputs.
@@ -113,8 +114,9 @@ pub record Drove {W : Type 0} (task : Option Drive) (before after : Outside W) (
   pub served : done.ends ≢ [] → IsAccepted task before (λ job. DroveFiles job before after done)
   -- where nothing was, this is why
   pub refused : done.ends ≡ [] → NothingServed task before after done
-  -- 0, 3 and 5 come only where something was served
-  pub some : (done.status ≡ 0) ⊎ (done.status ≡ 3) ⊎ (done.status ≡ 5) → done.ends ≢ []
+  -- 0, 3 and 5 come only where something was served, and so does 4 that is not the schedule's
+  pub some : (done.status ≡ 0) ⊎ (done.status ≡ 3) ⊎ (done.status ≡ 5) ⊎ ((done.status ≡ 4) × (done.detail ≡ Nothing))
+      → done.ends ≢ []
   -- bad words and too few wires are answered by 1 and by nothing else, but that memory was wanting
   pub bad_words : done.status ≢ 6 → IsUndrivable task before → done.status ≡ 1
   -- where the words are accepted and nothing failed, a schedule and whole requests give status 0

@@ -1,10 +1,10 @@
-use Rattle.std.proofs.Common.{◌≡◌, ◌≤◌, ◌<◌, inl, inr, Bor, List, ℕ, Some, IfSome, [], ◌∷◌, length, map, drop, arith, refl, sym, ap, ◌∙◌, subst, ⊎_elim}
+use Rattle.std.proofs.Common.{◌≡◌, Bor, List, ℕ, Some, [], ◌∷◌, length, map, drop, arith, sym, ap, ◌∙◌, subst}
 use Rattle.std.specs.List.{range_with_len}
 use Rattle.std.specs.Option.{option_map}
 use Rattle.std.proofs.lemmas.List.{length-map}
-use Rattle.serve_words.specs.Drive.{IsDrivable, shown_drive}
+use Rattle.serve_words.specs.Drive.{shown_drive}
 use Rattle.flake_run.specs.Driven.{CameOf}
-use Rattle.flake_run.specs.DriveTask.{IsUndrivable, drive_job, drive_of, served_names, shown_job}
+use Rattle.flake_run.specs.DriveTask.{IsUndrivable, drive_job, drive_of, shown_job}
 use Rattle.flake_run.specs.Opening.{AreOpened, FailsToOpen}
 use Rattle.flake_run.specs.Outcome.{done, source_told}
 use Rattle.flake_run.specs.Outside.{outside}
@@ -29,7 +29,7 @@ returns-then-len-count g c =
     let task_is : drive_of c.args.words.now ≡ Some job = ap (option_map drive_job) (sym c.in-Ok-Some.ensures.value ∙ ap (option_map shown_drive) c.in-Ok-Some.field-0-is) in
     let count : length job.names ≡ length task.files.items = length-map task.files.items (λ (file : Bor (List ℕ)). file.now) in
     drove_refused _ _ _ _ (subst (λ t. IsUndrivable t before) (sym task_is)
-      (omega (arith, c.if-len-count.true, c.len.ensures, c.len-count.ensures, count, behind_one job.names, c.args.wires.ok.0, task.files.ok.0))) c.refuse-then-len-count.ensures
+    (omega (arith, c.if-len-count.true, c.len.ensures, c.len-count.ensures, count, behind_one job.names, c.args.wires.ok.0, task.files.ok.0))) c.refuse-then-len-count.ensures
 
 pub returns-in_default : goal.returns-in_default
 returns-in_default g c = drove_wanting _ _ _ _ c.refuse-in_default.ensures

@@ -1,9 +1,7 @@
-use Rattle.std.proofs.Common.{◌≡◌, ◌≤◌, ◌||◌, suc, [], ◌∷◌, Some, length, map, arith, refl, sym, ap, ◌∙◌, subst}
+use Rattle.std.proofs.Common.{◌≡◌, ◌||◌, suc, [], ◌∷◌, Some, length, map, arith, refl, sym, ap, ◌∙◌, subst}
 use Rattle.std.specs.List.{AllByRecursion, range_with_len}
 use Rattle.std.proofs.lemmas.List.{length-map}
 use Rattle.serve_house.specs.Ran.{AreReads}
-use Rattle.serve_house.specs.Opened.{pool_sizes}
-use Rattle.shard_store.specs.Journals.{histories}
 use Rattle.transcript_model.specs.Lines.{held_text}
 use Rattle.drive_script.specs.Says.{Says}
 use Rattle.flake_run.specs.Causes.{highest_by}
