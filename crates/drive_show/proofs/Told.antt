@@ -11,7 +11,7 @@ use Rattle.transcript_model.specs.Sessions.{WireGrew, texts_of}
 use Rattle.transcript_model.specs.Transcript.{AreSent, IsToldBy, Run, terms_of}
 use Rattle.transcript_model.proofs.Sourced.{sourced}
 use Rattle.drive_script.specs.Lanes.{sends_by}
-use Rattle.drive_told.specs.Drove.{driven_run}
+use Rattle.drive_told.specs.Together.{driven_run}
 use Rattle.drive_show.specs.Shown.{IsTranscriptTold, sent_on}
 use Rattle.wire_told.specs.Sent.{AreTold}
 use Rattle.wire_told.proofs.Sent.{sends_told}
