@@ -100,7 +100,7 @@ pub record NoneFailed {W : Type 0} (job : Drive) (before after : Outside W) (don
   pub says : Rose before.host.say_faults after.host.say_faults → ⊥
   pub puts : SomePutFailed (length (served_names job)) before after → ⊥
 
--- the schedule is told, has no more bytes than it may and is of its form, and all inputs are told and are whole requests
+-- the schedule is told, has no more bytes than it may and is of its form, and all inputs are told and whole requests
 pub record AreDrivable (job : Drive) (host : HostTold) : Type 0 where
   pub text : List ℕ
   pub text_is : slice_get (map host.holds job.names) 0 ≡ Some (Some text)

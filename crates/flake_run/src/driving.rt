@@ -75,9 +75,10 @@ pub fn drive_by<R: Wait, S: Source + Drop, H: Host>(
 ) -> Result<Driven<S, Box<dyn Wire>>, (Finding, Vec<S>, Vec<Box<dyn Wire>>)>
     requires sized { IsSized (length sources.items) sizes.now }
     requires wires { length sources.items ≤ length wires.items }
-    ensures run { IfOk result (λ r. IsDrivenBy sizes.now (S.left schedule.old) r.failed (map (λ s. S.left s) sources.items)
-        (map (λ s. S.left s) r.sources.items) r.ends.items (histories r.journal.items) r.pool wires.items r.wires.items
-        (λ w. wire_told w) (H.host_told host.old) (H.host_told host.new)) }
+    ensures run { IfOk result (λ r. IsDrivenBy sizes.now (S.left schedule.old) r.failed
+        (map (λ s. S.left s) sources.items) (map (λ s. S.left s) r.sources.items) r.ends.items
+        (histories r.journal.items) r.pool wires.items r.wires.items (λ w. wire_told w) (H.host_told host.old)
+        (H.host_told host.new)) }
     ensures reads { IfOk result (λ r. AreReads r.ends.items (map (λ s. S.read_faults s) sources.items)
         (map (λ s. S.read_faults s) r.sources.items)) }
     ensures shards { IfOk result (λ r. length r.journal.items ≡ sizes.now.shards) }
