@@ -55,7 +55,7 @@ pair_up-drivings-requires-clause-room g c = λ _ _. (
 )
 
 pub drive-accounts-requires-clause-there : goal.drive-accounts-requires-clause-there
-drive-accounts-requires-clause-there g c =
+drive-accounts-requires-clause-there g c = λ _ _.
     let desks = c.args.house.desks.items in
     let rows = same_count c.pair_up-drivings.result.0.items desks _ _ c.pair_up-drivings.ensures.sessions in
     subst (λ (n : ℕ). All (λ line. session_of line < n) c.args.schedule.now)
