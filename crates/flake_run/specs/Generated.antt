@@ -1,6 +1,6 @@
 -- What a run of generated requests does, and what it says.
 use Rattle.std.specs.Prelude.{◌≡◌, ◌≢◌, ◌⊎◌, ◌≤◌, ◌<◌, ℕ, ◌++◌, Bool, List, [], ◌∷◌, Option, Some, None, codes, length, map}
-use Rattle.std.specs.Prelude.{drop, take, All, IsNone, IfSome}
+use Rattle.std.specs.Prelude.{drop, take, All, IfSome}
 use Rattle.std.specs.Fmt.{decimal}
 use Rattle.std.specs.List.{AllByRecursion}
 use Rattle.view_sums.specs.Total.{total}
@@ -18,7 +18,7 @@ use Rattle.pinned_pool.specs.Ends.{End}
 use Rattle.transcript_model.specs.Sessions.{AreWhole, WireGrew, joined}
 use Rattle.serve_model.specs.Replies.{all_replies}
 use Rattle.serve_model.specs.Shown.{IsCounted}
-use Rattle.serve_inputs.specs.Opened.{pool_sizes}
+use Rattle.serve_house.specs.Opened.{pool_sizes}
 use Rattle.gen_words.specs.declared.task.GenTask.{GenTask}
 use Rattle.serve_generated.specs.Generated.{HadMemory, IsTooMuch, commands_in_all, inputs_of, sizes_of}
 use Rattle.flake_run.specs.Causes.{SomePutFailed, status_by}
