@@ -224,28 +224,31 @@ fn a_source_gives_its_file_and_then_nothing(rt: HostRuntime) -> Result<(), Fail>
     Ok(())
 }
 
+// The next bytes of a source are these.
+fn expect_read(rt: &impl Abort, source: &mut impl Source, want: &[u8]) {
+    let mut room = [0; 4096];
+    assert_eq!(rt; source.read(&mut room), Ok(want.len()));
+    assert_eq!(rt; part(rt, &room, 0, want.len()), want);
+}
+
 // All three are open at once, each with room of its own; a file that isn't there takes none.
 #[test]
 fn a_host_opens_as_many_files_as_it_was_made_for(rt: HostRuntime) -> Result<(), Fail> {
     let bytes = pattern(rt.alloc(), 6000)?;
     fs::write(&rt, "one_of_many.test", bytes.as_slice())?;
     let mut host = FileHost::new(rt.clone()?, rt.alloc(), 3)?;
-    let mut room = vec![in rt.alloc(); 0; 4096]?;
     let mut sources = Vec::with_capacity(rt.alloc(), 3)?;
     for _ in 0..3 {
         assert!(rt; host.open("a_missing_file.test").is_err());
-        sources.push(
-            host.open("one_of_many.test")
-                .expect(&rt, "the file is there"),
-        )?;
+        let source = host.open("one_of_many.test");
+        sources.push(source.expect(&rt, "the file is there"))?;
     }
     assert!(rt; host.open("one_of_many.test").is_err());
     assert_eq!(rt; (host.opens(), host.open_faults()), (7, 4));
-    for (from, count) in [(0, 4096), (4096, 1904)] {
+    for (from, to) in [(0, 4096), (4096, 6000)] {
+        let want = part(&rt, bytes.as_slice(), from, to);
         for source in sources.as_mut_slice() {
-            assert_eq!(rt; source.read(room.as_mut_slice()), Ok(count));
-            let given = part(&rt, room.as_slice(), 0, count);
-            assert_eq!(rt; given, part(&rt, bytes.as_slice(), from, from + count));
+            expect_read(&rt, source, want);
         }
     }
     Ok(())
