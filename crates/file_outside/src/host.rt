@@ -1,4 +1,4 @@
-ghost use Rattle.std.specs.Prelude.{◌≡◌, None, IfOk};
+ghost use Rattle.std.specs.Prelude.{◌≡◌, ◌+◌, length, None, IfOk, OnErr, OnOk};
 
 use crate::ahead::Ahead;
 use crate::source::FileSource;
@@ -12,21 +12,25 @@ use std::{fs, io};
 #[derive(Drop)]
 pub struct FileHost<R> {
     rt: R,
-    alloc: Global,
-    // Taken ahead, for the first file.
-    ahead: Option<Ahead>,
+    // For the files that may still be opened.
+    rooms: Vec<Ahead>,
     opens: u64,
     open_faults: u64,
     say_faults: u64,
 }
 
 impl<R: Drop> FileHost<R> {
-    pub fn new(rt: R, alloc: Global) -> Result<Self, Memory> {
-        let ahead = Ahead::new(alloc)?;
+    /// Takes all memory that opens need: room to read ahead of so many files. An open past them fails.
+    pub fn new(rt: R, alloc: Global, files: usize) -> Result<Self, Memory>
+        ensures { IfOk result (λ host. length host.rooms.items ≡ files) }
+    {
+        let mut rooms = Vec::with_capacity(alloc, files)?;
+        for _ in 0..files {
+            rooms.push(Ahead::new(alloc)?)?;
+        }
         Ok(FileHost {
             rt,
-            alloc,
-            ahead: Some(ahead),
+            rooms,
             opens: 0,
             open_faults: 0,
             say_faults: 0,
@@ -53,23 +57,14 @@ impl<R: Drop> FileHost<R> {
     {
         self.say_faults
     }
-
-    // Room for what is read ahead of a file.
-    fn take_ahead(&mut self) -> Result<Ahead, Memory>
-        ensures opens { self.new.opens ≡ self.old.opens }
-        ensures open_faults { self.new.open_faults ≡ self.old.open_faults }
-        ensures say_faults { self.new.say_faults ≡ self.old.say_faults }
-    {
-        match self.ahead.take() {
-            Some(ahead) => Ok(ahead),
-            None => Ahead::new(self.alloc),
-        }
-    }
 }
 
 impl<R: Files + Drop> FileHost<R> {
+    // A file that doesn't open takes no room.
     fn source(&mut self, name: &str) -> Result<FileSource<R::File>, Failed>
         ensures fresh { IfOk result (λ source. source.faults ≡ 0) }
+        ensures room { OnOk result (length self.old.rooms.items ≡ length self.new.rooms.items + 1) }
+        ensures kept { OnErr result (length self.old.rooms.items ≡ length self.new.rooms.items) }
         ensures opens { self.new.opens ≡ self.old.opens }
         ensures open_faults { self.new.open_faults ≡ self.old.open_faults }
         ensures say_faults { self.new.say_faults ≡ self.old.say_faults }
@@ -77,10 +72,10 @@ impl<R: Files + Drop> FileHost<R> {
         let Ok(file) = fs::open(&self.rt, name) else {
             return Err(Failed);
         };
-        let Ok(ahead) = self.take_ahead() else {
-            return Err(Failed);
-        };
-        Ok(FileSource::new(file, ahead))
+        match self.rooms.pop() {
+            Some(ahead) => Ok(FileSource::new(file, ahead)),
+            None => Err(Failed),
+        }
     }
 }
 

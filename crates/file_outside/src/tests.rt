@@ -197,7 +197,7 @@ fn reads_ahead_and_tries_again(rt: HostRuntime) -> Result<(), Fail> {
 
 #[test]
 fn a_host_opens_files_and_says(rt: HostRuntime) -> Result<(), Fail> {
-    let mut host = FileHost::new(rt.clone()?, rt.alloc())?;
+    let mut host = FileHost::new(rt.clone()?, rt.alloc(), 1)?;
     assert!(rt; host.open("a_missing_file.test").is_err());
     assert_eq!(rt; host.opens(), 1);
     assert_eq!(rt; host.open_faults(), 1);
@@ -210,7 +210,7 @@ fn a_host_opens_files_and_says(rt: HostRuntime) -> Result<(), Fail> {
 fn a_source_gives_its_file_and_then_nothing(rt: HostRuntime) -> Result<(), Fail> {
     let bytes = pattern(rt.alloc(), 5000)?;
     fs::write(&rt, "a_source.test", bytes.as_slice())?;
-    let mut host = FileHost::new(rt.clone()?, rt.alloc())?;
+    let mut host = FileHost::new(rt.clone()?, rt.alloc(), 2)?;
     let mut room = vec![in rt.alloc(); 0; 8192]?;
     for _ in 0..2 {
         let mut source = host.open("a_source.test").expect(&rt, "the file is there");
@@ -220,6 +220,36 @@ fn a_source_gives_its_file_and_then_nothing(rt: HostRuntime) -> Result<(), Fail>
             assert_eq!(rt; given, part(&rt, bytes.as_slice(), from, to));
         }
         assert_eq!(rt; source.faults(), 0);
+    }
+    Ok(())
+}
+
+// The next bytes of a source are these.
+fn expect_read(rt: &impl Abort, source: &mut impl Source, want: &[u8]) {
+    let mut room = [0; 4096];
+    assert_eq!(rt; source.read(&mut room), Ok(want.len()));
+    assert_eq!(rt; part(rt, &room, 0, want.len()), want);
+}
+
+// All three are open at once, each with room of its own; a file that isn't there takes none.
+#[test]
+fn a_host_opens_as_many_files_as_it_was_made_for(rt: HostRuntime) -> Result<(), Fail> {
+    let bytes = pattern(rt.alloc(), 6000)?;
+    fs::write(&rt, "one_of_many.test", bytes.as_slice())?;
+    let mut host = FileHost::new(rt.clone()?, rt.alloc(), 3)?;
+    let mut sources = Vec::with_capacity(rt.alloc(), 3)?;
+    for _ in 0..3 {
+        assert!(rt; host.open("a_missing_file.test").is_err());
+        let source = host.open("one_of_many.test");
+        sources.push(source.expect(&rt, "the file is there"))?;
+    }
+    assert!(rt; host.open("one_of_many.test").is_err());
+    assert_eq!(rt; (host.opens(), host.open_faults()), (7, 4));
+    for (from, to) in [(0, 4096), (4096, 6000)] {
+        let want = part(&rt, bytes.as_slice(), from, to);
+        for source in sources.as_mut_slice() {
+            expect_read(&rt, source, want);
+        }
     }
     Ok(())
 }

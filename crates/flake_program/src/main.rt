@@ -13,6 +13,9 @@ use std::process::ExitCode;
 use std::sync::Wait;
 use std::thread::Threads;
 
+/// As many files as a `check` opens at most: a journal, and 16 sessions' inputs and replies.
+const MOST_FILES: usize = 33;
+
 // The words behind the program's name; none where one is no text, which makes them bad words.
 fn command_line(rt: &HostRuntime) -> Result<Vec<String>, AllocError> {
     let mut words = Vec::new(rt.alloc());
@@ -38,7 +41,9 @@ fn run_over_files<R: Threads + Wait + Sync>(runs: &R, rt: &HostRuntime) -> Resul
         let wire = FileWire::new(rt.clone()?, alloc, name)?;
         wires.push(Box::new(alloc, wire)?)?;
     }
-    let mut host = FileHost::new(rt.clone()?, alloc)?;
+    // The first word names the command, and each of the others at most one file.
+    let files = words.len().saturating_sub(1).min(MOST_FILES);
+    let mut host = FileHost::new(rt.clone()?, alloc, files)?;
     let outcome = run(runs, alloc, words.as_slice(), &mut host, wires, &NoGate);
     Ok(outcome.status)
 }

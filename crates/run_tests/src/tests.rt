@@ -2,6 +2,7 @@ mod beside;
 mod checks;
 mod commands;
 mod faults;
+mod generated;
 mod journals;
 mod pool;
 mod sessions;

@@ -1,5 +1,5 @@
 // What `check` says.
-use super::{Detail, PAIR, add_word, expect, fails, one_wire, ran, repeated};
+use super::{Detail, PAIR, Seen, add_word, expect, fails, one_wire, ran, repeated};
 use flake_base::{Bytes, Fails, Files, MemoryHost};
 use std::alloc::Global;
 use std::process::Abort;
@@ -58,6 +58,13 @@ fn check_host(alloc: Global, row: &Row) -> Result<MemoryHost, Fail> {
     Ok(MemoryHost::new(alloc, files, 4096, fails(alloc, row.host_fails)?)?)
 }
 
+fn expect_row(rt: &impl Abort, host: &MemoryHost, seen: &Seen, row: &Row) {
+    expect(rt, host, seen, row.status, row.said.as_bytes(), b"");
+    assert_eq!(rt; seen.detail, row.detail);
+    assert_eq!(rt; (host.opens(), seen.sources), (row.opens, row.sources));
+    assert_eq!(rt; (seen.ends, seen.journal.len(), seen.sent.len()), (0, 0, 1));
+}
+
 fn check_row<R: Abort + Threads + Wait + Sync>(
     rt: &R,
     alloc: Global,
@@ -66,10 +73,7 @@ fn check_row<R: Abort + Threads + Wait + Sync>(
     let mut host = check_host(alloc, row)?;
     let wires = one_wire(alloc, 4096, None)?;
     let seen = ran(rt, alloc, row.words, &mut host, wires)?;
-    expect(rt, &host, &seen, row.status, row.said.as_bytes(), b"");
-    assert_eq!(rt; seen.detail, row.detail);
-    assert_eq!(rt; (host.opens(), seen.sources), (row.opens, row.sources));
-    assert_eq!(rt; (seen.ends, seen.journal.len(), seen.sent.len()), (0, 0, 1));
+    expect_row(rt, &host, &seen, row);
     Ok(())
 }
 
@@ -276,6 +280,58 @@ static UNOPENED: [Row; 3] = [
 fn checks(rt: HostRuntime) -> Result<(), Fail> {
     for rows in [VERDICTS.as_slice(), NONE.as_slice(), UNOPENED.as_slice()] {
         check_rows(&rt, rt.alloc(), rows)?;
+    }
+    Ok(())
+}
+
+/// For each place the number of a read that fails, and what is said. The journal has 25 bytes, the input 47 and the
+/// replies 12, and a read gives 7: the last one of each is that of the end.
+static READ_FAULTS: [(u16, u64, &str); 7] = [
+    (0, 0, "read fault 0\n"),
+    (0, 4, "read fault 0\n"),
+    (1, 0, "read fault 1\n"),
+    (1, 3, "read fault 1\n"),
+    (1, 7, "read fault 1\n"),
+    (2, 0, "read fault 2\n"),
+    (2, 2, "read fault 2\n"),
+];
+
+// One of the three files of a check that finds `same`.
+fn file_at(alloc: Global, place: usize) -> Result<(String, Bytes), Fail> {
+    let files = [("j", JOURNAL), ("i", PAIR), ("r", REPLIES)];
+    let (name, bytes) = files[place % 3];
+    Ok((
+        String::from_str(alloc, name)?,
+        Bytes::from_slice(alloc, bytes)?,
+    ))
+}
+
+// A host of these files, a read of one of which fails: the one at this place, which comes first.
+fn failing_host(alloc: Global, place: u16, read: u64) -> Result<MemoryHost, Fail> {
+    let first = usize::from(place);
+    let mut files = Files::with_room(alloc, 3)?;
+    files.push(file_at(alloc, first)?)?;
+    files.push(file_at(alloc, first + 1)?)?;
+    files.push(file_at(alloc, first + 2)?)?;
+    let mut host = MemoryHost::new(alloc, files, 4096, Fails::new(alloc))?;
+    host.set_reads(0, 7, fails(alloc, Some(read))?);
+    Ok(host)
+}
+
+#[test]
+fn reads_of_a_check_that_fail(rt: HostRuntime) -> Result<(), Fail> {
+    let alloc = rt.alloc();
+    for (place, read, said) in READ_FAULTS {
+        let row = Row {
+            status: 4,
+            detail: Detail::File(place),
+            said,
+            ..SAME
+        };
+        let mut host = failing_host(alloc, place, read)?;
+        let wires = one_wire(alloc, 4096, None)?;
+        let seen = ran(&rt, alloc, row.words, &mut host, wires)?;
+        expect_row(&rt, &host, &seen, &row);
     }
     Ok(())
 }
