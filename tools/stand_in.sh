@@ -1,6 +1,7 @@
 # Sourced by the scripts that check ./vepkhundi, behind counted.sh: a clone whose toolchain is a stand-in, which proves
-# nothing. Its program writes its folder and its words, copies the first FILE line by line to out0.resp for `serve FILE..`, the
-# second to out1.resp and so on, and ends with status ENDS, which is 7 if it isn't set. OPENED names a file that gets the program's open files.
+# nothing. Its program writes its folder and its words, copies the first FILE line by line to out0.resp for `serve FILE..`
+# and `drive SCHEDULE FILE..`, the second to out1.resp and so on, and ends with status ENDS, which is 7 if it isn't set.
+# OPENED names a file that gets the program's open files.
 
 home="$room/a folder 'of' \$its own"
 crate=$home/crates/flake_program
@@ -16,7 +17,8 @@ cat >"$room/program" <<'END'
 pwd -P
 for word; do printf '<%s>' "$word"; done
 [ -z "${OPENED-}" ] || (ls -l "/proc/$$/fd" >"$OPENED")
-if [ "$1" = serve ]; then
+if [ "$1" = serve ] || [ "$1" = drive ]; then
+  [ "$1" = serve ] || { shift; [ -f "${1-}" ] || set -- missing; }
   shift
   session=0
   for file; do

@@ -1,12 +1,14 @@
 """What to do where the program ends with a status other than 0."""
 
 import os
+import re
 import stat
 
 from launcher.replies import names_of
-from launcher.typed import checked_places, generated_sessions, served_files
+from launcher.typed import checked_places, generated_sessions, schedules, served_files
 
 JUDGED = 67_108_864
+LINE = re.compile(rb"(?:call|gather|reap) (0|[1-9][0-9]?)")
 TYPED = "commands as they are typed become requests by tools/to_resp"
 SAID = "the program's line says behind how many bytes, and what stands before that was served (docs/USE.md, Statuses)"
 
@@ -19,6 +21,8 @@ def after(status, words):
         return not_checked([words[place] for place in checked_places(words)])
     lines = {2: cannot_open, 3: no_requests, 4: read_fault, 5: write_fault, 6: out_of_memory}
     files = served_files(words)
+    if schedules(words):
+        return of_driven(status, *schedules(words), files)
     if files is None and generated_sessions(words):
         return of_generated(status, generated_sessions(words))
     return lines[status](files) if status in lines and files is not None else None
@@ -27,6 +31,64 @@ def after(status, words):
 def of_generated(status, count):
     wrong = {5: write_fault, 6: out_of_memory}
     return wrong[status]([None] * count) if status in wrong else None
+
+
+def of_driven(status, schedule, files):
+    lines = {2: cannot_open_driven, 3: no_requests_driven, 4: read_fault_driven, 7: bad_line, 9: too_long}
+    if status in lines:
+        return lines[status](schedule, files)
+    wrong = {5: write_fault, 6: out_of_memory}
+    return wrong[status](files) if status in wrong else None
+
+
+def cannot_open_driven(schedule, files):
+    file, why = first_unopened([schedule, *files])
+    return f"{file}: {why}. Nothing was served: behind drive stand a schedule and files of RESP2 requests; {TYPED}"
+
+
+def no_requests_driven(_schedule, files):
+    which = files[0] if len(files) == 1 else "a file of a session whose call found its end"
+    return f"{which}: it isn't whole RESP2 requests to its end, and what stands before that was served; {TYPED}"
+
+
+def read_fault_driven(schedule, files):
+    if os.path.isdir(schedule):
+        return f"{schedule}: it is a folder, and no schedule. Nothing was served"
+    return read_fault(files)
+
+
+def bad_line(schedule, files):
+    """Says which line it is and what it has, where the schedule can be read a second time."""
+    last = len(files) - 1
+    sessions = "and N is 0" if last == 0 else f"and N is 0 to {last}"
+    wanted = f"lines are call N, gather N and reap N, with one blank, {sessions}. Nothing was served"
+    found = next(((n, line) for n, line in lines_of(schedule) if not is_line(line, len(files))), None)
+    if found is None:
+        return f"{schedule} isn't a schedule: {wanted}"
+    number, line = found
+    shown = repr(line[:40].decode("latin-1")) + (" .." if line[40:] else "") if line else "empty"
+    return f"{schedule}, line {number} is {shown}: {wanted}"
+
+
+def is_line(line, sessions):
+    found = LINE.fullmatch(line)
+    return found is not None and int(found[1]) < sessions
+
+
+def lines_of(schedule):
+    """Returns the lines of a schedule with their numbers, where it is a file."""
+    try:
+        if os.path.isfile(schedule):
+            with open(schedule, "rb") as it:
+                *lines, last = it.read(JUDGED).split(b"\n")
+            return enumerate(lines + ([last] if last else []), 1)
+    except OSError:
+        pass
+    return ()
+
+
+def too_long(schedule, _files):
+    return f"{schedule}: a schedule has at most {JUDGED} bytes. Nothing was served"
 
 
 def bad_words(words):
@@ -41,7 +103,11 @@ def bad_words(words):
     if words[:1] == ["gen"]:
         stand = "a number from 0 to 4294967295, and options, if any, that ask for no more than a pool can hold"
         return f"nothing was served: behind gen stand {stand} (--help says more)"
-    commands, given = "serve FILE.., check JOURNAL.. and gen NUMBER", " ".join(words)[:60]
+    if words[:1] == ["drive"]:
+        stand = "sizes, if any, a schedule, and the names of 1 to 16 files of requests, with 128 small buffers for each"
+        return f"nothing was served: behind drive stand {stand} (--help says more)"
+    commands = "serve FILE.., check JOURNAL.., gen NUMBER and drive SCHEDULE FILE.."
+    given = " ".join(words)[:60]
     return f"nothing was done: the commands are {commands}, and not {given!r} (--help says more)"
 
 

@@ -33,13 +33,14 @@ def lock_folder():
     return folder
 
 
-def refuse_replies_as_requests(files):
-    for file in files:
+def refuse_replies_as_requests(files, others):
+    """Refuses a file of requests, or one of the others, that the replies to these files would overwrite."""
+    for file in [*others, *files]:
         for replies in replies_of(len(files)):
             if is_same(file, replies):
                 raise Refused(
                     f"{file} is the same file as {replies}, which the replies would overwrite: nothing was run or "
-                    "touched. Give the requests another name, or call this in another folder"
+                    "touched. Give it another name, or call this in another folder"
                 )
 
 

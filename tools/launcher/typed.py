@@ -9,6 +9,7 @@ SIZES = {
     "--workers": (1, 16),
 }
 FLAGS = ("--journal",)
+DRIVEN = {option: limits for option, limits in SIZES.items() if option != "--workers"}
 GENERATED = {"--sessions": (1, 16), "--requests": (1, 4000), "--workers": (1, 16)}
 MOST_FILES = 16
 USUAL_SMALL = 4096
@@ -46,17 +47,37 @@ def read_words(words, sizes, flags):
 
 
 def served_files(words):
-    """Returns the files that are served, or None where the words aren't `serve`, options and 1 to 16 files."""
+    """Returns the files of requests, or None where the words aren't `serve`, options and 1 to 16 files, or `drive`,
+    options, a schedule and 1 to 16 files."""
     places = served_places(words)
     return None if places is None else [words[place] for place in places]
 
 
 def served_places(words):
     """Returns those files' places among the words."""
-    said = read_words(words, SIZES, FLAGS) if words[:1] == ["serve"] else None
+    if words[:1] == ["serve"]:
+        return fitting(read_words(words, SIZES, FLAGS), 0)
+    return fitting(read_words(words, DRIVEN, ()), 1) if words[:1] == ["drive"] else None
+
+
+def schedule_place(words):
+    """Returns the place of the schedule by which files are driven, or None where the words aren't those of `drive`."""
+    is_driven = words[:1] == ["drive"] and served_places(words) is not None
+    return read_words(words, DRIVEN, ())[1][0] if is_driven else None
+
+
+def schedules(words):
+    """Returns the names of the schedules: one, or none."""
+    place = schedule_place(words)
+    return [] if place is None else [words[place]]
+
+
+def fitting(said, before):
+    """Returns the places of the files of requests, which stand behind so many others, where the options fit them."""
     if said is None:
         return None
     given, files = said
+    files = files[before:]
     fits = given.get("--ring", 1160) % 8 == 0 and are_served(len(files), given.get("--small", USUAL_SMALL))
     return files if fits else None
 

@@ -17,7 +17,7 @@ import time
 from launcher.place import CRATE_FOLDER
 from launcher.proved import TOOLCHAIN_MISSING
 from launcher.replies import can_be_read, move_aside, names_of, replies_of
-from launcher.typed import checked_places, generated_sessions, served_places
+from launcher.typed import checked_places, generated_sessions, schedule_place, schedules, served_places
 from launcher.voice import Refused
 
 ENDED = re.compile(rb"^run=ended status=(\d+) .*proved=no$", re.M)
@@ -30,12 +30,12 @@ def run(words, folder, children, voice):
     voice.say("NOTHING IS PROVED of this run: rt try compiles the program, about half a minute, and then runs it")
     if generated_sessions(words):
         voice.say("the replies to generated requests aren't kept")
-    checked = checked_places(words) or []
-    words = [os.path.abspath(word) if place in checked else word for place, word in enumerate(words)]
+    named = [*(checked_places(words) or []), schedule_place(words)]
+    words = [os.path.abspath(word) if place in named else word for place, word in enumerate(words)]
     places = served_places(words) or []
     files = [words[place] for place in places]
     with tempfile.TemporaryDirectory(prefix="vepkhundi-") as room:
-        are_served = all(map(can_be_read, files))
+        are_served = all(map(can_be_read, [*schedules(words), *files]))
         pipes = [os.path.join(room, f"requests{number}") for number in range(len(files))]
         for place, file, pipe in zip(places, files, pipes):
             words = [*words[:place], pipe if are_served else os.path.abspath(file), *words[place + 1 :]]

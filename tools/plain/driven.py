@@ -1,7 +1,7 @@
 """Sessions that are driven by a schedule, on one thread: what is said of each line, and what each session is answered.
 
-It shares nothing with the server. Where the server may choose, this has what one thread gives: each claim takes the first
-buffer of its kind that is free, and session i has the small buffers from 128 i on as its stage.
+It shares nothing with the server. Where the server may choose, this has what one thread gives: each claim takes the
+first buffer of its kind that is free, and session i has the small buffers from 128 i on as its stage.
 """
 
 import re
@@ -31,7 +31,8 @@ class Frame:
 
 
 class Wire:
-    """What was sent. The puts with these numbers fail, and keep the first half of their bytes; nothing is put after one."""
+    """What was sent. The puts with these numbers fail, and keep the first half of their bytes; nothing is put after
+    one."""
 
     def __init__(self, fails):
         self.fails, self.puts, self.sent, self.failed = fails, 0, b"", False
@@ -101,7 +102,8 @@ class Session:
         return "none" if recycled is None else f"{call} {recycled}"
 
     def reap_one(self):
-        """How many of the stored buffers that a reply held nobody holds any more, or None where no reply was gathered."""
+        """How many of the stored buffers that a reply held nobody holds any more, or None where no reply was
+        gathered."""
         if self.reaped == self.gathered:
             return None
         frame = self.posted[self.reaped]
@@ -122,8 +124,8 @@ def places(segments):
 
 
 class Driven:
-    """A schedule over some inputs. `transcript` is what is said, `replies` what each session is sent, and `held` how many
-    small and large buffers the stored values lie in at the end."""
+    """A schedule over some inputs. `transcript` is what is said, `replies` what each session is sent, and `held` how
+    many small and large buffers the stored values lie in at the end."""
 
     def __init__(self, schedule, inputs, fails=(), **sizes):
         sizes = {**SIZES, **sizes}

@@ -6,7 +6,8 @@ from plain.driven_rows import request
 
 KEYS = [b"", b"a", b"b", b"k", b"long" * 20]
 LENGTHS = [0, 1, 2, 99, 511, 512, 513, 600, 4090, 4096, 4097, 4608, 4609, 5000, 8192, 12300, 16385]
-BROKEN = [b"PING\r\n", b"*1\r\n$01\r\n", b"*1\r\n+OK\r\n", b"*1025\r\n", b"*2\r\n$3\r\nGET\r\n$1\r\nab\r\n", b"*1\r\n$4\r\nPI", b"*2\r"]
+BROKEN = [b"PING\r\n", b"*1\r\n$01\r\n", b"*1\r\n+OK\r\n", b"*1025\r\n", b"*1\r\n$1\r\nab\r\n"]
+CUT = [b"*1\r\n$4\r\nPI", b"*2\r"]
 
 
 class Case:
@@ -29,9 +30,10 @@ def value(chance):
 
 
 def input_of(chance, kind):
-    """The bytes of some commands; of large or wide ones a stage or a ring holds few. Some break the protocol, or are cut."""
+    """The bytes of some commands; of large or wide ones a stage or a ring holds few. Some break the protocol, or are
+    cut."""
     commands = (request(*command(chance, kind)) for _ in range(chance.randrange(5, 150)))
-    return b"".join(commands) + (chance.choice(BROKEN) if chance.random() < 0.3 else b"")
+    return b"".join(commands) + (chance.choice(BROKEN + CUT) if chance.random() < 0.3 else b"")
 
 
 def command(chance, kind):

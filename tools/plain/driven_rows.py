@@ -1,5 +1,5 @@
-"""Schedules, with what is to be said of them: reckoned by hand from how values are cut, laid out and held. And inputs, with
-how they end."""
+"""Schedules, with what is to be said of them: reckoned by hand from how values are cut, laid out and held. And
+inputs, with how they end."""
 
 from plain.inputs import BAD_COUNT, BAD_LENGTH, CLEAN, CUT, INLINE, NO_BULK
 from plain.pool import FIRST, LARGE, SMALL
@@ -21,8 +21,8 @@ def lines(count, line):
 
 
 class Row:
-    """Requests of one session and a schedule, and what is said and answered. `fails` are the puts that fail, in so far as
-    something can have them fail."""
+    """Requests of one session and a schedule, and what is said and answered. `fails` are the puts that fail, in so
+    far as something can have them fail."""
 
     def __init__(self, requests, schedule, said, replies, status=0, fails=(), **sizes):
         self.input = b"".join(request(*words) for words in requests)
@@ -37,8 +37,8 @@ SET_AND_GET = "call 0 0 send 1048576:5 store 3145728:600\ncall 0 1 send 1049088:
 
 
 def three_lengths():
-    """Values of 511, 512 and 513 bytes: the first is copied, the others are sent from where they lie, and the last needs a
-    large buffer."""
+    """Values of 511, 512 and 513 bytes: the first is copied, the others are sent from where they lie, and the last
+    needs a large buffer."""
     values = [(b"a", 511 * b"A"), (b"b", 512 * b"B"), (b"c", 513 * b"C")]
     requests = [(b"SET", *it) for it in values] + [(b"GET", key) for key, _ in values]
     said = (
@@ -96,9 +96,9 @@ def appended():
 
 
 def many_short_values(refused, reaped, **sizes):
-    """64 values of 511 bytes in one reply, which is 33,221 bytes in 65 buffers of the stage, the last of 453 bytes. It may
-    need 66 buffers, of which 64 are free, and 1,154 descriptors, of which so many are free as the ring allows. So many
-    replies as that takes are reaped, and their buffers come first."""
+    """64 values of 511 bytes in one reply, which is 33,221 bytes in 65 buffers of the stage, the last of 453 bytes.
+    It may need 66 buffers, of which 64 are free, and 1,154 descriptors, of which so many are free as the ring
+    allows. So many replies as that takes are reaped, and their buffers come first."""
     keys = [b"k%02d" % number for number in range(64)]
     requests = [(b"SET", key, 511 * b"v") for key in keys] + [(b"MGET", *keys)]
     schedule = lines(65, "call 0") + lines(64, "gather 0") + "call 0\n"
@@ -127,7 +127,8 @@ def ring_that_is_full():
 
 
 def wire_that_fails():
-    """The third put, of 512 bytes of the stored value, fails and keeps a half of them; each frame is still completed."""
+    """The third put, of 512 bytes of the stored value, fails and keeps a half of them; each frame is still
+    completed."""
     schedule = lines(3, "call 0") + lines(3, "gather 0") + lines(3, "reap 0")
     said = (
         SET_AND_GET + "call 0 2 send 1049600:7\n"
@@ -182,7 +183,11 @@ def nothing_appended():
 
 
 def end_and_nothing_left():
-    said = "call 0 0 send 1048576:7\ngather 0 0 7\ngather 0 empty\nreap 0 0 0\nreap 0 none\ncall 0 end\ncall 0 end\nheld 0 0\n"
+    said = (
+        "call 0 0 send 1048576:7\n"
+        "gather 0 0 7\ngather 0 empty\nreap 0 0 0\nreap 0 none\n"
+        "call 0 end\ncall 0 end\nheld 0 0\n"
+    )
     schedule = "call 0\ngather 0\ngather 0\nreap 0\nreap 0\ncall 0\ncall 0"
     return Row([(b"PING",)], schedule, said, b"+PONG\r\n")
 

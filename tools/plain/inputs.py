@@ -1,4 +1,5 @@
-"""How an input ends: whole, cut, too long, or at a byte that no request has there. It shares nothing with the server."""
+"""How an input ends: whole, cut, too long, or at a byte that no request has there. It shares nothing with the
+server."""
 
 import re
 
@@ -23,8 +24,8 @@ def is_front(line, form, most):
 
 
 def read_line(text, at, form, most, errors):
-    """Returns the number of a line, and the place behind it; or how the input ends within the line: `errors` are those of
-    its first byte and of the others."""
+    """Returns the number of a line, and the place behind it; or how the input ends within the line: `errors` are
+    those of its first byte and of the others."""
     whole = text.find(b"\n", at, at + LINE)
     if whole >= 0 and is_front(text[at : whole + 1], form, most):
         return int(text[at + 1 : whole]), whole + 1
@@ -69,8 +70,8 @@ def end_of(text):
 
 
 def commands_of(text, end):
-    """The words of each request of an input that ends so; and behind them, where it breaks the protocol, the text of that
-    error."""
+    """The words of each request of an input that ends so; and behind them, where it breaks the protocol, the text of
+    that error."""
     yield from requests(text)
     if end.startswith("ERR"):
         yield end

@@ -45,7 +45,8 @@ class Layout:
         self.goes_on = False  # whether the last segment can grow
 
     def copy(self, some):
-        """Copies bytes behind those that were copied last; each buffer, and each break by a stored piece, ends a segment."""
+        """Copies bytes behind those that were copied last; each buffer, and each break by a stored piece, ends a
+        segment."""
         self.texts.append(some)
         while some:
             buffer, used = self.stage[self.copied // SMALL], self.copied % SMALL

@@ -1,4 +1,5 @@
-"""A store whose values lie in buffers: what a part of a request finds there and leaves. It shares nothing with the server."""
+"""A store whose values lie in buffers: what a part of a request finds there and leaves. It shares nothing with the
+server."""
 
 from plain.pool import LARGE, NoBuffer
 from plain.requests import MOST_VALUE
@@ -9,7 +10,8 @@ READS = (b"GET", b"MGET")
 
 
 class Piece:
-    """Some bytes of a stored fragment. `is_given` of one that the store no longer holds, and the reply does in its place."""
+    """Some bytes of a stored fragment. `is_given` of one that the store no longer holds, and the reply does in its
+    place."""
 
     def __init__(self, buffer, first, size, is_given):
         self.buffer, self.first, self.size, self.is_given = buffer, first, size, is_given

@@ -46,7 +46,8 @@ class Pool:
         return small, sum(map(bool, self.holds)) - small
 
     def place(self, value):
-        """Cuts a value after each 4,096 bytes and fills a buffer with each cut, or none where one of them isn't free."""
+        """Cuts a value after each 4,096 bytes and fills a buffer with each cut, or none where one of them isn't
+        free."""
         cuts = [value[at : at + LARGE] for at in range(0, len(value), LARGE)]
         claimed = []
         try:
