@@ -41,10 +41,10 @@ module _ {W : Type 0} (sends : Sending W) (is : IsSending sends) where
               (wire_more device.failed lane.whole (length device.completed) session.posted more start wire few so (front_length device.completed session.posted m.in_order.completed.0 m.in_order.completed.1) lane.grew));
         }
 
-    pub call_goes : (input : Option (List ℕ)) (before n : ℕ) (kept : Option Command) (pump : PumpState) (said said' : Option End) (lane : IsLane sends fixed start given said events session device wire)
-        → GoesOn input before n kept said' pump (λ now. IsDriven fixed now said' lane.whole (events ++ event ∷ []) session' device')
-        → GoesOn input before n kept said' pump (λ now. IsLane sends fixed start now said' (events ++ event ∷ []) session' device' wire)
-    call_goes input before n kept pump said said' lane goes = record { given = goes.given; asked = goes.asked; is = lane_goes said said' lane goes.given goes.is }
+    pub call_goes : (Also : List Command → Type 0) (input : Option (List ℕ)) (before n : ℕ) (kept : Option Command) (pump : PumpState) (said said' : Option End) (lane : IsLane sends fixed start given said events session device wire)
+        → GoesOn input before n kept said' pump (λ now. IsDriven fixed now said' lane.whole (events ++ event ∷ []) session' device' × Also now)
+        → GoesOn input before n kept said' pump (λ now. IsLane sends fixed start now said' (events ++ event ∷ []) session' device' wire × Also now)
+    call_goes Also input before n kept pump said said' lane goes = record { given = goes.given; asked = goes.asked; is = (lane_goes said said' lane goes.given goes.is.0, goes.is.1) }
 
     pub reap_goes : (said : Option End) (lane : IsLane sends fixed start given said events session device wire)
         → IsDriven fixed given said lane.whole (events ++ event ∷ []) session' device' → IsLane sends fixed start given said (events ++ event ∷ []) session' device' wire

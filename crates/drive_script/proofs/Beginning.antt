@@ -8,6 +8,7 @@ use Rattle.flake_model.specs.Command.{Command}
 use Rattle.flake_model.specs.Deed.{Deed}
 use Rattle.pin_core.specs.declared.sizes.Sizes.{Sizes}
 use Rattle.reply_planner.specs.Parcels.{Sent}
+use Rattle.session_serve.specs.Working.{IsFresh}
 use Rattle.transcript_model.specs.Sessions.{Sending, WireGrew}
 use Rattle.transcript_model.specs.Terms.{Terms}
 use Rattle.drive_model.specs.Matches.{texts_in}
@@ -19,10 +20,11 @@ use Rattle.drive_script.specs.Driving.{Driving, fixed_at, IsNew, IsUnderWay, Are
 use Rattle.drive_script.specs.Lanes.{IsEndSaid}
 use Rattle.drive_script.specs.Left.{terms_at}
 use Rattle.drive_script.specs.Shown.{session_shown}
+use Rattle.drive_script.proofs.Running.{running_starts}
 
-module _ {W : Type 0} (sends : Sending W) (is : IsSending sends) (z : Sizes) where
-  new_goes : (d : Driving W) → IsNew z d → IsUnderWay sends z d [] d
-  new_goes d new =
+module _ {W : Type 0} (sends : Sending W) (is : IsSending sends) (z : Sizes) (shards : ℕ) where
+  new_goes : (d : Driving W) → IsNew z d → IsFresh z d.session d.pump → IsUnderWay sends z shards d [] d
+  new_goes d new fresh =
       let terms : Terms = terms_at (fixed_at z d.session) [] (record { end = Left; taken = 0; replies = 0; failed = false }) 0 [] in
       record {
         ring = new.ring;
@@ -34,7 +36,7 @@ module _ {W : Type 0} (sends : Sending W) (is : IsSending sends) (z : Sizes) whe
         given = [];
         asked = subst (λ (k : Option Command). IsAsked d.pump.left d.pump.faults [] (length d.session.posted) k d.end d.pump) (sym new.none_kept)
             (subst (λ (e : Option End). IsAsked d.pump.left d.pump.faults [] (length d.session.posted) None e d.pump) (sym new.none_ended)
-            (record { pump_is = new.unread; kept_back = sym (ap (λ (list : List Sent). length list) new.none_posted) }));
+            (record { pump_is = new.unread; kept_back = sym (ap (λ (list : List Sent). length list) new.none_posted); unfailed = refl }));
         lane = record {
           whole = 0;
           driven = record {
@@ -63,10 +65,14 @@ module _ {W : Type 0} (sends : Sending W) (is : IsSending sends) (z : Sizes) whe
           };
           grew = subst (λ (b : Bool). WireGrew sends b 0 (texts_in d.session.posted) new.wire new.wire) (sym new.unfailed) (wire_fresh sends is (texts_in d.session.posted) new.wire);
         };
+        fresh = fresh;
+        running = running_starts z shards d.session d.pump d.end fresh;
       }
 
-  pub new_are_fresh : {A : Type 0} (xs : List A) (view : A → Driving W) → All (λ x. IsNew z (view x)) xs → AreFresh sends z (map view xs)
+  pub new_are_fresh : {A : Type 0} (xs : List A) (view : A → Driving W) → All (λ x. IsNew z (view x) × IsFresh z (view x).session (view x).pump) xs → AreFresh sends z shards (map view xs)
   new_are_fresh [] view all session first at = absurd (cc)
   new_are_fresh (x ∷ xs) view all zero first at =
-      let same : view x ≡ first = cc in subst (λ (d : Driving W). IsUnderWay sends z d [] d) same (new_goes (view x) (All-head (λ y. IsNew z (view y)) x xs all))
-  new_are_fresh (x ∷ xs) view all (suc session) first at = new_are_fresh xs view (All-tail (λ y. IsNew z (view y)) x xs all) session first at
+      let same : view x ≡ first = cc in
+      let one = All-head (λ y. IsNew z (view y) × IsFresh z (view y).session (view y).pump) x xs all in
+      subst (λ (d : Driving W). IsUnderWay sends z shards d [] d) same (new_goes (view x) one.0 one.1)
+  new_are_fresh (x ∷ xs) view all (suc session) first at = new_are_fresh xs view (All-tail (λ y. IsNew z (view y) × IsFresh z (view y).session (view y).pump) x xs all) session first at

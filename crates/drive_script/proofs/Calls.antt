@@ -58,7 +58,7 @@ not_called session = record {
   behind = tt;
 }
 
-module _ (fixed : Fixed) (given : List Command) (whole : ℕ) (events : List Event) (input : Option (List ℕ)) (before : ℕ) (session : SessionShown) (device : DeviceShown) where
+module _ (Also : List Command → Type 0) (fixed : Fixed) (given : List Command) (whole : ℕ) (events : List Event) (input : Option (List ℕ)) (before : ℕ) (session : SessionShown) (device : DeviceShown) where
   -- the end is said again
   pub called_again : (end : End) → IsDriven fixed given (Some end) whole events session device → IsDriven fixed given (Some end) whole (events ++ at_end ∷ []) session device
   called_again end driven = record {
@@ -81,22 +81,25 @@ module _ (fixed : Fixed) (given : List Command) (whole : ℕ) (events : List Eve
         record { session = λ i. record session { told = m.told i }; device = λ i. record device { told = m.device_told i }; in_order = m.in_order }
 
     -- the input ended
-    pub called_at_end : (end : End) (pump : PumpState) → HasEnded input before given end pump → length given ≡ length session.posted
-        → GoesOn input before (length session.posted) None (Some end) pump (λ now. IsDriven fixed now (Some end) whole (events ++ at_end ∷ []) session device)
+    pub called_at_end : (end : End) (pump : PumpState) → HasEnded input before given end pump → length given ≡ length session.posted → Also given
+        → GoesOn input before (length session.posted) None (Some end) pump (λ now. IsDriven fixed now (Some end) whole (events ++ at_end ∷ []) session device × Also now)
     unfolding not_called
-    called_at_end end pump ended count = record {
+    called_at_end end pump ended count also = record {
       given = given;
       asked = inl (ended, count);
-      is = record {
-        terms = with_news driven.terms given (ended_so end (length session.posted)) driven.terms.whole (session.deeds ++ []);
-        fixed_is = driven.fixed_is;
-        given_is = refl;
-        whole_is = driven.whole_is;
-        kept = kept_end driven.terms session session session device device events driven.kept open_yet given (more_than driven.terms.commands given given driven.given_is (λ place command at. at))
-            (ended_so end (length session.posted)) (known end ended.to_the_end) refl (not_called session) (inr refl) still_both;
-        ended_is = says_end-now events;
-        end_is = refl;
-      };
+      is = (
+        record {
+          terms = with_news driven.terms given (ended_so end (length session.posted)) driven.terms.whole (session.deeds ++ []);
+          fixed_is = driven.fixed_is;
+          given_is = refl;
+          whole_is = driven.whole_is;
+          kept = kept_end driven.terms session session session device device events driven.kept open_yet given (more_than driven.terms.commands given given driven.given_is (λ place command at. at))
+              (ended_so end (length session.posted)) (known end ended.to_the_end) refl (not_called session) (inr refl) still_both;
+          ended_is = says_end-now events;
+          end_is = refl;
+        },
+        also,
+      );
     }
 
     module _ (between session' : SessionShown) (device' : DeviceShown) (both : BothEnds between session' device device') (command : Command) (pump : PumpState)
@@ -115,78 +118,91 @@ module _ (fixed : Fixed) (given : List Command) (whole : ℕ) (events : List Eve
       as_posted : length session'.posted ≡ length between.posted
       as_posted = ap (λ (s : SessionShown). length s.posted) both.session
 
-      pub called : (call freed : ℕ) (sent stored : List Seg) → CallPosts command session between call freed sent stored
-          → GoesOn input before (length session'.posted) None None pump (λ list. IsDriven fixed list None whole (events ++ posted call freed sent stored ∷ []) session' device')
+      pub called : Also (next.front ++ command ∷ []) → (call freed : ℕ) (sent stored : List Seg) → CallPosts command session between call freed sent stored
+          → GoesOn input before (length session'.posted) None None pump (λ list. IsDriven fixed list None whole (events ++ posted call freed sent stored ∷ []) session' device' × Also list)
       unfolding now
-      called call freed sent stored posts = record {
+      called also call freed sent stored posts = record {
         given = next.front ++ command ∷ [];
         asked = record {
           pump_is = next.pump_is;
           kept_back = omega (arith, one_more next.front command, next.count, as_posted, ap (λ (list : List Sent). length list) posts.posted, one_more session.posted posts.parcel);
+          unfailed = next.unfailed;
         };
-        is = record {
-          terms = with_news driven.terms (next.front ++ command ∷ []) driven.terms.end driven.terms.whole between.deeds;
-          fixed_is = driven.fixed_is;
-          given_is = refl;
-          whole_is = driven.whole_is;
-          kept = kept_call driven.terms session between session' device device' events driven.kept open_yet command call freed sent stored posts both (next.front ++ command ∷ []) more asked;
-          ended_is = says_end-other events (posted call freed sent stored) refl ∙ driven.ended_is;
-          end_is = driven.end_is;
-        };
+        is = (
+          record {
+            terms = with_news driven.terms (next.front ++ command ∷ []) driven.terms.end driven.terms.whole between.deeds;
+            fixed_is = driven.fixed_is;
+            given_is = refl;
+            whole_is = driven.whole_is;
+            kept = kept_call driven.terms session between session' device device' events driven.kept open_yet command call freed sent stored posts both (next.front ++ command ∷ []) more asked;
+            ended_is = says_end-other events (posted call freed sent stored) refl ∙ driven.ended_is;
+            end_is = driven.end_is;
+          },
+          also,
+        );
       }
 
       kept_front : length between.posted ≡ length session.posted → length next.front ≡ length session'.posted
       kept_front same = omega (arith, next.count, as_posted, same)
 
-      pub called_ring : (need room : ℕ) → FindsRingFull command session between need room
-          → GoesOn input before (length session'.posted) (Some command) None pump (λ list. IsDriven fixed list None whole (events ++ ring_full need room ∷ []) session' device')
+      pub called_ring : Also (next.front ++ command ∷ []) → (need room : ℕ) → FindsRingFull command session between need room
+          → GoesOn input before (length session'.posted) (Some command) None pump (λ list. IsDriven fixed list None whole (events ++ ring_full need room ∷ []) session' device' × Also list)
       unfolding now
-      called_ring need room finds = record {
+      called_ring also need room finds = record {
         given = next.front ++ command ∷ [];
-        asked = record { pump_is = next.pump_is; kept_back = (next.front, refl, kept_front (ap (λ (s : SessionShown). length s.posted) finds.reaps.new_is)) };
-        is = record {
-          terms = with_news driven.terms (next.front ++ command ∷ []) driven.terms.end driven.terms.whole session.deeds;
-          fixed_is = driven.fixed_is;
-          given_is = refl;
-          whole_is = driven.whole_is;
-          kept = kept_ring driven.terms session between session' device device' events driven.kept open_yet command (next.front ++ command ∷ []) more asked need room finds both;
-          ended_is = says_end-other events (ring_full need room) refl ∙ driven.ended_is;
-          end_is = driven.end_is;
-        };
+        asked = record { pump_is = next.pump_is; kept_back = (next.front, refl, kept_front (ap (λ (s : SessionShown). length s.posted) finds.reaps.new_is)); unfailed = next.unfailed };
+        is = (
+          record {
+            terms = with_news driven.terms (next.front ++ command ∷ []) driven.terms.end driven.terms.whole session.deeds;
+            fixed_is = driven.fixed_is;
+            given_is = refl;
+            whole_is = driven.whole_is;
+            kept = kept_ring driven.terms session between session' device device' events driven.kept open_yet command (next.front ++ command ∷ []) more asked need room finds both;
+            ended_is = says_end-other events (ring_full need room) refl ∙ driven.ended_is;
+            end_is = driven.end_is;
+          },
+          also,
+        );
       }
 
-      pub called_stage : (need free : ℕ) → FindsStageFull command session between need free
-          → GoesOn input before (length session'.posted) (Some command) None pump (λ list. IsDriven fixed list None whole (events ++ stage_full need free ∷ []) session' device')
+      pub called_stage : Also (next.front ++ command ∷ []) → (need free : ℕ) → FindsStageFull command session between need free
+          → GoesOn input before (length session'.posted) (Some command) None pump (λ list. IsDriven fixed list None whole (events ++ stage_full need free ∷ []) session' device' × Also list)
       unfolding now
-      called_stage need free finds = record {
+      called_stage also need free finds = record {
         given = next.front ++ command ∷ [];
-        asked = record { pump_is = next.pump_is; kept_back = (next.front, refl, kept_front (ap (λ (s : SessionShown). length s.posted) finds.reaps.new_is)) };
-        is = record {
-          terms = with_news driven.terms (next.front ++ command ∷ []) driven.terms.end driven.terms.whole session.deeds;
-          fixed_is = driven.fixed_is;
-          given_is = refl;
-          whole_is = driven.whole_is;
-          kept = kept_stage driven.terms session between session' device device' events driven.kept open_yet command (next.front ++ command ∷ []) more asked need free finds both;
-          ended_is = says_end-other events (stage_full need free) refl ∙ driven.ended_is;
-          end_is = driven.end_is;
-        };
+        asked = record { pump_is = next.pump_is; kept_back = (next.front, refl, kept_front (ap (λ (s : SessionShown). length s.posted) finds.reaps.new_is)); unfailed = next.unfailed };
+        is = (
+          record {
+            terms = with_news driven.terms (next.front ++ command ∷ []) driven.terms.end driven.terms.whole session.deeds;
+            fixed_is = driven.fixed_is;
+            given_is = refl;
+            whole_is = driven.whole_is;
+            kept = kept_stage driven.terms session between session' device device' events driven.kept open_yet command (next.front ++ command ∷ []) more asked need free finds both;
+            ended_is = says_end-other events (stage_full need free) refl ∙ driven.ended_is;
+            end_is = driven.end_is;
+          },
+          also,
+        );
       }
 
-      pub called_short : CallRefused session between
-          → GoesOn input before (length session'.posted) None (Some Memory) pump (λ list. IsDriven fixed list (Some Memory) whole (events ++ at_end ∷ []) session' device')
+      pub called_short : Also (next.front ++ command ∷ []) → CallRefused session between
+          → GoesOn input before (length session'.posted) None (Some Memory) pump (λ list. IsDriven fixed list (Some Memory) whole (events ++ at_end ∷ []) session' device' × Also list)
       unfolding now
-      called_short refused =
+      called_short also refused =
           let same : length between.posted ≡ length session.posted = ap (λ (s : SessionShown). length s.posted) refused.new_is in
           record {
             given = next.front ++ command ∷ [];
-            asked = inr (refl, next.pump_is, omega (arith, one_more next.front command, next.count, as_posted, same));
-            is = record {
-              terms = with_news driven.terms (next.front ++ command ∷ []) (ended_so Memory (length session.posted)) driven.terms.whole (session.deeds ++ refused.done);
-              fixed_is = driven.fixed_is;
-              given_is = refl;
-              whole_is = driven.whole_is;
-              kept = kept_end driven.terms session between session' device device' events driven.kept open_yet (next.front ++ command ∷ []) more (ended_so Memory (length session.posted)) refl refl refused (inl refl) both;
-              ended_is = says_end-now events;
-              end_is = refl;
-            };
+            asked = inr (refl, next.pump_is, omega (arith, one_more next.front command, next.count, as_posted, same), next.unfailed);
+            is = (
+              record {
+                terms = with_news driven.terms (next.front ++ command ∷ []) (ended_so Memory (length session.posted)) driven.terms.whole (session.deeds ++ refused.done);
+                fixed_is = driven.fixed_is;
+                given_is = refl;
+                whole_is = driven.whole_is;
+                kept = kept_end driven.terms session between session' device device' events driven.kept open_yet (next.front ++ command ∷ []) more (ended_so Memory (length session.posted)) refl refl refused (inl refl) both;
+                ended_is = says_end-now events;
+                end_is = refl;
+              },
+              also,
+            );
           }

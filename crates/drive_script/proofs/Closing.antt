@@ -72,13 +72,13 @@ same_end : (said : Option End) (end : End) → IsEndSaid said end → is_some sa
 same_end None end is some = absurd (cc)
 same_end (Some said) end is some = sym is
 
-module _ {W : Type 0} (sends : Sending W) (z : Sizes) where
+module _ {W : Type 0} (sends : Sending W) (z : Sizes) (shards : ℕ) where
   pub quiet_end : (first : Driving W) (events quiet : List Event) (now : Driving W) (happened : Happened) → happened ≡ NothingPosted → AllByRecursion IsQuiet quiet
-      → IsUnderWay sends z first ((events ++ quiet) ++ event_of happened [] [] ∷ []) now → GathersAll sends z first events now
+      → IsUnderWay sends z shards first ((events ++ quiet) ++ event_of happened [] [] ∷ []) now → GathersAll sends z shards first events now
   quiet_end first events quiet now happened is are way =
-      gathers_all sends z first events quiet now are (subst (λ (h : Happened). IsUnderWay sends z first ((events ++ quiet) ++ event_of h [] [] ∷ []) now) is way)
+      gathers_all sends z shards first events quiet now are (subst (λ (h : Happened). IsUnderWay sends z shards first ((events ++ quiet) ++ event_of h [] [] ∷ []) now) is way)
 
-  module _ (first now : Driving W) (events : List Event) (all : GathersAll sends z first events now) (end : SessionEnd) (mine : SessionList) (mine_is : mine ≡ now.session.pass.list)
+  module _ (first now : Driving W) (events : List Event) (all : GathersAll sends z shards first events now) (end : SessionEnd) (mine : SessionList) (mine_is : mine ≡ now.session.pass.list)
       (end_is : end ≡ ended_at (unwrap_or now.end Left) now.pump.taken (length now.session.posted) now.device.failed) (commands : List Command) (more : HasMore all.is.given commands) where
     kept_at_last : IsKept (with_news all.is.lane.driven.terms commands end all.is.lane.driven.terms.whole all.is.lane.driven.terms.deeds) (session_shown z now.session) now.device (events ++ all.quiet)
     kept_at_last =
@@ -98,7 +98,7 @@ module _ {W : Type 0} (sends : Sending W) (z : Sizes) where
         let deeds : driven.terms.deeds ≡ own_deeds mine = sym driven.kept.matches.shown.deeds ∙ ap own_deeds (sym mine_is) in
         λ i. terms_at (driven.fixed_is i) commands end (driven.whole_is i) (deeds i)
 
-    told_left : IsTold (terms_at (fixed_at z first.session) commands end all.is.lane.whole (own_deeds mine)) events
+    pub told_left : IsTold (terms_at (fixed_at z first.session) commands end all.is.lane.whole (own_deeds mine)) events
     told_left =
         let driven = all.is.lane.driven in
         let terms = with_news driven.terms commands end driven.terms.whole driven.terms.deeds in
@@ -110,7 +110,7 @@ module _ {W : Type 0} (sends : Sending W) (z : Sizes) where
         (told_at_last terms session now.device events all.quiet kept_at_last all.are (ap (λ (e : SessionEnd). e.replies) (sym end_is)) (ap (λ (list : List Sent). length list) all.all) (says ∙ driven.ended_is ∙ last)
         (ap (λ (e : SessionEnd). e.failed) (sym end_is)))
 
-    sent_left : WireGrew sends end.failed all.is.lane.whole (texts_of (terms_at (fixed_at z first.session) commands end all.is.lane.whole (own_deeds mine))) all.is.start all.is.wire
+    pub sent_left : WireGrew sends end.failed all.is.lane.whole (texts_of (terms_at (fixed_at z first.session) commands end all.is.lane.whole (own_deeds mine))) all.is.start all.is.wire
     sent_left =
         let driven = all.is.lane.driven in
         let terms = with_news driven.terms commands end driven.terms.whole driven.terms.deeds in
@@ -120,7 +120,7 @@ module _ {W : Type 0} (sends : Sending W) (z : Sizes) where
         subst (λ (b : Bool). WireGrew sends b all.is.lane.whole (texts_of (terms_at (fixed_at z first.session) commands end all.is.lane.whole (own_deeds mine))) all.is.start all.is.wire) (ap (λ (e : SessionEnd). e.failed) (sym end_is))
         (subst (λ list. WireGrew sends now.device.failed all.is.lane.whole list all.is.start all.is.wire) texts all.is.lane.grew)
 
-  pub has_left : (first now : Driving W) (events : List Event) (all : GathersAll sends z first events now) (end : SessionEnd) (mine : SessionList) (wire : W) → mine ≡ now.session.pass.list
+  pub has_left : (first now : Driving W) (events : List Event) (all : GathersAll sends z shards first events now) (end : SessionEnd) (mine : SessionList) (wire : W) → mine ≡ now.session.pass.list
       → end ≡ ended_at (unwrap_or now.end Left) now.pump.taken (length now.session.posted) now.device.failed → now.wire ≡ Some wire → HasLeft sends z first events end mine now.pump wire
   has_left first now events all end mine wire mine_is end_is wire_is = record {
     given = all.is.given;

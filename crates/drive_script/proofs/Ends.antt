@@ -110,3 +110,13 @@ module _ {W : Type 0} (put_may : W → Bor (List ℕ) → (W × Bool) → Type 0
     pub empty_said : IfIdle result (Flushes flush_may failed now old new) → result ≡ found.Empty → happened ≡ Happen.NothingPosted → IsSaid happened
     empty_said flushed same said = subst (λ (h : Happened). IsSaid h) (sym said)
         (empty_right (subst (λ (r : Gathered). IsFound r now device gathered) same is) (subst (λ (r : Gathered). IfIdle r (Flushes flush_may failed now old new)) same flushed))
+
+-- nothing was completed
+pub none_completed : {g : Ghosts Sent} (device gathered device' : DeviceEnd Sent g) (now : Bool) (posted : ℕ) (result : Gathered) → IsFound result now device gathered → result ≡ found.Empty
+    → device_view device' ≡ record (device_view gathered) { told = posted } → completed device' ≡ completed device
+none_completed device gathered device' now posted result is same view =
+    let none = subst (λ (r : Gathered). IsFound r now device gathered) same is in
+    ap (λ v. v.completed) view ∙ ap (λ v. v.completed) none.1.view
+
+pub idle : (F : Type 0) (result : Gathered) → result ≡ found.Empty → IfIdle result F → F
+idle F result same is = subst (λ (r : Gathered). IfIdle r F) same is

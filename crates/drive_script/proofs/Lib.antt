@@ -15,3 +15,5 @@ pub mod Quiets
 pub mod Closing
 pub mod Rows
 pub mod Beginning
+pub mod Running
+pub mod Ran

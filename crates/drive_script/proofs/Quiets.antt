@@ -80,9 +80,9 @@ front_is_all : {A : Type 0} (xs ys rest : List A) → ys ≡ xs ++ rest → leng
 front_is_all xs ys [] is same = sym (append-nil xs) ∙ sym is
 front_is_all xs ys (x ∷ rest) is same = absurd (omega (arith, same, ap (λ (list : List _). length list) is, length-append xs (x ∷ rest)))
 
-module _ {W : Type 0} (sends : Sending W) (z : Sizes) where
+module _ {W : Type 0} (sends : Sending W) (z : Sizes) (shards : ℕ) where
   -- none was there to gather
-  pub gathers_all : (first : Driving W) (events quiet : List Event) (now : Driving W) → AllByRecursion IsQuiet quiet → IsUnderWay sends z first ((events ++ quiet) ++ nothing_posted ∷ []) now → GathersAll sends z first events now
+  pub gathers_all : (first : Driving W) (events quiet : List Event) (now : Driving W) → AllByRecursion IsQuiet quiet → IsUnderWay sends z shards first ((events ++ quiet) ++ nothing_posted ∷ []) now → GathersAll sends z shards first events now
   gathers_all first events quiet now are is =
       let kept = is.lane.driven.kept in
       let m = kept.matches in
@@ -95,7 +95,7 @@ module _ {W : Type 0} (sends : Sending W) (z : Sizes) where
       record {
         quiet = quiet ++ nothing_posted ∷ [];
         are = all_quiet quiet are;
-        is = subst (λ (list : List Event). IsUnderWay sends z first list now) (append_assoc events quiet (nothing_posted ∷ [])) is;
+        is = subst (λ (list : List Event). IsUnderWay sends z shards first list now) (append_assoc events quiet (nothing_posted ∷ [])) is;
         all = all;
         told = m.told ∙ lengths;
       }
@@ -106,23 +106,23 @@ module _ {W : Type 0} (sends : Sending W) (z : Sizes) where
 
   -- one was gathered
   pub gathers_one : (first : Driving W) (events : List Event) (count : ℕ) (old new : Driving W) (happened : Happened) → line_of (record { session = 0; event = event_of happened [] [] }) ≡ Gather 0 → (happened ≡ Happen.NothingPosted → ⊥)
-      → ((events : List Event) → IsUnderWay sends z first events old → IsUnderWay sends z first (events ++ event_of happened [] [] ∷ []) new) → GoesQuietly sends z first events count old → GoesQuietly sends z first events (count + 1) new
+      → ((events : List Event) → IsUnderWay sends z shards first events old → IsUnderWay sends z shards first (events ++ event_of happened [] [] ∷ []) new) → GoesQuietly sends z shards first events count old → GoesQuietly sends z shards first events (count + 1) new
   gathers_one first events count old new happened answers some right was = record {
     quiet = was.quiet ++ event_of happened [] [] ∷ [];
     are = all_quiet was.quiet was.are;
     gathered = omega (arith, was.gathered, gathers-append was.quiet (event_of happened [] [] ∷ []), one_gathered happened answers some);
-    is = subst (λ (list : List Event). IsUnderWay sends z first list new) (append_assoc events was.quiet (event_of happened [] [] ∷ [])) (right (events ++ was.quiet) was.is);
+    is = subst (λ (list : List Event). IsUnderWay sends z shards first list new) (append_assoc events was.quiet (event_of happened [] [] ∷ [])) (right (events ++ was.quiet) was.is);
   }
     where
       all_quiet : (events : List Event) → AllByRecursion IsQuiet events → AllByRecursion IsQuiet (events ++ event_of happened [] [] ∷ [])
       all_quiet [] each = (gather_quiet happened answers, tt)
       all_quiet (event ∷ events) each = (each.0, all_quiet events each.1)
 
-  pub quiet_at_first : (first : Driving W) (events : List Event) (now : Driving W) → IsUnderWay sends z first events now → GoesQuietly sends z first events 0 now
-  quiet_at_first first events now is = record { quiet = []; are = tt; gathered = omega arith; is = subst (λ (list : List Event). IsUnderWay sends z first list now) (sym (append-nil events)) is }
+  pub quiet_at_first : (first : Driving W) (events : List Event) (now : Driving W) → IsUnderWay sends z shards first events now → GoesQuietly sends z shards first events 0 now
+  quiet_at_first first events now is = record { quiet = []; are = tt; gathered = omega arith; is = subst (λ (list : List Event). IsUnderWay sends z shards first list now) (sym (append-nil events)) is }
 
   -- no more were gathered than were posted
-  pub no_more_gathered : (first : Driving W) (events : List Event) (count : ℕ) (now : Driving W) → GoesQuietly sends z first events count now → count ≤ length now.session.posted
+  pub no_more_gathered : (first : Driving W) (events : List Event) (count : ℕ) (now : Driving W) → GoesQuietly sends z shards first events count now → count ≤ length now.session.posted
   no_more_gathered first events count now goes =
       let kept = goes.is.lane.driven.kept in
       let m = kept.matches in

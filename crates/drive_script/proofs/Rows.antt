@@ -1,5 +1,6 @@
 -- What sessions leave, one by one and together.
 use Rattle.std.proofs.Common.{◌≡◌, ℕ, ◌<◌, zero, suc, Bool, List, [], ◌∷◌, ◌++◌, All, length, map, slice_get, Some, refl, ap, sym, ◌∙◌, subst, append_assoc, append-nil, arith}
+use Rattle.std.specs.Borrow.{Bor}
 use Rattle.std.specs.List.{AllZip}
 use Rattle.std.proofs.lemmas.List.{nil_from_length, length-map}
 use Rattle.std.proofs.lemmas.List.Elements.{All-nil, All-cons, All-head, All-tail}
@@ -11,7 +12,9 @@ use Rattle.transcript_model.specs.Lines.{Event}
 use Rattle.transcript_model.specs.Sessions.{Sending, events_of}
 use Rattle.drive_script.specs.Driven.{Leaving, DroveAll}
 use Rattle.drive_script.specs.Driving.{Driving, IsUnderWay, WereDriven}
+use Rattle.drive_script.specs.Lanes.{sends_by}
 use Rattle.drive_script.specs.Left.{IsGoing, HasLeft}
+use Rattle.drive_script.specs.Ran.{HasDriven}
 use Rattle.drive_model.proofs.Lists.{get_below}
 use Rattle.drive_script.proofs.Steps.{get_mapped, some_at}
 
@@ -60,37 +63,47 @@ all_from : {A B : Type 0} (view : A → B) (xs : List A) (P : B → Type 0) → 
 all_from view [] P each = All-nil (λ x. P (view x))
 all_from view (x ∷ xs) P each = All-cons (λ x. P (view x)) x xs (each 0 (view x) refl) (all_from view xs P (λ k y is. each (suc k) y is))
 
-module _ {W : Type 0} (sends : Sending W) (z : Sizes) where
+module _ {W : Type 0} (sends : Sending W) (z : Sizes) (shards : ℕ) where
   module _ {A : Type 0} where
-    pub first_goes : (xs rest : List A) (x : A) (view : A → Driving W) → xs ≡ x ∷ rest → All (λ d. IsGoing sends z (view d)) xs → IsGoing sends z (view x)
-    first_goes xs rest x view = all_first xs rest x (λ d. IsGoing sends z (view d))
+    pub first_goes : (xs rest : List A) (x : A) (view : A → Driving W) → xs ≡ x ∷ rest → All (λ d. IsGoing sends z shards (view d)) xs → IsGoing sends z shards (view x)
+    first_goes xs rest x view = all_first xs rest x (λ d. IsGoing sends z shards (view d))
 
-    pub rest_goes : (xs rest : List A) (x : A) (view : A → Driving W) → xs ≡ x ∷ rest → All (λ d. IsGoing sends z (view d)) xs → All (λ d. IsGoing sends z (view d)) rest
-    rest_goes xs rest x view = all_rest xs rest x (λ d. IsGoing sends z (view d))
+    pub rest_goes : (xs rest : List A) (x : A) (view : A → Driving W) → xs ≡ x ∷ rest → All (λ d. IsGoing sends z shards (view d)) xs → All (λ d. IsGoing sends z shards (view d)) rest
+    rest_goes xs rest x view = all_rest xs rest x (λ d. IsGoing sends z shards (view d))
 
-    pub same_go : (xs ys : List A) (view : A → Driving W) → xs ≡ ys → All (λ d. IsGoing sends z (view d)) ys → All (λ d. IsGoing sends z (view d)) xs
-    same_go xs ys view = all_as xs ys (λ d. IsGoing sends z (view d))
+    pub same_go : (xs ys : List A) (view : A → Driving W) → xs ≡ ys → All (λ d. IsGoing sends z shards (view d)) ys → All (λ d. IsGoing sends z shards (view d)) xs
+    same_go xs ys view = all_as xs ys (λ d. IsGoing sends z shards (view d))
 
   -- behind the last line each session goes on
-  pub going_all : {A : Type 0} (view : A → Driving W) (firsts : List (Driving W)) (schedule : List Line) (nows : List A) (failed : Bool) (old new : HostTold) → WereDriven sends z firsts schedule (map view nows) failed old new
-      → All (λ d. IsGoing sends z (view d)) nows
-  going_all view firsts schedule nows failed old new driven = all_from view nows (IsGoing sends z) (λ k now at.
+  pub going_all : {A : Type 0} (view : A → Driving W) (firsts : List (Driving W)) (schedule : List Line) (nows : List A) (failed : Bool) (old new : HostTold) → WereDriven sends z shards firsts schedule (map view nows) failed old new
+      → All (λ d. IsGoing sends z shards (view d)) nows
+  going_all view firsts schedule nows failed old new driven = all_from view nows (IsGoing sends z shards) (λ k now at.
       let below : k < length firsts = omega (arith, get_below (map view nows) k now at, driven.as_many) in
       let first = some_at firsts k below in
       record { first = first.0; events = events_of k driven.lines; is = driven.are k first.0 now first.1 at })
 
-  -- what was driven and then left
-  pub drove_all : {A B : Type 0} (view : A → Driving W) (leave : B → Leaving W) (firsts : List (Driving W)) (schedule : List Line) (nows : List A) (accounts : List B) (failed : Bool) (old new : HostTold)
-      → WereDriven sends z firsts schedule (map view nows) failed old new
-      → AllZip (λ d a. (first : Driving W) (events : List Event) → IsUnderWay sends z first events (view d) → HasLeft sends z first events (leave a).end (leave a).mine (leave a).pump (leave a).wire) nows accounts
-      → DroveAll sends z firsts schedule (map leave accounts) failed old new
-  drove_all view leave firsts schedule nows accounts failed old new driven zip = record {
-    lines = driven.lines;
-    answers = driven.answers;
-    said = driven.said;
-    as_many = length-map accounts leave ∙ zip_length nows accounts _ zip ∙ sym (length-map nows view) ∙ driven.as_many;
-    left = λ session first last began at.
-        let row = zip_at nows accounts (λ d a. (first : Driving W) (events : List Event) → IsUnderWay sends z first events (view d) → HasLeft sends z first events (leave a).end (leave a).mine (leave a).pump (leave a).wire) leave session last zip at in
-        subst (λ (l : Leaving W). HasLeft sends z first (events_of session driven.lines) l.end l.mine l.pump l.wire) row.3
-        (row.4 first (events_of session driven.lines) (driven.are session first (view row.0) began (get_mapped view nows session row.0 row.2)));
-  }
+module _ {W : Type 0} (put_may : W → Bor (List ℕ) → (W × Bool) → Type 0) (flush_may : W → (W × Bool) → Type 0) (z : Sizes) (shards : ℕ) where
+  -- what a session leaves is right by all that was said of it
+  abbrev IsLeftSo : Driving W → List Event → Leaving W → Type 0
+  IsLeftSo first events last = HasLeft (sends_by put_may flush_may) z first events last.end last.mine last.pump last.wire
+      × HasDriven put_may flush_may z shards first events last.end last.mine last.seat last.pump last.wire
+
+  module _ {A B : Type 0} (view : A → Driving W) (leave : B → Leaving W) (firsts : List (Driving W)) (schedule : List Line) (nows : List A) (accounts : List B) (failed : Bool) (old new : HostTold)
+      (driven : WereDriven (sends_by put_may flush_may) z shards firsts schedule (map view nows) failed old new)
+      (zip : AllZip (λ d a. (first : Driving W) (events : List Event) → IsUnderWay (sends_by put_may flush_may) z shards first events (view d) → IsLeftSo first events (leave a)) nows accounts) where
+    left_so : (session : ℕ) (first : Driving W) (last : Leaving W) → slice_get firsts session ≡ Some first → slice_get (map leave accounts) session ≡ Some last → IsLeftSo first (events_of session driven.lines) last
+    left_so session first last began at =
+        let row = zip_at nows accounts (λ d a. (first : Driving W) (events : List Event) → IsUnderWay (sends_by put_may flush_may) z shards first events (view d) → IsLeftSo first events (leave a)) leave session last zip at in
+        subst (λ (l : Leaving W). IsLeftSo first (events_of session driven.lines) l) row.3
+        (row.4 first (events_of session driven.lines) (driven.are session first (view row.0) began (get_mapped view nows session row.0 row.2)))
+
+    -- what was driven and then left
+    pub drove_all : DroveAll put_may flush_may z shards firsts schedule (map leave accounts) failed old new
+    drove_all = record {
+      lines = driven.lines;
+      answers = driven.answers;
+      said = driven.said;
+      as_many = length-map accounts leave ∙ zip_length nows accounts _ zip ∙ sym (length-map nows view) ∙ driven.as_many;
+      left = λ session first last began at. (left_so session first last began at).1;
+      ends = λ session first last began at. (left_so session first last began at).0;
+    }

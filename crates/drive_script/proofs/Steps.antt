@@ -49,31 +49,31 @@ some_at [] place below = absurd (omega arith)
 some_at (x ∷ xs) zero below = (x, refl)
 some_at (x ∷ xs) (suc place) below = some_at xs place (omega arith)
 
-module _ {W : Type 0} (sends : Sending W) (z : Sizes) where
-  module _ (number : ℕ) (event : Event) (one one' : Driving W) (right : (first : Driving W) (events : List Event) → IsUnderWay sends z first events one → IsUnderWay sends z first (events ++ event ∷ []) one') where
+module _ {W : Type 0} (sends : Sending W) (z : Sizes) (shards : ℕ) where
+  module _ (number : ℕ) (event : Event) (one one' : Driving W) (right : (first : Driving W) (events : List Event) → IsUnderWay sends z shards first events one → IsUnderWay sends z shards first (events ++ event ∷ []) one') where
     -- the sessions behind one line more
-    sessions_more : (firsts nows : List (Driving W)) (lines : List Said) → slice_get nows number ≡ Some one → AreUnderWay sends z firsts lines nows
-        → AreUnderWay sends z firsts (lines ++ said number event ∷ []) (set nows number one')
+    sessions_more : (firsts nows : List (Driving W)) (lines : List Said) → slice_get nows number ≡ Some one → AreUnderWay sends z shards firsts lines nows
+        → AreUnderWay sends z shards firsts (lines ++ said number event ∷ []) (set nows number one')
     sessions_more firsts nows lines at are session first now began is = by_number (number == session) refl
       where
-        by_number : (same : Bool) → (number == session) ≡ same → IsUnderWay sends z first (events_of session (lines ++ said number event ∷ [])) now
+        by_number : (same : Bool) → (number == session) ≡ same → IsUnderWay sends z shards first (events_of session (lines ++ said number event ∷ [])) now
         by_number true same =
             let here : number ≡ session = grind arith in
             let there : slice_get nows session ≡ Some one = subst (λ n. slice_get nows n ≡ Some one) here at in
             let now_is : one' ≡ now = set_here nows session one one' now there (subst (λ n. slice_get (set nows n one') session ≡ Some now) here is) in
             let events : events_of session (lines ++ said number event ∷ []) ≡ events_of session lines ++ event ∷ [] =
             events-append session lines (said number event) ∙ ap (λ b. events_of session lines ++ map (λ (line : Said). line.event) (if b then said number event ∷ [] else [])) same in
-            subst (λ list. IsUnderWay sends z first list now) (sym events)
-            (subst (λ (d : Driving W). IsUnderWay sends z first (events_of session lines ++ event ∷ []) d) now_is (right first (events_of session lines) (are session first one began there)))
+            subst (λ list. IsUnderWay sends z shards first list now) (sym events)
+            (subst (λ (d : Driving W). IsUnderWay sends z shards first (events_of session lines ++ event ∷ []) d) now_is (right first (events_of session lines) (are session first one began there)))
         by_number false same =
             let other : (number ≡ session) → ⊥ = λ here. let clash : (number == session) ≡ true = grind arith in let never : true ≡ false = sym clash ∙ same in absurd (cc) in
             let there : slice_get nows session ≡ Some now = sym (set_there nows number session one' other) ∙ is in
             let events : events_of session (lines ++ said number event ∷ []) ≡ events_of session lines =
             events-append session lines (said number event) ∙ ap (λ b. events_of session lines ++ map (λ (line : Said). line.event) (if b then said number event ∷ [] else [])) same ∙ append-nil (events_of session lines) in
-            subst (λ list. IsUnderWay sends z first list now) (sym events) (are session first now began there)
+            subst (λ list. IsUnderWay sends z shards first list now) (sym events) (are session first now began there)
 
     driven_more : (firsts nows : List (Driving W)) (schedule : List Line) (line : Line) (failed failed' : Bool) (old mid new : HostTold) → line_of (said number event) ≡ line → slice_get nows number ≡ Some one
-        → Says failed failed' (line_text (said number event)) mid new → WereDriven sends z firsts schedule nows failed old mid → WereDriven sends z firsts (schedule ++ line ∷ []) (set nows number one') failed' old new
+        → Says failed failed' (line_text (said number event)) mid new → WereDriven sends z shards firsts schedule nows failed old mid → WereDriven sends z shards firsts (schedule ++ line ∷ []) (set nows number one') failed' old new
     driven_more firsts nows schedule line failed failed' old mid new answers at says driven = record {
       lines = driven.lines ++ said number event ∷ [];
       answers = map-append line_of driven.lines (said number event ∷ []) ∙ (λ i. driven.answers i ++ answers i ∷ []);
@@ -83,20 +83,20 @@ module _ {W : Type 0} (sends : Sending W) (z : Sizes) where
     }
 
   -- nothing was asked, and nothing said
-  pub driven_at_first : (firsts : List (Driving W)) (told : HostTold) → AreFresh sends z firsts → WereDriven sends z firsts [] firsts false told told
+  pub driven_at_first : (firsts : List (Driving W)) (told : HostTold) → AreFresh sends z shards firsts → WereDriven sends z shards firsts [] firsts false told told
   driven_at_first firsts told fresh = record {
     lines = [];
     answers = refl;
     said = says_nothing false told;
     as_many = refl;
-    are = λ session first now began is. let same : first ≡ now = both first now (sym began ∙ is) in subst (λ (d : Driving W). IsUnderWay sends z first [] d) same (fresh session first began);
+    are = λ session first now began is. let same : first ≡ now = both first now (sym began ∙ is) in subst (λ (d : Driving W). IsUnderWay sends z shards first [] d) same (fresh session first began);
   }
     where
       both : (first now : Driving W) → Some first ≡ Some now → first ≡ now
       both first now is = cc
 
   -- a line can be done of each of them
-  pub able_of : (first : Driving W) (events : List Event) (now : Driving W) → IsUnderWay sends z first events now → IsAble z now
+  pub able_of : (first : Driving W) (events : List Event) (now : Driving W) → IsUnderWay sends z shards first events now → IsAble z now
   able_of first events now is = record {
     ring = is.ring;
     small = is.small;
@@ -108,14 +108,14 @@ module _ {W : Type 0} (sends : Sending W) (z : Sizes) where
   there view nows place one below is = get_mapped view nows place one (slice_get_read nows (length nows) place one refl below is)
 
   pub able_at : {A : Type 0} (view : A → Driving W) (firsts : List (Driving W)) (schedule : List Line) (nows : List A) (place : ℕ) (one : A) (failed : Bool) (old new : HostTold)
-      → place < length nows → one ≡ get_or nows place one → WereDriven sends z firsts schedule (map view nows) failed old new → IsAble z (view one)
+      → place < length nows → one ≡ get_or nows place one → WereDriven sends z shards firsts schedule (map view nows) failed old new → IsAble z (view one)
   able_at view firsts schedule nows place one failed old new below is driven =
       let first = some_at firsts place (omega (arith, driven.as_many, length-map nows view)) in
       able_of first.0 (events_of place driven.lines) (view one) (driven.are place first.0 (view one) first.1 (there view nows place one below is))
 
   -- the session of the next line is one of them
   pub is_there : {A : Type 0} (view : A → Driving W) (olds nows : List A) (schedule some : List Line) (index : ℕ) (d : Line) (number place : ℕ) (failed : Bool) (old new : HostTold) → All (λ line. session_of line < length olds) schedule
-      → index < length schedule → number ≡ session_of (get_or schedule index d) → place ≡ number → WereDriven sends z (map view olds) some (map view nows) failed old new → place < length nows
+      → index < length schedule → number ≡ session_of (get_or schedule index d) → place ≡ number → WereDriven sends z shards (map view olds) some (map view nows) failed old new → place < length nows
   is_there view olds nows schedule some index d number place failed old new all within number_is same driven =
       let below : session_of (get_or schedule index d) < length olds = All-get_or (λ line. session_of line < length olds) schedule index d within all in
       omega (arith, below, number_is, same, driven.as_many, length-map olds view, length-map nows view)
@@ -124,9 +124,9 @@ module _ {W : Type 0} (sends : Sending W) (z : Sizes) where
   pub step_driven : {A : Type 0} (view : A → Driving W) (firsts : List (Driving W)) (schedule : List Line) (index : ℕ) (d : Line) (nows : List A) (number place : ℕ) (one one' : A) (event : Event) (failed failed' : Bool) (old mid new : HostTold)
       → index < length schedule → number ≡ session_of (get_or schedule index d) → place ≡ number → place < length nows → one ≡ get_or nows place one
       → line_of (said (session_of (get_or schedule index d)) event) ≡ get_or schedule index d
-      → ((first : Driving W) (events : List Event) → IsUnderWay sends z first events (view one) → IsUnderWay sends z first (events ++ event ∷ []) (view one'))
-      → Says failed failed' (line_text (said number event)) mid new → WereDriven sends z firsts (take index schedule) (map view nows) failed old mid
-      → WereDriven sends z firsts (take (index + 1) schedule) (map view (set nows place one')) failed' old new
+      → ((first : Driving W) (events : List Event) → IsUnderWay sends z shards first events (view one) → IsUnderWay sends z shards first (events ++ event ∷ []) (view one'))
+      → Says failed failed' (line_text (said number event)) mid new → WereDriven sends z shards firsts (take index schedule) (map view nows) failed old mid
+      → WereDriven sends z shards firsts (take (index + 1) schedule) (map view (set nows place one')) failed' old new
   step_driven view firsts schedule index d nows number place one one' event failed failed' old mid new within number_is same below is answers right says driven =
       let line : Line = get_or schedule index d in
       let at : slice_get (map view nows) number ≡ Some (view one) = subst (λ n. slice_get (map view nows) n ≡ Some (view one)) same (there view nows place one below is) in
@@ -134,5 +134,5 @@ module _ {W : Type 0} (sends : Sending W) (z : Sizes) where
       let next = driven_more number event (view one) (view one') right firsts (map view nows) (take index schedule) line failed failed' old mid new answers_it at says driven in
       let lines : take index schedule ++ line ∷ [] ≡ take (index + 1) schedule = sym (take_more schedule index d within) in
       let placed : set (map view nows) number (view one') ≡ map view (set nows place one') = ap (λ n. set (map view nows) n (view one')) (sym same) ∙ sym (map-set view nows place one') in
-      subst (λ list. WereDriven sends z firsts list (map view (set nows place one')) failed' old new) lines
-      (subst (λ all. WereDriven sends z firsts (take index schedule ++ line ∷ []) all failed' old new) placed next)
+      subst (λ list. WereDriven sends z shards firsts list (map view (set nows place one')) failed' old new) lines
+      (subst (λ all. WereDriven sends z shards firsts (take index schedule ++ line ∷ []) all failed' old new) placed next)

@@ -11,11 +11,12 @@ IsKeptBack None given posted = length given ≡ posted
 IsKeptBack (Some command) given posted =
     (front : List Command) × (given ≡ front ++ command ∷ []) × (length front ≡ posted)
 
--- Of an input, these commands were given, so many of them were posted, and there may be more.
+-- Of an input, these commands were given, so many of them were posted, and there may be more. No read has failed.
 pub record IsOpen (input : Option (List ℕ)) (before : ℕ) (given : List Command) (posted : ℕ) (kept : Option Command)
     (pump : PumpState) : Type 0 where
   pub pump_is : IsPump input before given pump
   pub kept_back : IsKeptBack kept given posted
+  pub unfailed : pump.faults ≡ before
 
 -- this command comes behind those that were posted
 pub record AsksNext (input : Option (List ℕ)) (before : ℕ) (given : List Command) (posted : ℕ) (command : Command)
@@ -24,12 +25,13 @@ pub record AsksNext (input : Option (List ℕ)) (before : ℕ) (given : List Com
   pub given_is : (given ≡ front) ⊎ (given ≡ front ++ command ∷ [])
   pub count : length front ≡ posted
   pub pump_is : IsPump input before (front ++ command ∷ []) pump
+  pub unfailed : pump.faults ≡ before
 
 -- the input ended, and all that it gave was posted; or memory was wanting in the call of the last command
 abbrev pub IsStopped : Option (List ℕ) → ℕ → List Command → ℕ → End → PumpState → Type 0
 IsStopped input before given posted end pump =
     (HasEnded input before given end pump × (length given ≡ posted))
-    ⊎ ((end ≡ Memory) × IsPump input before given pump × (length given ≡ posted + 1))
+    ⊎ ((end ≡ Memory) × IsPump input before given pump × (length given ≡ posted + 1) × (pump.faults ≡ before))
 
 -- the session goes on, or ended so
 abbrev pub IsAsked : Option (List ℕ) → ℕ → List Command → ℕ → Option Command → Option End → PumpState → Type 0

@@ -15,12 +15,14 @@ use Rattle.tx_ring.specs.declared.device.DeviceEnd.{DeviceEnd}
 use Rattle.reply_planner.specs.Parcels.{Sent}
 use Rattle.reply_planner.specs.Places.{addresses_of}
 use Rattle.session_pass.specs.Views.{SessionView}
+use Rattle.session_serve.specs.Working.{IsFresh}
 use Rattle.schedule_text.specs.declared.line.Line.{Line}
 use Rattle.transcript_model.specs.Lines.{Event, Said, line_of, line_text}
 use Rattle.transcript_model.specs.Sessions.{Sending, events_of}
 use Rattle.drive_model.specs.Views.{DeviceShown}
 use Rattle.drive_script.specs.Asked.{IsAsked}
 use Rattle.drive_script.specs.Lanes.{Fixed, IsLane}
+use Rattle.drive_script.specs.Running.{IsRunning}
 use Rattle.drive_script.specs.Says.{Says}
 use Rattle.drive_script.specs.Shown.{session_shown, device_shown}
 
@@ -83,8 +85,8 @@ pub record IsNew {W : Type 0} (z : Sizes) (d : Driving W) : Type 0 where
   pub wire : W
   pub wire_is : d.wire ≡ Some wire
 
-module _ {W : Type 0} (sends : Sending W) (z : Sizes) where
-  -- These events have led from there to here, and are right by what is known now.
+module _ {W : Type 0} (sends : Sending W) (z : Sizes) (shards : ℕ) where
+  -- These events have led from there, where no call was made, to here, and are right by what is known now.
   pub record IsUnderWay (first : Driving W) (events : List Event) (now : Driving W) : Type 0 where
     pub ring : now.ring ≡ now.session.ring
     pub small : Each (λ buffer. buffer < z.small) now.session.pass.stage
@@ -96,6 +98,8 @@ module _ {W : Type 0} (sends : Sending W) (z : Sizes) where
     pub asked : IsAsked first.pump.left first.pump.faults given (length now.session.posted) now.kept now.end now.pump
     pub lane : IsLane sends (fixed_at z first.session) start given now.end events (session_shown z now.session)
         now.device wire
+    pub fresh : IsFresh z first.session first.pump
+    pub running : IsRunning z shards first.session given now.end now.session
 
   -- so are the lines of each session
   abbrev pub AreUnderWay : List (Driving W) → List Said → List (Driving W) → Type 0

@@ -39,28 +39,29 @@ terms_at fixed commands end whole deeds = record {
   deeds = deeds;
 }
 
-module _ {W : Type 0} (sends : Sending W) (z : Sizes) where
+module _ {W : Type 0} (sends : Sending W) (z : Sizes) (shards : ℕ) where
   -- some line can be behind it
   pub record IsGoing (now : Driving W) : Type 0 where
     pub first : Driving W
     pub events : List Event
-    pub is : IsUnderWay sends z first events now
+    pub is : IsUnderWay sends z shards first events now
 
   -- at least so many replies were gathered without lines
   pub record GoesQuietly (first : Driving W) (events : List Event) (count : ℕ) (now : Driving W) : Type 0 where
     pub quiet : List Event
     pub are : AllByRecursion IsQuiet quiet
     pub gathered : count ≤ gathers_in quiet
-    pub is : IsUnderWay sends z first (events ++ quiet) now
+    pub is : IsUnderWay sends z shards first (events ++ quiet) now
 
   -- all replies were gathered, the last ones without lines
   pub record GathersAll (first : Driving W) (events : List Event) (now : Driving W) : Type 0 where
     pub quiet : List Event
     pub are : AllByRecursion IsQuiet quiet
-    pub is : IsUnderWay sends z first (events ++ quiet) now
+    pub is : IsUnderWay sends z shards first (events ++ quiet) now
     pub all : now.device.completed ≡ now.session.posted
     pub told : now.session.told ≡ length now.session.posted
 
+module _ {W : Type 0} (sends : Sending W) (z : Sizes) where
   -- What was said of the session is right from its first line to its last, by its own list, whatever more its input
   -- asks for; and its wire was sent the texts of its replies.
   pub record HasLeft (first : Driving W) (events : List Event) (end : SessionEnd) (mine : SessionList)

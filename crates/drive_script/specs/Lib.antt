@@ -4,6 +4,8 @@ pub mod Lanes
 pub mod Asked
 pub mod Refused
 pub mod Says
+pub mod Running
 pub mod Driving
 pub mod Left
+pub mod Ran
 pub mod Driven

@@ -8,6 +8,7 @@ ghost use Rattle.transcript_model.specs.Lines.{Event, line_of};
 ghost use Rattle.drive_script.specs.Asked.{IsAsked, GoesOn};
 ghost use Rattle.drive_script.specs.Happened.{event_of};
 ghost use Rattle.drive_script.specs.Lanes.{Fixed, IsLane, sends_by};
+ghost use Rattle.drive_script.specs.Running.{RunsOn};
 ghost use Rattle.drive_script.specs.Shown.{session_shown, device_shown};
 
 use crate::asking::Asking;
@@ -61,7 +62,9 @@ impl<N: BookName, P: PoolName + Send> Lane<N, P> {
             (λ now. IsLane (sends_by (λ w p r. PUT.post put.now w p r) (λ w r. FLUSH.post flush.now w r)) fixed
             start now asking.new.end (events ++ event_of result.1 sent.new.items stored.new.items ∷ [])
             (session_shown P.sizes self.new.session) (device_shown self.new.device.failed self.new.device.end)
-            result.0) }
+            result.0
+            × RunsOn P.sizes N.sizes.shards given asking.old.end self.old.session now asking.new.end
+            self.new.session) }
     {
         match line {
             Line::Call(_) => {

@@ -10,6 +10,7 @@ ghost use Rattle.transcript_model.specs.Lines.{Event, line_of};
 ghost use Rattle.drive_script.specs.Asked.{IsAsked, GoesOn};
 ghost use Rattle.drive_script.specs.Happened.{event_of};
 ghost use Rattle.drive_script.specs.Lanes.{Fixed, IsDriven};
+ghost use Rattle.drive_script.specs.Running.{RunsOn};
 ghost use Rattle.drive_script.specs.Shown.{session_shown, device_shown};
 
 use crate::asking::Asking;
@@ -52,7 +53,9 @@ impl<N: BookName, P: PoolName + Send> Lane<N, P> {
             → GoesOn input before (length self.new.session.posted) asking.new.kept asking.new.end asking.new.pump
             (λ now. IsDriven fixed now asking.new.end whole
             (events ++ event_of result sent.new.items stored.new.items ∷ [])
-            (session_shown P.sizes self.new.session) (device_shown self.new.device.failed self.new.device.end)) }
+            (session_shown P.sizes self.new.session) (device_shown self.new.device.failed self.new.device.end)
+            × RunsOn P.sizes N.sizes.shards given asking.old.end self.old.session now asking.new.end
+            self.new.session) }
     {
         if asking.end.is_some() {
             return Happened::AtEnd;

@@ -1,12 +1,15 @@
 // A whole schedule.
-ghost use Rattle.std.specs.Prelude.{◌≡◌, ◌≤◌, ◌<◌, [], All, List, IfOk, IfErr, OnErr, length, map, vec_capacity};
+ghost use Rattle.std.specs.Prelude.{◌≡◌, ◌≤◌, ◌<◌, [], All, List, length, map, vec_capacity};
 ghost use Rattle.std.specs.List.{AllZip};
 ghost use Rattle.schedule_text.specs.Text.{session_of};
+ghost use Rattle.session_serve.specs.Working.{IsFresh};
 ghost use Rattle.transcript_model.specs.Lines.{Event};
 ghost use Rattle.drive_script.specs.Driven.{leaving_of, DroveAll};
 ghost use Rattle.drive_script.specs.Driving.{Driving as Shown, driving_of, IsNew, IsUnderWay};
 ghost use Rattle.drive_script.specs.Lanes.{sends_by};
 ghost use Rattle.drive_script.specs.Left.{IsGoing, HasLeft};
+ghost use Rattle.drive_script.specs.Ran.{HasDriven};
+ghost use Rattle.drive_script.specs.Says.{text_room};
 
 use crate::driving::Driving;
 use crate::leaving::Account;
@@ -17,7 +20,6 @@ use flake_base::{Host, Source};
 use order_book::BookName;
 use pinned_pool::PoolName;
 use schedule_text::Line;
-use std::alloc::Global;
 use std::sync::Wait;
 
 /// What a schedule leaves: of each session, in order; and whether a say failed.
@@ -28,8 +30,8 @@ pub struct Driven<N: BookName, P: PoolName, S: Source, W> {
 }
 
 /// Does each line of a schedule and says what happened, until a say fails; then gathers and gives back what is left,
-/// session by session, without lines. Where memory is wanting at the start the sessions come back as they were, and
-/// nothing was said.
+/// session by session, without lines. All room but that of the calls is the caller's, who can so take it before a
+/// source is handed on.
 pub fn drive<
     R: Wait,
     N: BookName,
@@ -41,33 +43,30 @@ pub fn drive<
     FLUSH: Fn(W) -> (W, bool),
 >(
     rt: &R,
-    alloc: Global,
     shop: &Shop<'_, N, P>,
     schedule: &[Line],
     sessions: Vec<Driving<N, P, S, W>>,
+    room: LineRoom,
+    accounts: Vec<Account<N, P, S, W>>,
     host: &mut H,
     put: &PUT,
     flush: &FLUSH,
-) -> Result<Driven<N, P, S, W>, Vec<Driving<N, P, S, W>>>
+) -> Driven<N, P, S, W>
     requires calls { PUT.IsAlwaysCallable put.now × FLUSH.IsAlwaysCallable flush.now }
     requires there { All (λ line. session_of line < length sessions.items) schedule.now }
     requires fresh { All (λ d. IsNew P.sizes (driving_of d.lane.session d.lane.device.failed d.lane.device.end
-        d.asking.kept d.asking.end d.asking.pump d.wire)) sessions.items }
-    ensures driven { IfOk result (λ driven. DroveAll (sends_by (λ w p r. PUT.post put.now w p r)
-        (λ w r. FLUSH.post flush.now w r)) P.sizes (map (λ d. driving_of d.lane.session d.lane.device.failed
-        d.lane.device.end d.asking.kept d.asking.end d.asking.pump d.wire) sessions.items) schedule.now
-        (map (λ a. leaving_of a.end a.mine a.pump a.wire) driven.accounts.items) driven.failed
-        (H.host_told host.old) (H.host_told host.new)) }
-    ensures back { IfErr result (λ back. back ≡ sessions) }
-    ensures silent { OnErr result (host.new ≡ host.old) }
+        d.asking.kept d.asking.end d.asking.pump d.wire) × IsFresh P.sizes d.lane.session d.asking.pump)
+        sessions.items }
+    requires line { text_room ≤ vec_capacity room.text }
+    requires room { (accounts.items ≡ []) × (length sessions.items ≤ vec_capacity accounts) }
+    ensures driven { DroveAll (λ w p r. PUT.post put.now w p r) (λ w r. FLUSH.post flush.now w r) P.sizes
+        N.sizes.shards (map (λ d. driving_of d.lane.session d.lane.device.failed d.lane.device.end d.asking.kept
+        d.asking.end d.asking.pump d.wire) sessions.items) schedule.now
+        (map (λ a. leaving_of a.end a.mine a.seat a.pump a.wire) result.accounts.items) result.failed
+        (H.host_told host.old) (H.host_told host.new) }
 {
     let mut sessions = sessions;
-    let Ok(mut room) = LineRoom::new(alloc) else {
-        return Err(sessions);
-    };
-    let Ok(accounts) = Vec::with_capacity(alloc, sessions.len()) else {
-        return Err(sessions);
-    };
+    let mut room = room;
     let failed = drive_lines(
         rt,
         shop,
@@ -79,7 +78,7 @@ pub fn drive<
         flush,
     );
     let accounts = leave_all(shop, sessions, accounts, put, flush);
-    Ok(Driven { accounts, failed })
+    Driven { accounts, failed }
 }
 
 // One after another.
@@ -99,15 +98,17 @@ fn leave_all<
 ) -> Vec<Account<N, P, S, W>>
     requires calls { PUT.IsAlwaysCallable put.now × FLUSH.IsAlwaysCallable flush.now }
     requires going { All (λ d. IsGoing (sends_by (λ w p r. PUT.post put.now w p r) (λ w r. FLUSH.post flush.now w r))
-        P.sizes (driving_of d.lane.session d.lane.device.failed d.lane.device.end d.asking.kept d.asking.end
-        d.asking.pump d.wire)) sessions.items }
+        P.sizes N.sizes.shards (driving_of d.lane.session d.lane.device.failed d.lane.device.end d.asking.kept
+        d.asking.end d.asking.pump d.wire)) sessions.items }
     requires room { (accounts.items ≡ []) × (length sessions.items ≤ vec_capacity accounts) }
     ensures { AllZip (λ d a. (first : Shown W) (events : List Event)
-        → IsUnderWay (sends_by (λ w p r. PUT.post put.now w p r) (λ w r. FLUSH.post flush.now w r)) P.sizes first
-        events (driving_of d.lane.session d.lane.device.failed d.lane.device.end d.asking.kept d.asking.end
-        d.asking.pump d.wire)
+        → IsUnderWay (sends_by (λ w p r. PUT.post put.now w p r) (λ w r. FLUSH.post flush.now w r))
+        P.sizes N.sizes.shards first events (driving_of d.lane.session d.lane.device.failed d.lane.device.end
+        d.asking.kept d.asking.end d.asking.pump d.wire)
         → HasLeft (sends_by (λ w p r. PUT.post put.now w p r) (λ w r. FLUSH.post flush.now w r)) P.sizes first
-        events a.end a.mine a.pump a.wire) sessions.items result.items }
+        events a.end a.mine a.pump a.wire
+        × HasDriven (λ w p r. PUT.post put.now w p r) (λ w r. FLUSH.post flush.now w r) P.sizes N.sizes.shards first
+        events a.end a.mine a.seat a.pump a.wire) sessions.items result.items }
 {
     let mut accounts = accounts;
     for session in sessions {

@@ -8,6 +8,7 @@ ghost use Rattle.drive_script.specs.Driving.{Driving as Shown, driving_of, IsAbl
 ghost use Rattle.drive_script.specs.Happened.{event_of};
 ghost use Rattle.drive_script.specs.Lanes.{sends_by};
 ghost use Rattle.drive_script.specs.Left.{IsGoing, GathersAll};
+ghost use Rattle.drive_script.specs.Ran.{FlushesOnly, GathersOut};
 
 use crate::asking::Asking;
 use crate::happened::Happened;
@@ -53,13 +54,13 @@ impl<N: BookName, P: PoolName + Send, S: Source, W: Drop> Driving<N, P, S, W> {
           event = event_of result sent.new.items stored.new.items;
         }) ≡ line }
         ensures right { (first : Shown W) (events : List Event)
-            → IsUnderWay (sends_by (λ w p r. PUT.post put.now w p r) (λ w r. FLUSH.post flush.now w r)) P.sizes first
-            events (driving_of self.old.lane.session self.old.lane.device.failed self.old.lane.device.end
-            self.old.asking.kept self.old.asking.end self.old.asking.pump self.old.wire)
-            → IsUnderWay (sends_by (λ w p r. PUT.post put.now w p r) (λ w r. FLUSH.post flush.now w r)) P.sizes first
-            (events ++ event_of result sent.new.items stored.new.items ∷ []) (driving_of self.new.lane.session
-            self.new.lane.device.failed self.new.lane.device.end self.new.asking.kept self.new.asking.end
-            self.new.asking.pump self.new.wire) }
+            → IsUnderWay (sends_by (λ w p r. PUT.post put.now w p r) (λ w r. FLUSH.post flush.now w r))
+            P.sizes N.sizes.shards first events (driving_of self.old.lane.session self.old.lane.device.failed
+            self.old.lane.device.end self.old.asking.kept self.old.asking.end self.old.asking.pump self.old.wire)
+            → IsUnderWay (sends_by (λ w p r. PUT.post put.now w p r) (λ w r. FLUSH.post flush.now w r))
+            P.sizes N.sizes.shards first (events ++ event_of result sent.new.items stored.new.items ∷ []) (driving_of
+            self.new.lane.session self.new.lane.device.failed self.new.lane.device.end self.new.asking.kept
+            self.new.asking.end self.new.asking.pump self.new.wire) }
     {
         let Some(wire) = self.wire.take() else {
             unreachable!()
@@ -93,13 +94,19 @@ impl<N: BookName, P: PoolName + Send, S: Source, W: Drop> Driving<N, P, S, W> {
         ensures wire { IsSome self.new.wire }
         ensures posted { self.new.lane.session.posted ≡ self.old.lane.session.posted }
         ensures answers { line_of (record { session = 0; event = event_of result [] [] }) ≡ asked.Gather 0 }
-        ensures right { (first : Shown W) (events : List Event)
-            → IsUnderWay (sends_by (λ w p r. PUT.post put.now w p r) (λ w r. FLUSH.post flush.now w r)) P.sizes first
-            events (driving_of self.old.lane.session self.old.lane.device.failed self.old.lane.device.end
+        ensures flushed { (result ≡ Happened.NothingPosted) → FlushesOnly (λ w r. FLUSH.post flush.now w r)
+            (driving_of self.old.lane.session self.old.lane.device.failed self.old.lane.device.end
             self.old.asking.kept self.old.asking.end self.old.asking.pump self.old.wire)
-            → IsUnderWay (sends_by (λ w p r. PUT.post put.now w p r) (λ w r. FLUSH.post flush.now w r)) P.sizes first
-            (events ++ event_of result [] [] ∷ []) (driving_of self.new.lane.session self.new.lane.device.failed
-            self.new.lane.device.end self.new.asking.kept self.new.asking.end self.new.asking.pump self.new.wire) }
+            (driving_of self.new.lane.session self.new.lane.device.failed self.new.lane.device.end
+            self.new.asking.kept self.new.asking.end self.new.asking.pump self.new.wire) }
+        ensures right { (first : Shown W) (events : List Event)
+            → IsUnderWay (sends_by (λ w p r. PUT.post put.now w p r) (λ w r. FLUSH.post flush.now w r))
+            P.sizes N.sizes.shards first events (driving_of self.old.lane.session self.old.lane.device.failed
+            self.old.lane.device.end self.old.asking.kept self.old.asking.end self.old.asking.pump self.old.wire)
+            → IsUnderWay (sends_by (λ w p r. PUT.post put.now w p r) (λ w r. FLUSH.post flush.now w r))
+            P.sizes N.sizes.shards first (events ++ event_of result [] [] ∷ []) (driving_of self.new.lane.session
+            self.new.lane.device.failed self.new.lane.device.end self.new.asking.kept self.new.asking.end
+            self.new.asking.pump self.new.wire) }
     {
         let Some(wire) = self.wire.take() else {
             unreachable!()
@@ -117,18 +124,25 @@ impl<N: BookName, P: PoolName + Send, S: Source, W: Drop> Driving<N, P, S, W> {
         flush: &FLUSH,
     )
         requires calls { PUT.IsAlwaysCallable put.now × FLUSH.IsAlwaysCallable flush.now }
-        requires going { IsGoing (sends_by (λ w p r. PUT.post put.now w p r) (λ w r. FLUSH.post flush.now w r)) P.sizes
-            (driving_of self.old.lane.session self.old.lane.device.failed self.old.lane.device.end
-            self.old.asking.kept self.old.asking.end self.old.asking.pump self.old.wire) }
+        requires going { IsGoing (sends_by (λ w p r. PUT.post put.now w p r) (λ w r. FLUSH.post flush.now w r))
+            P.sizes N.sizes.shards (driving_of self.old.lane.session self.old.lane.device.failed
+            self.old.lane.device.end self.old.asking.kept self.old.asking.end self.old.asking.pump self.old.wire) }
         ensures ring { device_ring self.new.lane.device.end ≡ self.new.lane.session.ring }
         ensures wire { IsSome self.new.wire }
         ensures right { (first : Shown W) (events : List Event)
-            → IsUnderWay (sends_by (λ w p r. PUT.post put.now w p r) (λ w r. FLUSH.post flush.now w r)) P.sizes first
-            events (driving_of self.old.lane.session self.old.lane.device.failed self.old.lane.device.end
-            self.old.asking.kept self.old.asking.end self.old.asking.pump self.old.wire)
-            → GathersAll (sends_by (λ w p r. PUT.post put.now w p r) (λ w r. FLUSH.post flush.now w r)) P.sizes first
-            events (driving_of self.new.lane.session self.new.lane.device.failed
+            → IsUnderWay (sends_by (λ w p r. PUT.post put.now w p r) (λ w r. FLUSH.post flush.now w r))
+            P.sizes N.sizes.shards first events (driving_of self.old.lane.session self.old.lane.device.failed
+            self.old.lane.device.end self.old.asking.kept self.old.asking.end self.old.asking.pump self.old.wire)
+            → GathersAll (sends_by (λ w p r. PUT.post put.now w p r) (λ w r. FLUSH.post flush.now w r))
+            P.sizes N.sizes.shards first events (driving_of self.new.lane.session self.new.lane.device.failed
             self.new.lane.device.end self.new.asking.kept self.new.asking.end self.new.asking.pump self.new.wire) }
+        ensures out { (first : Shown W) (events : List Event)
+            → IsUnderWay (sends_by (λ w p r. PUT.post put.now w p r) (λ w r. FLUSH.post flush.now w r))
+            P.sizes N.sizes.shards first events (driving_of self.old.lane.session self.old.lane.device.failed
+            self.old.lane.device.end self.old.asking.kept self.old.asking.end self.old.asking.pump self.old.wire)
+            → GathersOut (λ w p r. PUT.post put.now w p r) (λ w r. FLUSH.post flush.now w r) P.sizes N.sizes.shards
+            first events (driving_of self.new.lane.session self.new.lane.device.failed self.new.lane.device.end
+            self.new.asking.kept self.new.asking.end self.new.asking.pump self.new.wire) }
     {
         let calls = self.lane.session.calls();
         for i in 0..u64::from(calls) + 1 {

@@ -1,13 +1,15 @@
 // A session that is driven.
 ghost use Rattle.std.specs.Prelude.{◌≡◌, ◌++◌, ◌∷◌, [], ℕ, List, Option};
+ghost use Rattle.any_wire.specs.Sends.{Flushes};
 ghost use Rattle.flake_base.specs.declared.segment.Seg.{Seg};
 ghost use Rattle.flake_base.specs.declared.session.End.{End};
 ghost use Rattle.flake_model.specs.Command.{Command as Meaning};
 ghost use Rattle.schedule_text.specs.declared.line.Line.TheVariants as asked;
-ghost use Rattle.tx_ring.specs.Shown.{device_ring};
+ghost use Rattle.tx_ring.specs.Shown.{device_ring, completed};
 ghost use Rattle.transcript_model.specs.Lines.{Event, line_of};
 ghost use Rattle.drive_script.specs.Happened.{event_of};
 ghost use Rattle.drive_script.specs.Lanes.{Fixed, IsDriven, IsLane, sends_by};
+ghost use Rattle.drive_script.specs.Running.{RunsOn};
 ghost use Rattle.drive_script.specs.Shown.{session_shown, device_shown};
 
 use crate::happened::Happened;
@@ -46,6 +48,11 @@ impl<N: BookName, P: PoolName + Send> Lane<N, P> {
         ensures answers { (session : ℕ) → line_of (record { session = session; event = event_of result.1 [] [] })
             ≡ asked.Gather session }
         ensures lists { (sent stored : List Seg) → event_of result.1 sent stored ≡ event_of result.1 [] [] }
+        ensures flushed { (result.1 ≡ Happened.NothingPosted)
+            → (completed self.new.device.end ≡ completed self.old.device.end)
+            × Flushes (λ w r. FLUSH.post flush.now w r) self.old.device.failed self.new.device.failed wire result.0 }
+        ensures runs { (given : List Meaning) (end : Option End)
+            → RunsOn P.sizes N.sizes.shards given end self.old.session given end self.new.session }
         ensures right { (fixed : Fixed) (start : W) (given : List Meaning) (end : Option End) (events : List Event)
             → IsLane (sends_by (λ w p r. PUT.post put.now w p r) (λ w r. FLUSH.post flush.now w r)) fixed start
             given end events (session_shown P.sizes self.old.session)
@@ -75,6 +82,8 @@ impl<N: BookName, P: PoolName + Send> Lane<N, P> {
         ensures lists { (sent stored : List Seg) → event_of result sent stored ≡ event_of result [] [] }
         ensures posted { self.new.session.posted ≡ self.old.session.posted }
         ensures failed { self.new.device.failed ≡ self.old.device.failed }
+        ensures runs { (given : List Meaning) (end : Option End)
+            → RunsOn P.sizes N.sizes.shards given end self.old.session given end self.new.session }
         ensures right { (fixed : Fixed) (given : List Meaning) (end : Option End) (whole : ℕ) (events : List Event)
             → IsDriven fixed given end whole events (session_shown P.sizes self.old.session)
             (device_shown self.old.device.failed self.old.device.end)

@@ -3,10 +3,12 @@ ghost use Rattle.std.specs.Prelude.{◌≡◌, List, length, unwrap_or};
 ghost use Rattle.flake_base.specs.declared.session.End.TheVariants as ends;
 ghost use Rattle.command_pump.specs.Pump.{ended_at};
 ghost use Rattle.tx_ring.specs.Shown.{device_ring, completed};
+ghost use Rattle.session_serve.specs.Working.{IsLeft};
 ghost use Rattle.transcript_model.specs.Lines.{Event};
 ghost use Rattle.drive_script.specs.Driving.{Driving as Shown, driving_of, IsUnderWay};
 ghost use Rattle.drive_script.specs.Lanes.{sends_by};
 ghost use Rattle.drive_script.specs.Left.{IsGoing, HasLeft};
+ghost use Rattle.drive_script.specs.Ran.{HasDriven};
 
 use crate::asking::Asking;
 use crate::driving::Driving;
@@ -45,6 +47,7 @@ impl<N: BookName, P: PoolName + Send> Lane<N, P> {
         requires told { self.session.told ≡ length self.session.posted }
         ensures end { result.end ≡ ended_at end taken (length self.session.posted) self.device.failed }
         ensures list { result.mine ≡ self.session.pass.list }
+        ensures left { IsLeft self.session result.seat result.mine }
     {
         let Lane {
             session,
@@ -81,15 +84,21 @@ impl<N: BookName, P: PoolName + Send, S: Source, W: Drop> Driving<N, P, S, W> {
         flush: &FLUSH,
     ) -> Account<N, P, S, W>
         requires calls { PUT.IsAlwaysCallable put.now × FLUSH.IsAlwaysCallable flush.now }
-        requires going { IsGoing (sends_by (λ w p r. PUT.post put.now w p r) (λ w r. FLUSH.post flush.now w r)) P.sizes
-            (driving_of self.lane.session self.lane.device.failed self.lane.device.end self.asking.kept self.asking.end
-            self.asking.pump self.wire) }
+        requires going { IsGoing (sends_by (λ w p r. PUT.post put.now w p r) (λ w r. FLUSH.post flush.now w r))
+            P.sizes N.sizes.shards (driving_of self.lane.session self.lane.device.failed self.lane.device.end
+            self.asking.kept self.asking.end self.asking.pump self.wire) }
         ensures left { (first : Shown W) (events : List Event)
-            → IsUnderWay (sends_by (λ w p r. PUT.post put.now w p r) (λ w r. FLUSH.post flush.now w r)) P.sizes first
-            events (driving_of self.lane.session self.lane.device.failed self.lane.device.end self.asking.kept
-            self.asking.end self.asking.pump self.wire)
+            → IsUnderWay (sends_by (λ w p r. PUT.post put.now w p r) (λ w r. FLUSH.post flush.now w r))
+            P.sizes N.sizes.shards first events (driving_of self.lane.session self.lane.device.failed
+            self.lane.device.end self.asking.kept self.asking.end self.asking.pump self.wire)
             → HasLeft (sends_by (λ w p r. PUT.post put.now w p r) (λ w r. FLUSH.post flush.now w r)) P.sizes first
             events result.end result.mine result.pump result.wire }
+        ensures driven { (first : Shown W) (events : List Event)
+            → IsUnderWay (sends_by (λ w p r. PUT.post put.now w p r) (λ w r. FLUSH.post flush.now w r))
+            P.sizes N.sizes.shards first events (driving_of self.lane.session self.lane.device.failed
+            self.lane.device.end self.asking.kept self.asking.end self.asking.pump self.wire)
+            → HasDriven (λ w p r. PUT.post put.now w p r) (λ w r. FLUSH.post flush.now w r) P.sizes N.sizes.shards first
+            events result.end result.mine result.seat result.pump result.wire }
     {
         let mut driving = self;
         driving.gather_all(shop.pool, put, flush);

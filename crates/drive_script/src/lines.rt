@@ -37,11 +37,11 @@ pub fn drive_lines<
     requires calls { PUT.IsAlwaysCallable put.now × FLUSH.IsAlwaysCallable flush.now }
     requires there { All (λ line. session_of line < length sessions.old.items) schedule.now }
     requires room { text_room ≤ vec_capacity room.old.text }
-    requires fresh { AreFresh (sends_by (λ w p r. PUT.post put.now w p r) (λ w r. FLUSH.post flush.now w r)) P.sizes
-        (map (λ d. driving_of d.lane.session d.lane.device.failed d.lane.device.end d.asking.kept d.asking.end
-        d.asking.pump d.wire) sessions.old.items) }
+    requires fresh { AreFresh (sends_by (λ w p r. PUT.post put.now w p r) (λ w r. FLUSH.post flush.now w r))
+        P.sizes N.sizes.shards (map (λ d. driving_of d.lane.session d.lane.device.failed d.lane.device.end d.asking.kept
+        d.asking.end d.asking.pump d.wire) sessions.old.items) }
     ensures driven { WereDriven (sends_by (λ w p r. PUT.post put.now w p r) (λ w r. FLUSH.post flush.now w r))
-        P.sizes (map (λ d. driving_of d.lane.session d.lane.device.failed d.lane.device.end d.asking.kept
+        P.sizes N.sizes.shards (map (λ d. driving_of d.lane.session d.lane.device.failed d.lane.device.end d.asking.kept
         d.asking.end d.asking.pump d.wire) sessions.old.items) schedule.now (map (λ d. driving_of d.lane.session
         d.lane.device.failed d.lane.device.end d.asking.kept d.asking.end d.asking.pump d.wire) sessions.new.items)
         result

@@ -12,8 +12,8 @@ use Rattle.flake_base.specs.declared.session.SessionEnd.{SessionEnd}
 use Rattle.flake_model.specs.Session.{Session}
 use Rattle.pin_core.specs.declared.class.Held.{Held}
 use Rattle.pinned_pool.specs.Ends.{End as PoolEnd}
-use Rattle.serve_inputs.specs.Opened.{pool_sizes}
-use Rattle.serve_inputs.specs.Ran.{AreReads}
+use Rattle.serve_house.specs.Opened.{pool_sizes}
+use Rattle.serve_house.specs.Ran.{AreReads}
 use Rattle.flake_run.specs.declared.outcome.Detail.TheVariants.{Nothing}
 use Rattle.flake_run.specs.Opening.{AreOpened}
 use Rattle.flake_run.specs.Task.{Job, Task}

@@ -9,7 +9,7 @@ use Rattle.pinned_pool.specs.Ends.{End as PoolEnd}
 use Rattle.flake_base.specs.declared.journal.Entry.{Entry}
 use Rattle.flake_model.specs.Run.{all_commands, missing_writes}
 use Rattle.flake_model.specs.Session.{Session}
-use Rattle.serve_inputs.specs.Opened.{pool_sizes}
+use Rattle.serve_house.specs.Opened.{pool_sizes}
 use Rattle.serve_model.specs.Demand.{demand_of}
 use Rattle.serve_model.specs.Shown.{IsCounted}
 use Rattle.flake_run.specs.Task.{Job, Task}

@@ -20,8 +20,8 @@ use Rattle.pinned_pool.specs.Ends.{End as PoolEnd}
 use Rattle.transcript_model.specs.Sessions.{WireGrew, joined}
 use Rattle.serve_model.specs.Replies.{all_replies}
 use Rattle.session_serve.specs.Whole.{SentWhole}
-use Rattle.serve_inputs.specs.Opened.{pool_sizes}
-use Rattle.serve_inputs.specs.Ran.{AllWhole}
+use Rattle.serve_house.specs.Opened.{pool_sizes}
+use Rattle.serve_house.specs.Ran.{AllWhole}
 use Rattle.wire_told.specs.Sent.{AreTold}
 use Rattle.wire_told.proofs.Sent.{sends_told}
 use Rattle.gen_words.specs.declared.task.GenTask.{GenTask}

@@ -12,7 +12,8 @@ use Rattle.flake_model.specs.Session.{Session}
 use Rattle.flake_model.specs.Wire.{EachWire, WiresGrew, HasPut, BytesAre, FaultIs, FaultsAre, KeptIs, KeptAre}
 use Rattle.pin_core.specs.declared.sizes.Sizes.{Sizes}
 use Rattle.pinned_pool.specs.Ends.{End}
-use Rattle.serve_inputs.specs.Ran.{AllSent, RanAll}
+use Rattle.serve_house.specs.Ran.{AllSent}
+use Rattle.serve_inputs.specs.Ran.{RanAll}
 use Rattle.wire_told.specs.Sent.{WasSent, AreTold}
 use Rattle.wire_told.proofs.Sent.{sends_told, flush_told}
 use Rattle.flake_run.specs.Serving.{IsRun}

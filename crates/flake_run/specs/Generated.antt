@@ -18,7 +18,7 @@ use Rattle.pinned_pool.specs.Ends.{End}
 use Rattle.transcript_model.specs.Sessions.{AreWhole, WireGrew, joined}
 use Rattle.serve_model.specs.Replies.{all_replies}
 use Rattle.serve_model.specs.Shown.{IsCounted}
-use Rattle.serve_inputs.specs.Opened.{pool_sizes}
+use Rattle.serve_house.specs.Opened.{pool_sizes}
 use Rattle.gen_words.specs.declared.task.GenTask.{GenTask}
 use Rattle.serve_generated.specs.Generated.{HadMemory, IsTooMuch, commands_in_all, inputs_of, sizes_of}
 use Rattle.flake_run.specs.Causes.{SomePutFailed, status_by}

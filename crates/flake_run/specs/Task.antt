@@ -3,8 +3,8 @@ use Rattle.std.specs.Prelude.{ℕ, Bool, false, List, [], Option, Some, None, St
 use Rattle.std.specs.Global.{Global}
 use Rattle.std.specs.Option.{option_map, option_map_or}
 use Rattle.pin_core.specs.declared.sizes.Sizes as pool
-use Rattle.serve_inputs.specs.Opened.{pool_sizes}
-use Rattle.serve_inputs.specs.declared.sizes.Sizes.{Sizes}
+use Rattle.serve_house.specs.Opened.{pool_sizes}
+use Rattle.serve_house.specs.declared.sizes.Sizes.{Sizes}
 use Rattle.serve_words.specs.Task as words
 use Rattle.serve_words.specs.declared.sizes.Sizes as typed
 use Rattle.flake_run.specs.declared.words.FilesTask.{FilesTask}

@@ -2,8 +2,8 @@
 ghost use Rattle.std.specs.Prelude.{◌≡◌, ◌≢◌, ◌<◌, ◌≤◌, length, map, All, IfOk, IfErr};
 ghost use Rattle.shard_store.specs.Journals.{histories};
 ghost use Rattle.flake_run.specs.Serving.{IsRun};
-ghost use Rattle.serve_inputs.specs.Opened.{IsSized, pool_sizes};
-ghost use Rattle.serve_inputs.specs.Ran.{AreReads};
+ghost use Rattle.serve_house.specs.Opened.{IsSized, pool_sizes};
+ghost use Rattle.serve_house.specs.Ran.{AreReads};
 ghost use Rattle.wire_told.specs.Sent.{PutIs, FlushIs};
 
 use flake_base::{End, Source, Wire};

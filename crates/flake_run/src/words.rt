@@ -1,7 +1,7 @@
 // The words of the command line.
 ghost use Rattle.std.specs.Prelude.{◌≡◌, ◌<◌, ◌≤◌, length, IfOk, IfSome};
 ghost use Rattle.std.specs.Option.{option_map};
-ghost use Rattle.serve_inputs.specs.Opened.{IsSized};
+ghost use Rattle.serve_house.specs.Opened.{IsSized};
 ghost use Rattle.serve_words.specs.Task.{IsAllowed, shown};
 ghost use Rattle.flake_run.specs.Task.{job_of, shown_task, sizes_of, task_of};
 

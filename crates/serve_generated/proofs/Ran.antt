@@ -17,9 +17,10 @@ use Rattle.serve_model.specs.Demand.{demand_of}
 use Rattle.serve_model.proofs.Complete.{complete}
 use Rattle.request_gen.specs.Words.{all_words, text_of}
 use Rattle.gen_words.specs.declared.task.GenTask.{GenTask}
-use Rattle.serve_inputs.specs.Opened.{pool_sizes}
-use Rattle.serve_inputs.specs.Ran.{AreReads, RanAll}
-use Rattle.serve_inputs.specs.declared.sizes.Sizes.{Sizes}
+use Rattle.serve_house.specs.Opened.{pool_sizes}
+use Rattle.serve_house.specs.Ran.{AreReads}
+use Rattle.serve_inputs.specs.Ran.{RanAll}
+use Rattle.serve_house.specs.declared.sizes.Sizes.{Sizes}
 use Rattle.serve_generated.specs.Generated.{RanGenerated, commands_in_all, inputs_of, sizes_of}
 use Rattle.serve_generated.proofs.Ways.{all_ways, no_faults}
 

@@ -15,7 +15,7 @@ use Rattle.command_pump.specs.Pump.{EndFaults}
 use Rattle.request_gen.specs.Words.{all_words, text_of}
 use Rattle.request_gen.proofs.Clean.{is_clean}
 use Rattle.request_demand.specs.Sessions.{commands_of}
-use Rattle.serve_inputs.specs.Ran.{AreReads}
+use Rattle.serve_house.specs.Ran.{AreReads}
 use Rattle.serve_generated.specs.Generated.{HadMemory}
 
 -- clean, unless memory was wanting

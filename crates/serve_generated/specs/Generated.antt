@@ -13,9 +13,9 @@ use Rattle.serve_model.specs.Demand.{demand_of}
 use Rattle.request_gen.specs.Words.{all_words, text_of}
 use Rattle.request_demand.specs.Sessions.{sessions_of}
 use Rattle.gen_words.specs.declared.task.GenTask.{GenTask}
-use Rattle.serve_inputs.specs.Opened.{pool_sizes}
+use Rattle.serve_house.specs.Opened.{pool_sizes}
 use Rattle.serve_inputs.specs.Ran.{RanAll}
-use Rattle.serve_inputs.specs.declared.sizes.Sizes.{Sizes}
+use Rattle.serve_house.specs.declared.sizes.Sizes.{Sizes}
 
 -- the input of each session
 abbrev pub inputs_of : GenTask → List (Option (List ℕ))

@@ -1,6 +1,6 @@
 ghost use Rattle.std.specs.Prelude.{◌≡◌, ◌≤◌, IfSome, IsNone};
 ghost use Rattle.gen_words.specs.Task.{IsAllowed};
-ghost use Rattle.serve_inputs.specs.Opened.{IsSized};
+ghost use Rattle.serve_house.specs.Opened.{IsSized};
 ghost use Rattle.serve_generated.specs.Generated.{IsTooMuch, sizes_of};
 
 use gen_words::GenTask;

@@ -1,9 +1,3 @@
-pub mod Opening
-pub mod Joining
-pub mod Passes
-pub mod Desks
+pub mod NewJobs
 pub mod Runs
-pub mod Ends
 pub mod Whole
-pub mod Lists
-pub mod Numbers

@@ -34,15 +34,9 @@ use Rattle.command_pump.specs.Pump.{PumpState}
 use Rattle.serve_model.specs.Handed.{HasRun, OneRun, AllRun}
 use Rattle.session_pass.specs.Views.{SessionView}
 use Rattle.session_workers.specs.Jobs.{IsDone}
-use Rattle.serve_inputs.specs.Opened.{session_credits}
-use Rattle.serve_inputs.specs.Ran.{no_wires, AreReads, AllSent, AllWhole}
-
--- the number of a session in the book, and the credits of its seat
-abbrev pub number_of : SessionView → ℕ
-number_of session = session.pass.list.number
-
-abbrev pub HasCredits : SessionView → Type 0
-HasCredits session = session.opened.credits ≡ session_credits
+use Rattle.serve_house.specs.Opened.{session_credits}
+use Rattle.serve_house.specs.Ran.{no_wires, AreReads, AllSent, AllWhole}
+use Rattle.serve_house.proofs.Desks.{number_of, HasCredits}
 
 module _ {J D W : Type 0} (put_may : W → Bor (List ℕ) → (W × Bool) → Type 0) (flush_may : W → (W × Bool) → Type 0)
     (z : Sizes) (shards : ℕ) (session : J → SessionView) (pump : J → PumpState) (old : J → W) (end : D → SessionEnd) (bytes : D → ℕ)

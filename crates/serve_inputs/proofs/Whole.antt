@@ -38,13 +38,15 @@ use Rattle.command_pump.specs.Pump.{PumpState}
 use Rattle.serve_model.specs.Handed.{OneRun}
 use Rattle.serve_model.specs.Seats.{HasAll, IsSpare}
 use Rattle.session_pass.specs.Views.{SessionView}
-use Rattle.serve_inputs.specs.Joined.{HasJoined}
-use Rattle.serve_inputs.specs.Opened.{session_credits}
-use Rattle.serve_inputs.specs.Ran.{AreReads, AllSent, AllWhole, RanAll}
-use Rattle.serve_inputs.specs.Together.{AreRuns, HaveShown}
-use Rattle.serve_inputs.proofs.Joining.{joins_all}
+use Rattle.serve_house.specs.Joined.{HasJoined}
+use Rattle.serve_house.specs.Opened.{session_credits}
+use Rattle.serve_house.specs.Ran.{AreReads, AllSent, AllWhole}
+use Rattle.serve_house.specs.Together.{AreRuns, HaveShown}
+use Rattle.serve_house.proofs.Joining.{joins_all}
+use Rattle.serve_house.proofs.Desks.{number_of, HasCredits}
+use Rattle.serve_inputs.specs.Ran.{RanAll}
 use Rattle.serve_inputs.proofs.Runs as runs
-use Rattle.serve_inputs.proofs.Runs.{number_of, HasCredits, WasDone}
+use Rattle.serve_inputs.proofs.Runs.{WasDone}
 
 pub ran_all : {J D W : Type 0} (jobs : List J) (dones : List D) (put_may : W → Bor (List ℕ) → (W × Bool) → Type 0)
     (flush_may : W → (W × Bool) → Type 0) (z y : Sizes) (shards : ℕ) (session : J → SessionView)

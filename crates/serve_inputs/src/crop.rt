@@ -1,7 +1,7 @@
 // What comes back of the sessions.
 ghost use Rattle.std.specs.Prelude.{◌≡◌, ◌+◌, ◌≤◌, ◌++◌, [], length, map, vec_len, vec_capacity, IfOk};
 ghost use Rattle.std.specs.Vec.Iter.{into_iter_items};
-ghost use Rattle.serve_inputs.specs.Joined.{HasJoined};
+ghost use Rattle.serve_house.specs.Joined.{HasJoined};
 
 use flake_base::{Ends, Memory, Source};
 use order_book::{BookName, SessionSeats};

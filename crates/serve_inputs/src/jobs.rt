@@ -3,14 +3,14 @@ ghost use Rattle.std.specs.Prelude.{◌≡◌, ◌<◌, ◌≤◌, ◌++◌, [],
 ghost use Rattle.std.specs.List.{AllZip};
 ghost use Rattle.std.specs.Vec.Iter.{into_iter_items};
 ghost use Rattle.session_workers.specs.Jobs.{IsNewJob, IsDone};
-ghost use Rattle.serve_inputs.specs.Opened.{IsDesk};
+ghost use Rattle.serve_house.specs.Opened.{IsDesk};
 
-use crate::desk::Desk;
 use command_exec::Shop;
 use command_pump::Pump;
 use flake_base::Source;
 use order_book::BookName;
 use pinned_pool::PoolName;
+use serve_house::Desk;
 use session_pass::Gate;
 use session_serve::{Line, serve_beside};
 use session_workers::{Done, Job, serve_all};

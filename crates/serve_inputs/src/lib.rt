@@ -3,18 +3,12 @@
 //! one record.
 #![tactic(auto)]
 
-mod closing;
 mod crop;
-mod desk;
-mod house;
 mod jobs;
-mod passing;
 mod run;
-mod seating;
 mod serving;
-mod sizes;
 mod space;
 
 pub use run::serve_inputs;
+pub use serve_house::Sizes;
 pub use serving::Served;
-pub use sizes::Sizes;

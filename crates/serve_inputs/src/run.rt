@@ -1,16 +1,15 @@
 // Some sources, from nothing to nothing.
 ghost use Rattle.std.specs.Prelude.{◌≡◌, ◌≢◌, ◌<◌, ◌≤◌, All, length, map, IfOk, IfErr};
 ghost use Rattle.shard_store.specs.Journals.{histories};
-ghost use Rattle.serve_inputs.specs.Opened.{IsSized, IsPool, IsBook, pool_sizes};
-ghost use Rattle.serve_inputs.specs.Ran.{AreReads, RanAll};
+ghost use Rattle.serve_house.specs.Opened.{IsSized, IsPool, IsBook, pool_sizes};
+ghost use Rattle.serve_house.specs.Ran.{AreReads};
+ghost use Rattle.serve_inputs.specs.Ran.{RanAll};
 
-use crate::house::open_house;
-use crate::passing::SESSION_CREDITS;
-use crate::serving::{Room, Served, serve_house};
-use crate::sizes::Sizes;
+use crate::serving::{Room, Served, serve_opened};
 use flake_base::{End, Source};
 use order_book::{BookBlank, BookName};
 use pinned_pool::{PoolBlank, PoolName};
+use serve_house::{SESSION_CREDITS, Sizes, open_house};
 use session_pass::Gate;
 use std::alloc::Global;
 use std::marker::Brand;
@@ -64,7 +63,7 @@ fn serve_named<
     let Ok(house) = open_house::<N, P>(alloc, sizes, sources.len(), pool, book) else {
         return Err((sources, wires));
     };
-    Ok(serve_house(
+    Ok(serve_opened(
         rt, alloc, sizes, workers, house, space, sources, wires, gate, put, flush,
     ))
 }

@@ -3,19 +3,18 @@ ghost use Rattle.std.specs.Prelude.{◌≡◌, ◌≢◌, ◌<◌, ◌≤◌, []
 ghost use Rattle.std.specs.List.{range_with_len};
 ghost use Rattle.serve_model.specs.Seats.{IsSpare};
 ghost use Rattle.shard_store.specs.Journals.{histories};
-ghost use Rattle.serve_inputs.specs.Opened.{IsPool, IsBook, IsDesk, pool_sizes};
-ghost use Rattle.serve_inputs.specs.Ran.{AreReads, RanAll};
+ghost use Rattle.serve_house.specs.Opened.{IsPool, IsBook, IsDesk, pool_sizes};
+ghost use Rattle.serve_house.specs.Ran.{AreReads};
+ghost use Rattle.serve_inputs.specs.Ran.{RanAll};
 
-use crate::closing::{Closed, close_all};
 use crate::crop::{Crop, bring_in};
-use crate::house::House;
 use crate::jobs::{line_up, serve_jobs};
-use crate::sizes::Sizes;
 use crate::space::Space;
 use command_exec::Shop;
 use flake_base::{End, Ends, Journal, Source};
 use order_book::BookName;
 use pinned_pool::{PoolEnd, PoolName};
+use serve_house::{Closed, House, Sizes, close_all};
 use session_pass::Gate;
 use session_workers::{Done, Job};
 use std::alloc::Global;
@@ -38,7 +37,7 @@ pub struct Served<S, W> {
 }
 
 /// Serves each source to its end or until memory is wanting, and closes all.
-pub(crate) fn serve_house<
+pub(crate) fn serve_opened<
     R: Threads + Wait + Sync,
     N: BookName + Send + Sync,
     P: PoolName + Send + Sync,

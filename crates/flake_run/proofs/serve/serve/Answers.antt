@@ -7,8 +7,8 @@ use Rattle.flake_base.specs.Causes.{Rose}
 use Rattle.flake_base.specs.declared.session.End.{End}
 use Rattle.flake_base.specs.declared.session.End.TheVariants.{Left}
 use Rattle.flake_base.specs.declared.session.SessionEnd.{SessionEnd}
-use Rattle.serve_inputs.specs.Opened.{IsSized, pool_sizes}
-use Rattle.serve_inputs.specs.Ran.{AreReads}
+use Rattle.serve_house.specs.Opened.{IsSized, pool_sizes}
+use Rattle.serve_house.specs.Ran.{AreReads}
 use Rattle.shard_store.specs.Journals.{histories}
 use Rattle.flake_run.specs.declared.outcome.Detail.TheVariants.{Nothing}
 use Rattle.flake_run.specs.declared.outcome.Refusal.TheVariants.{OpenFault}

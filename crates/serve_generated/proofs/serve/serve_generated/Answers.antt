@@ -3,7 +3,7 @@ use Rattle.std.proofs.lemmas.List.Elements.{recursion_from_All}
 use Rattle.flake_base.specs.declared.session.End.TheVariants.{Left}
 use Rattle.flake_base.specs.declared.session.SessionEnd.{SessionEnd}
 use Rattle.shard_store.specs.Journals.{histories}
-use Rattle.serve_inputs.specs.Opened.{IsSized}
+use Rattle.serve_house.specs.Opened.{IsSized}
 use Rattle.serve_generated.proofs.Ran.{ran_generated}
 use Rattle.serve_generated.proofs.serve.serve_generated.Goals as goal
 

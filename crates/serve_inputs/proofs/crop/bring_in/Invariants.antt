@@ -1,6 +1,6 @@
 use Rattle.std.proofs.Common.{◌++◌, ◌≡◌, ◌+◌, ◌≤◌, length, map, vec_len, vec_capacity}
 use Rattle.std.specs.Vec.Iter.{into_iter_items, into_iter_len}
-use Rattle.serve_inputs.specs.Joined.{HasJoined}
+use Rattle.serve_house.specs.Joined.{HasJoined}
 use Rattle.serve_inputs.proofs.crop.bring_in.Given as goal
 
 abbrev pub invariant-loop-done : goal.invariant-loop-done

@@ -1,5 +1,5 @@
 use Rattle.std.proofs.Common.{◌++◌, ap, ◌∙◌}
-use Rattle.serve_inputs.proofs.Lists.{all_given}
+use Rattle.serve_house.proofs.Lists.{all_given}
 use Rattle.serve_inputs.proofs.crop.with_past.Goals as goal
 
 pub returns : goal.returns

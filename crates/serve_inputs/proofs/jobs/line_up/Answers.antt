@@ -2,9 +2,9 @@ use Rattle.std.proofs.Common.{◌≡◌, ◌∷◌, [], ◌++◌, map, length, r
 use Rattle.std.proofs.lemmas.List.{nil_from_length}
 use Rattle.std.specs.Vec.Iter.{into_iter_items}
 use Rattle.session_workers.specs.Jobs.{IsNewJob}
-use Rattle.serve_inputs.specs.Opened.{IsDesk}
-use Rattle.serve_inputs.proofs.Desks.{new_job}
-use Rattle.serve_inputs.proofs.Lists.{all_of_none, all_as, all_more, all_first, all_rest, all_given, given_on, moves_on, both_more}
+use Rattle.serve_house.specs.Opened.{IsDesk}
+use Rattle.serve_house.proofs.Lists.{all_of_none, all_as, all_more, all_first, all_rest, all_given, given_on, moves_on, both_more}
+use Rattle.serve_inputs.proofs.NewJobs.{new_job}
 use Rattle.serve_inputs.proofs.jobs.line_up.Goals as goal
 
 pub loop-desk-init : goal.loop-desk-init

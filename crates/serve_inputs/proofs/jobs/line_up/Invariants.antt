@@ -1,7 +1,7 @@
 use Rattle.std.proofs.Common.{◌≡◌, ◌+◌, ◌≤◌, ◌++◌, All, length, map, vec_len, vec_capacity}
 use Rattle.std.specs.Vec.Iter.{into_iter_items, into_iter_len}
 use Rattle.session_workers.specs.Jobs.{IsNewJob}
-use Rattle.serve_inputs.specs.Opened.{IsDesk}
+use Rattle.serve_house.specs.Opened.{IsDesk}
 use Rattle.serve_inputs.proofs.jobs.line_up.Given as goal
 
 abbrev pub invariant-loop-desk : goal.invariant-loop-desk

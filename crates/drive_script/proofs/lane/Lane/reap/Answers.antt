@@ -5,6 +5,7 @@ use Rattle.drive_script.specs.Lanes.{IsDriven}
 use Rattle.drive_script.specs.Shown.{session_shown, device_shown}
 use Rattle.drive_script.proofs.Ends.{both_shown}
 use Rattle.drive_script.proofs.Lanes.{lane_reaped, lane_none, told_again}
+use Rattle.drive_script.proofs.Running.{running_reaped, running_none}
 use Rattle.drive_script.proofs.Showing.{reap_shown, none_shown}
 use Rattle.drive_script.proofs.lane.Lane.reap.Goals as goal
 
@@ -31,3 +32,11 @@ returns-in-None-clause-right g c = λ fixed given end whole events driven.
     let again = told_again fixed given end whole (events ++ nothing_reaped ∷ []) (session_shown z between) (session_shown z session) (device_shown was.device.failed was.device.end) (device_shown device.failed device.end) said both.session both.device in
     subst (λ (s : SessionShown). IsDriven fixed given end whole (events ++ nothing_reaped ∷ []) s (device_shown device.failed device.end)) (sym again.0)
     (subst (λ (d : DeviceShown). IsDriven fixed given end whole (events ++ nothing_reaped ∷ []) (session_shown z between) d) (sym again.1) said)
+
+pub returns-in-Some-clause-runs : goal.returns-in-Some-clause-runs
+returns-in-Some-clause-runs g c = λ given end first.
+    running_reaped g.P.PoolName.sizes g.N.BookName.sizes.shards first given end c.args.self.now.session c.reap_one-reaped.new.self c.both_ends.new.session _ _ _ c.in-Some.ensures.one c.both_ends.ensures.session
+
+pub returns-in-None-clause-runs : goal.returns-in-None-clause-runs
+returns-in-None-clause-runs g c = λ given end first.
+    running_none g.P.PoolName.sizes g.N.BookName.sizes.shards first given end c.args.self.now.session c.reap_one-reaped.new.self c.both_ends.new.session _ c.in-None.ensures.none c.both_ends.ensures.session

@@ -1,0 +1,39 @@
+-- A session with its source and its wire, before the first line.
+use Rattle.std.proofs.Common.{◌≡◌, ℕ, Bool, List, [], Option, Some, None, refl, ap}
+use Rattle.pin_core.specs.declared.sizes.Sizes.{Sizes}
+use Rattle.reply_planner.specs.Parcels.{Sent}
+use Rattle.tx_descriptor.specs.declared.framed.Framed.{Ghosts}
+use Rattle.tx_ring.specs.declared.device.DeviceEnd.{DeviceEnd}
+use Rattle.tx_ring.specs.declared.view.DeviceView.{DeviceView}
+use Rattle.command_pump.specs.Pump.{PumpState, IsPump}
+use Rattle.session_pass.specs.Views.{SessionView}
+use Rattle.session_serve.specs.Working.{IsFresh}
+use Rattle.drive_script.specs.Driving.{driving_of, IsNew}
+use Rattle.serve_house.specs.Opened.{IsDesk}
+use Rattle.serve_house.proofs.Desks.{fresh}
+
+module _ {g : Ghosts Sent} where
+  pub new_driving : {W : Type 0} (z : Sizes) (session : SessionView) (device : DeviceEnd Sent g) (failed : Bool)
+      (pump : PumpState) (left : Option (List ℕ)) (faults : ℕ) (wire : W) → IsDesk z session device failed
+      → IsPump left faults [] pump → (pump.left ≡ left) × (pump.faults ≡ faults)
+      → IsNew z (driving_of session failed device None None pump (Some wire)) × IsFresh z session pump
+  new_driving z session device failed pump left faults wire is unread own =
+      let untouched = fresh z session device failed pump left faults is unread own in (
+        record {
+          ring = is.ring;
+          small = is.pass.opened.small;
+          none_posted = untouched.none_posted;
+          none_reaped = ap (λ (s : SessionView). s.reaped) is.session_is;
+          none_told = is.pass.untold;
+          told = ap (λ (s : SessionView). s.told) is.session_is;
+          none_completed = ap (λ (v : DeviceView Sent). v.completed) is.device;
+          unfailed = is.unfailed;
+          device_told = ap (λ (v : DeviceView Sent). v.told) is.device;
+          none_kept = refl;
+          none_ended = refl;
+          unread = untouched.unread;
+          wire = wire;
+          wire_is = refl;
+        },
+        untouched,
+      )

@@ -1,0 +1,229 @@
+-- What was driven, put together.
+use Rattle.std.proofs.Common.{
+  ◌≡◌,
+  ℕ,
+  ◌+◌,
+  ◌*◌,
+  Bool,
+  List,
+  [],
+  ◌∷◌,
+  ◌++◌,
+  Option,
+  Some,
+  All,
+  map,
+  length,
+  refl,
+  ap,
+  sym,
+  ◌∙◌,
+  subst,
+  arith,
+}
+use Rattle.std.specs.Borrow.{Bor}
+use Rattle.std.specs.List.{flat_map, range_with_len}
+use Rattle.std.proofs.lemmas.List.{map-append, length-map}
+use Rattle.std.proofs.lemmas.List.Elements.{All-head, All-tail}
+use Rattle.view_sums.specs.Total.{Each}
+use Rattle.flake_base.specs.Told.{HostTold}
+use Rattle.flake_base.specs.declared.journal.Entry.{Entry}
+use Rattle.flake_base.specs.declared.session.SessionEnd.{SessionEnd}
+use Rattle.pin_core.specs.declared.sizes.Sizes as pool_sizes
+use Rattle.pinned_pool.specs.Ends.{End}
+use Rattle.pinned_pool.specs.declared.view.View.{View}
+use Rattle.order_book.specs.Pages.{SessionList}
+use Rattle.order_book.specs.declared.rule.Sizes as book_sizes
+use Rattle.schedule_text.specs.declared.line.Line.{Line}
+use Rattle.serve_model.specs.Seats.{HasAll, IsSpare}
+use Rattle.session_pass.specs.Views.{SessionView}
+use Rattle.drive_script.specs.Driven.{Leaving, DroveAll}
+use Rattle.drive_script.specs.Driving.{Driving}
+use Rattle.drive_script.specs.Lanes.{sends_by}
+use Rattle.drive_told.specs.Closed.{WereClosed}
+use Rattle.drive_told.specs.Driven.{OneDriven, AreDriven}
+use Rattle.drive_told.specs.Together.{DrivenTogether}
+use Rattle.serve_house.specs.Closed.{WasClosed}
+use Rattle.serve_house.specs.Joined.{HasJoined}
+use Rattle.serve_house.specs.Opened.{session_credits}
+use Rattle.serve_house.specs.Ran.{AreReads, AllSent}
+use Rattle.serve_house.proofs.Desks.{HasCredits}
+use Rattle.serve_house.proofs.Joining.{joins_all}
+use Rattle.drive_inputs.specs.Drove.{DroveInputs}
+use Rattle.drive_inputs.proofs.Each as each
+use Rattle.drive_inputs.proofs.Each.{AreFit}
+
+pub maps_in : {A B C : Type 0} (f : B → C) (view : A → B) (xs : List A)
+    → map f (map view xs) ≡ map (λ (x : A). f (view x)) xs
+maps_in f view [] = refl
+maps_in {A} {B} {C} f view (x ∷ xs) = ap (λ (more : List C). f (view x) ∷ more) (maps_in f view xs)
+
+all_there : {A : Type 0} (xs ys : List A) → map Some xs ≡ map Some ys → xs ≡ ys
+all_there [] [] same = refl
+all_there [] (y ∷ ys) same = absurd (cc)
+all_there (x ∷ xs) [] same = absurd (cc)
+all_there {A} (x ∷ xs) (y ∷ ys) same =
+    let first : x ≡ y = cc in
+    let others : map Some xs ≡ map Some ys = cc in
+    ap (λ (a : A). a ∷ xs) first ∙ ap (λ (more : List A). y ∷ more) (all_there xs ys others)
+
+module _ {W D A : Type 0} (put_may : W → Bor (List ℕ) → (W × Bool) → Type 0) (flush_may : W → (W × Bool) → Type 0)
+    (z : pool_sizes.Sizes) (shards : ℕ) (view : D → Driving W) (leave : A → Leaving W) (schedule : List Line)
+    (failed : Bool) (drivings : List D) (accounts : List A) (old new : HostTold) where
+  abbrev pub Drove : Type 0
+  Drove = DroveAll put_may flush_may z shards (map view drivings) schedule (map leave accounts) failed old new
+
+  abbrev firsts : List (Driving W)
+  firsts = map view drivings
+
+  abbrev lasts : List (Leaving W)
+  lasts = map leave accounts
+
+  -- one session after another
+  abbrev Were : Drove → Type 0
+  Were drove = each.WereAll put_may flush_may z shards drove.lines 0 firsts lasts
+
+  all_were : (drove : Drove) → Were drove
+  all_were drove =
+      each.in_order put_may flush_may z shards drove.lines 0 firsts lasts drove.as_many (λ k first last began at.
+      let here : k ≡ 0 + k = omega arith in
+      subst (λ (n : ℕ). each.WasDriven put_may flush_may z shards drove.lines n first last) here
+      (drove.left k first last began at))
+
+  abbrev ones : (drove : Drove) → Were drove → List (OneDriven W)
+  ones drove all = each.each_of put_may flush_may z shards drove.lines 0 firsts lasts all
+
+  pub as_many : Drove → length accounts ≡ length drivings
+  as_many drove = sym (length-map accounts leave) ∙ drove.as_many ∙ length-map drivings view
+
+  pub reads : (befores nows : List ℕ) (ends : List SessionEnd) → Drove
+      → map (λ (d : D). (view d).pump.faults) drivings ≡ befores → nows ≡ map (λ (a : A). (leave a).pump.faults) accounts
+      → ends ≡ map (λ (a : A). (leave a).end) accounts → AreReads ends befores nows
+  reads befores nows ends drove befores_is nows_is ends_is =
+      let a = ends_is ∙ sym (maps_in (λ (l : Leaving W). l.end) leave accounts) in
+      let b = maps_in (λ (f : Driving W). f.pump.faults) view drivings ∙ befores_is in
+      let n = nows_is ∙ sym (maps_in (λ (l : Leaving W). l.pump.faults) leave accounts) in
+      subst (λ (q : List SessionEnd × List ℕ × List ℕ). AreReads q.0 q.1 q.2) (λ i. (sym a i, b i, sym n i))
+      (each.all_reads put_may flush_may z shards drove.lines 0 firsts lasts (all_were drove))
+
+  -- all sessions of the law, with their lists and seats
+  are_driven : (ring threshold : ℕ) (lists : List SessionList) (spare main : View) (drove : Drove) (all : Were drove)
+      → AreFit z ring threshold 0 (map (λ (d : D). (view d).session) drivings)
+      → lists ≡ map (λ (a : A). (leave a).mine) accounts → IsSpare spare
+      → HasJoined (map (λ (a : A). (leave a).seat) accounts) spare main
+      → AreDriven (sends_by put_may flush_may) z shards ring threshold drove.lines (ones drove all) lists main
+  are_driven ring threshold lists spare main drove all fit lists_is empty joins =
+      let mine = each.by_lasts put_may flush_may z shards drove.lines (λ (one : OneDriven W). one.list)
+      (λ (l : Leaving W). l.mine) (λ n f l was. refl) 0 firsts lasts all
+      ∙ maps_in (λ (l : Leaving W). l.mine) leave accounts in
+      let seats = each.by_lasts put_may flush_may z shards drove.lines (λ (one : OneDriven W). one.seat)
+      (λ (l : Leaving W). l.seat) (λ n f l was. refl) 0 firsts lasts all
+      ∙ maps_in (λ (l : Leaving W). l.seat) leave accounts in
+      record {
+        all = each.all_driven put_may flush_may z shards drove.lines ring threshold 0 firsts lasts all
+            (subst (AreFit z ring threshold 0) (sym (maps_in (λ (f : Driving W). f.session) view drivings)) fit);
+        lists_are = lists_is ∙ sym mine;
+        spare = spare;
+        spare_is = empty;
+        seats = subst (λ (views : List View). HasAll (spare ∷ views) main) (sym seats)
+            (joins_all (map (λ (a : A). (leave a).seat) accounts) spare main joins);
+      }
+
+  -- the credits of all seats
+  pub credits : (spare main : View) → Drove → Each HasCredits (map (λ (d : D). (view d).session) drivings)
+      → HasJoined (map (λ (a : A). (leave a).seat) accounts) spare main
+      → main.credits ≡ spare.credits + session_credits * length drivings
+  credits spare main drove own joins =
+      let all = each.all_credits put_may flush_may z shards drove.lines 0 firsts lasts (all_were drove)
+      (subst (Each HasCredits) (sym (maps_in (λ (f : Driving W). f.session) view drivings)) own) in
+      let seats = maps_in (λ (l : Leaving W). l.seat) leave accounts in
+      let has = joins_all (map (λ (a : A). (leave a).seat) accounts) spare main joins in
+      omega (
+        arith,
+        has.credits,
+        all,
+        ap (λ (views : List View). each.credits_in views) seats,
+        ap (λ n. session_credits * n) (length-map drivings view),
+      )
+
+  -- the wires at the start, with those past them
+  wires_are : (past olds : List W) (drove : Drove) (all : Were drove)
+      → map (λ (d : D). (view d).wire) drivings ++ map Some past ≡ map Some olds
+      → map (λ (one : OneDriven W). one.old) (ones drove all) ++ past ≡ olds
+  wires_are past olds drove all is =
+      let own : List W = map (λ (one : OneDriven W). one.old) (ones drove all) in
+      let firsts_are : map Some own ≡ map (λ (d : D). (view d).wire) drivings =
+      maps_in Some (λ (one : OneDriven W). one.old) (ones drove all)
+      ∙ each.by_firsts put_may flush_may z shards drove.lines (λ (one : OneDriven W). Some one.old)
+      (λ (f : Driving W). f.wire) (λ n f l was. sym was.start_is) 0 firsts lasts all
+      ∙ maps_in (λ (f : Driving W). f.wire) view drivings in
+      all_there (own ++ past) olds
+      (map-append Some own past ∙ ap (λ (l : List (Option W)). l ++ map Some past) firsts_are ∙ is)
+
+  pub drove_inputs : (books : book_sizes.Sizes) (y : pool_sizes.Sizes) (ring threshold : ℕ)
+      (inputs lefts : List (Option (List ℕ))) (ends : List SessionEnd) (lists : List SessionList)
+      (journal : List (List Entry)) (closed : End) (spare main : View) (past olds news : List W) → Drove
+      → shards ≡ books.shards → z ≡ y → AreFit z ring threshold 0 (map (λ (d : D). (view d).session) drivings)
+      → lists ≡ map (λ (a : A). (leave a).mine) accounts → IsSpare spare
+      → HasJoined (map (λ (a : A). (leave a).seat) accounts) spare main → length lists ≡ books.sessions
+      → WasClosed books z lists main journal closed → DrivenTogether (sends_by put_may flush_may)
+      → map (λ (d : D). (view d).pump.left) drivings ≡ inputs → lefts ≡ map (λ (a : A). (leave a).pump.left) accounts
+      → ends ≡ map (λ (a : A). (leave a).end) accounts
+      → map (λ (d : D). (view d).wire) drivings ++ map Some past ≡ map Some olds
+      → news ≡ map (λ (a : A). (leave a).wire) accounts ++ past
+      → DroveInputs put_may flush_may y ring threshold schedule failed inputs lefts ends journal closed olds news old new
+  drove_inputs books y ring threshold inputs lefts ends lists journal closed spare main past olds news drove shards_are
+      same fit lists_is empty joins many end together inputs_is lefts_is ends_is olds_is news_is =
+      let all = all_were drove in
+      let own : List (OneDriven W) = ones drove all in
+      let are = subst (λ (n : ℕ). AreDriven (sends_by put_may flush_may) z n ring threshold drove.lines own lists main)
+      shards_are (are_driven ring threshold lists spare main drove all fit lists_is empty joins) in
+      let have = together books z ring threshold schedule drove.lines own past end.shards lists journal main end.store
+      end.last closed drove.answers are (record {
+        parts = end.parts;
+        book = end.tied;
+        as_many = many;
+        last_is = end.last_is;
+        loose = end.loose;
+        looked = end.looked;
+        closed_is = end.closed_is;
+      }) in
+      let a = each.by_firsts put_may flush_may z shards drove.lines (λ (one : OneDriven W). one.input)
+      (λ (f : Driving W). f.pump.left) (λ n f l was. refl) 0 firsts lasts all
+      ∙ maps_in (λ (f : Driving W). f.pump.left) view drivings ∙ inputs_is in
+      let b = each.by_lasts put_may flush_may z shards drove.lines (λ (one : OneDriven W). one.left)
+      (λ (l : Leaving W). l.pump.left) (λ n f l was. refl) 0 firsts lasts all
+      ∙ maps_in (λ (l : Leaving W). l.pump.left) leave accounts ∙ sym lefts_is in
+      let e = each.by_lasts put_may flush_may z shards drove.lines (λ (one : OneDriven W). one.end)
+      (λ (l : Leaving W). l.end) (λ n f l was. refl) 0 firsts lasts all
+      ∙ maps_in (λ (l : Leaving W). l.end) leave accounts ∙ sym ends_is in
+      let o = wires_are past olds drove all olds_is in
+      let n = ap (λ (l : List W). l ++ past) (each.by_lasts put_may flush_may z shards drove.lines
+      (λ (one : OneDriven W). one.new) (λ (l : Leaving W). l.wire) (λ n f l was. refl) 0 firsts lasts all
+      ∙ maps_in (λ (l : Leaving W). l.wire) leave accounts) ∙ sym news_is in
+      let first_olds : List W = map (λ (one : OneDriven W). one.old) own ++ past in
+      let first_news : List W = map (λ (one : OneDriven W). one.new) own ++ past in
+      let drove_ones : DroveInputs put_may flush_may z ring threshold schedule failed
+      (map (λ (one : OneDriven W). one.input) own) (map (λ (one : OneDriven W). one.left) own)
+      (map (λ (one : OneDriven W). one.end) own) journal closed first_olds first_news old new = record {
+        ran = have.ran;
+        sends = subst (λ (texts : List (Bool × List ℕ)). AllSent put_may flush_may texts first_olds first_news)
+            (sym have.texts_are) (each.all_sent put_may flush_may z shards drove.lines past 0 firsts lasts all);
+        lines = drove.lines;
+        said = drove.said;
+        own = have.own;
+        shards = have.shards;
+        told_by = have.told_by;
+        sources = have.sources;
+        apart = have.apart;
+      } in
+      subst (λ (q : pool_sizes.Sizes × List (Option (List ℕ)) × List (Option (List ℕ)) × List SessionEnd × List W × List W).
+      DroveInputs put_may flush_may q.0 ring threshold schedule failed q.1 q.2 q.3 journal closed q.4 q.5 old new)
+      (λ i. (same i, a i, b i, e i, o i, n i)) drove_ones
+
+-- the credits of desks' sessions
+pub credits_of : {K : Type 0} (P : K → Type 0) (own : K → SessionView) → ((k : K) → P k → HasCredits (own k))
+    → (desks : List K) → All P desks → Each HasCredits (map own desks)
+credits_of P own is [] all = tt
+credits_of P own is (k ∷ desks) all =
+    (is k (All-head P k desks all), credits_of P own is desks (All-tail P k desks all))

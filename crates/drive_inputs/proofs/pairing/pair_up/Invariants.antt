@@ -1,0 +1,27 @@
+use Rattle.std.proofs.Common.{◌≡◌, ◌+◌, ◌≤◌, ◌++◌, All, Some, length, map, vec_len, vec_capacity}
+use Rattle.std.specs.Vec.Iter.{into_iter_items, into_iter_len}
+use Rattle.session_serve.specs.Working.{IsFresh}
+use Rattle.drive_script.specs.Driving.{driving_of, IsNew}
+use Rattle.serve_house.specs.Opened.{IsDesk}
+use Rattle.drive_inputs.proofs.pairing.pair_up.Given as goal
+
+abbrev pub invariant-loop-desk : goal.invariant-loop-desk
+invariant-loop-desk g l = record {
+  fresh : All (λ d. IsNew g.P.PoolName.sizes (driving_of d.lane.session d.lane.device.failed d.lane.device.end
+      d.asking.kept d.asking.end d.asking.pump d.wire) × IsFresh g.P.PoolName.sizes d.lane.session d.asking.pump)
+      l.drivings.items;
+  sessions : map (λ d. d.lane.session) l.drivings.items ≡ map (λ d. d.session) l.yielded;
+  lefts : map (λ d. d.asking.pump.left) l.drivings.items
+      ++ map (λ s. g.S.Source.left s) (into_iter_items l.more_sources)
+      ≡ map (λ s. g.S.Source.left s) l.fn.sources.items;
+  faults : map (λ d. d.asking.pump.faults) l.drivings.items
+      ++ map (λ s. g.S.Source.read_faults s) (into_iter_items l.more_sources)
+      ≡ map (λ s. g.S.Source.read_faults s) l.fn.sources.items;
+  wires : map (λ d. d.wire) l.drivings.items ++ map Some (into_iter_items l.more_wires) ≡ map Some l.fn.wires.items;
+  rest : All (λ d. IsDesk g.P.PoolName.sizes d.session d.device.end d.device.failed) (into_iter_items l.desk-iterator);
+  all : l.yielded ++ into_iter_items l.desk-iterator ≡ l.fn.desks.items;
+  left : into_iter_len l.desk-iterator ≡ length (into_iter_items l.desk-iterator);
+  source_count : length (into_iter_items l.more_sources) ≡ length (into_iter_items l.desk-iterator);
+  wire_count : length (into_iter_items l.desk-iterator) ≤ length (into_iter_items l.more_wires);
+  room : vec_len l.drivings + length (into_iter_items l.desk-iterator) ≤ vec_capacity l.drivings;
+}

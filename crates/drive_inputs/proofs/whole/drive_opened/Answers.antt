@@ -1,0 +1,54 @@
+use Rattle.std.proofs.Common.{◌≡◌, ℕ, ◌+◌, ◌*◌, ◌++◌, map, refl, ap, sym, ◌∙◌, subst, length, arith}
+use Rattle.std.specs.List.{range_with_len}
+use Rattle.pin_core.specs.declared.sizes.Sizes.{Sizes}
+use Rattle.view_sums.specs.Total.{Each}
+use Rattle.drive_script.specs.Driven.{leaving_of}
+use Rattle.drive_script.specs.Driving.{driving_of}
+use Rattle.serve_house.specs.Opened.{IsDesk}
+use Rattle.serve_house.proofs.Desks.{HasCredits, desk_credits}
+use Rattle.serve_house.proofs.Lists.{count_of, same_count, count_past, count_as}
+use Rattle.drive_inputs.proofs.Each.{AreFit, all_fit}
+use Rattle.drive_inputs.proofs.Together.{as_many, reads, credits, credits_of, drove_inputs}
+use Rattle.drive_inputs.proofs.whole.drive_opened.Goals as goal
+
+pub returns-clause-drove : goal.returns-clause-drove
+returns-clause-drove g c =
+    let z = g.P.PoolName.sizes in
+    let desks = c.args.house.desks.items in
+    let many = count_of desks _ _ c.requires.numbers in
+    let rows = same_count c.pair_up-drivings.result.0.items desks _ _ c.pair_up-drivings.ensures.sessions in
+    let left = as_many _ _ z _ _ _ _ _ c.pair_up-drivings.result.0.items c.drive-accounts.result.accounts.items _ _
+    c.drive-accounts.ensures.driven in
+    let lists = count_as _ c.drive-accounts.result.accounts.items _ c.bring_in-ends.ensures.lists in
+    let fit = all_fit z _ _ 0 (λ d. IsDesk z d.session d.device.end d.device.failed) (λ d. d.session) desks
+    (λ d is. is.pass) c.requires.desks c.requires.ring c.requires.threshold
+    (c.requires.numbers ∙ ap (λ (n : ℕ). range_with_len 0 n) (sym many)) in
+    drove_inputs _ _ z g.N.BookName.sizes.shards (λ d. driving_of d.lane.session d.lane.device.failed d.lane.device.end
+    d.asking.kept d.asking.end d.asking.pump d.wire) (λ a. leaving_of a.end a.mine a.seat a.pump a.wire) _ _
+    c.pair_up-drivings.result.0.items c.drive-accounts.result.accounts.items _ _ g.N.BookName.sizes _ _ _ _ _ _ _ _ _
+    _ _ _ _ _ c.drive-accounts.ensures.driven refl c.requires.pool
+    (subst (AreFit z _ _ 0) (sym c.pair_up-drivings.ensures.sessions) fit) c.bring_in-ends.ensures.lists
+    c.requires.main.0 c.bring_in-ends.ensures.seats (omega (arith, many, rows, left, lists, c.requires.book.1))
+    c.close_all-journal.ensures.closed c.driven_together.ensures c.pair_up-drivings.ensures.lefts
+    c.bring_in-ends.ensures.lefts c.bring_in-ends.ensures.ends c.pair_up-drivings.ensures.wires
+    c.bring_in-ends.ensures.wires
+
+pub returns-clause-reads : goal.returns-clause-reads
+returns-clause-reads g c =
+    reads _ _ g.P.PoolName.sizes _ _ _ _ _ c.pair_up-drivings.result.0.items c.drive-accounts.result.accounts.items _ _
+    _ _ _ c.drive-accounts.ensures.driven c.pair_up-drivings.ensures.faults c.bring_in-ends.ensures.faults
+    c.bring_in-ends.ensures.ends
+
+pub pair_up-drivings-requires-clause-sources : goal.pair_up-drivings-requires-clause-sources
+pair_up-drivings-requires-clause-sources g c = λ _ _.
+    sym (count_of c.args.house.desks.items _ _ c.requires.numbers)
+
+pub pair_up-drivings-requires-clause-wires : goal.pair_up-drivings-requires-clause-wires
+pair_up-drivings-requires-clause-wires g c =
+    omega (arith, count_of c.args.house.desks.items _ _ c.requires.numbers, c.requires.wires)
+
+pub pair_up-drivings-requires-clause-room : goal.pair_up-drivings-requires-clause-room
+pair_up-drivings-requires-clause-room g c = λ _ _. (
+  c.requires.drivings.0,
+  omega (arith, count_of c.args.house.desks.items _ _ c.requires.numbers, c.requires.drivings.1),
+)

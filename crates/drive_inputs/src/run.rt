@@ -1,0 +1,117 @@
+// Some sources and a schedule, from nothing to nothing.
+ghost use Rattle.std.specs.Prelude.{◌≡◌, ◌<◌, ◌≤◌, All, length, map, IfOk, IfErr, OnErr};
+ghost use Rattle.schedule_text.specs.Text.{session_of};
+ghost use Rattle.shard_store.specs.Journals.{histories};
+ghost use Rattle.serve_house.specs.Opened.{IsSized, IsPool, IsBook, pool_sizes};
+ghost use Rattle.serve_house.specs.Ran.{AreReads};
+ghost use Rattle.drive_inputs.specs.Drove.{DroveInputs};
+
+use crate::whole::{Driven, Room, drive_opened};
+use flake_base::{Host, Source};
+use order_book::{BookBlank, BookName};
+use pinned_pool::{PoolBlank, PoolName};
+use schedule_text::Line;
+use serve_house::{SESSION_CREDITS, Sizes, open_house};
+use std::alloc::Global;
+use std::marker::Brand;
+use std::sync::Wait;
+
+// The names of pool and book are the caller's pick.
+fn drive_named<
+    R: Wait,
+    N: BookName,
+    P: PoolName + Send,
+    S: Source + Drop,
+    H: Host,
+    W: Drop,
+    PUT: Fn(W, &[u8]) -> (W, bool),
+    FLUSH: Fn(W) -> (W, bool),
+>(
+    rt: &R,
+    alloc: Global,
+    sizes: &Sizes,
+    schedule: &[Line],
+    pool: PoolBlank,
+    book: BookBlank,
+    sources: Vec<S>,
+    wires: Vec<W>,
+    host: &mut H,
+    put: &PUT,
+    flush: &FLUSH,
+) -> Result<Driven<S, W>, (Vec<S>, Vec<W>)>
+    requires calls { PUT.IsAlwaysCallable put.now × FLUSH.IsAlwaysCallable flush.now }
+    requires sized { IsSized (length sources.items) sizes.now }
+    requires wires { length sources.items ≤ length wires.items }
+    requires there { All (λ line. session_of line < length sources.items) schedule.now }
+    requires pool { (P.table ≡ pool.table) × (P.sizes ≡ pool.sizes)
+        × IsPool (length sources.items) sizes.now P.sizes }
+    requires book { (N.table ≡ book.table) × (N.sizes ≡ book.sizes)
+        × IsBook (length sources.items) sizes.now N.sizes }
+    ensures drove { IfOk result (λ r. DroveInputs (λ w p r. PUT.post put.now w p r) (λ w r. FLUSH.post flush.now w r)
+        (pool_sizes (length sources.items) sizes.now) sizes.now.ring sizes.now.threshold schedule.now r.failed
+        (map (λ s. S.left s) sources.items) (map (λ s. S.left s) r.sources.items) r.ends.items
+        (histories r.journal.items) r.pool wires.items r.wires.items (H.host_told host.old) (H.host_told host.new)) }
+    ensures shards { IfOk result (λ r. length r.journal.items ≡ sizes.now.shards) }
+    ensures reads { IfOk result (λ r. AreReads r.ends.items (map (λ s. S.read_faults s) sources.items)
+        (map (λ s. S.read_faults s) r.sources.items)) }
+    ensures refused { IfErr result (λ e. (e.0.items ≡ sources.items) × (e.1.items ≡ wires.items)) }
+    ensures silent { OnErr result (host.new ≡ host.old) }
+{
+    let Ok(space) = Room::<N, P, S, W>::taken(alloc, sources.len(), wires.len()) else {
+        return Err((sources, wires));
+    };
+    let Ok(house) = open_house::<N, P>(alloc, sizes, sources.len(), pool, book) else {
+        return Err((sources, wires));
+    };
+    Ok(drive_opened(
+        rt, alloc, sizes, schedule, house, space, sources, wires, host, put, flush,
+    ))
+}
+
+/// Drives the sessions of the sources as a schedule asks, line by line, and says what happened at each, until a say
+/// fails; then puts the replies that are left on their wires. Wires past the sources come back as they are. Where
+/// memory is wanting before the first line, the sources and the wires come back, and nothing was said.
+pub fn drive_inputs<
+    R: Wait,
+    S: Source + Drop,
+    H: Host,
+    W: Drop,
+    PUT: Fn(W, &[u8]) -> (W, bool),
+    FLUSH: Fn(W) -> (W, bool),
+>(
+    rt: &R,
+    alloc: Global,
+    sizes: &Sizes,
+    schedule: &[Line],
+    sources: Vec<S>,
+    wires: Vec<W>,
+    host: &mut H,
+    put: &PUT,
+    flush: &FLUSH,
+) -> Result<Driven<S, W>, (Vec<S>, Vec<W>)>
+    requires calls { PUT.IsAlwaysCallable put.now × FLUSH.IsAlwaysCallable flush.now }
+    requires sized { IsSized (length sources.items) sizes.now }
+    requires wires { length sources.items ≤ length wires.items }
+    requires there { All (λ line. session_of line < length sources.items) schedule.now }
+    ensures drove { IfOk result (λ r. DroveInputs (λ w p r. PUT.post put.now w p r) (λ w r. FLUSH.post flush.now w r)
+        (pool_sizes (length sources.items) sizes.now) sizes.now.ring sizes.now.threshold schedule.now r.failed
+        (map (λ s. S.left s) sources.items) (map (λ s. S.left s) r.sources.items) r.ends.items
+        (histories r.journal.items) r.pool wires.items r.wires.items (H.host_told host.old) (H.host_told host.new)) }
+    ensures shards { IfOk result (λ r. length r.journal.items ≡ sizes.now.shards) }
+    ensures reads { IfOk result (λ r. AreReads r.ends.items (map (λ s. S.read_faults s) sources.items)
+        (map (λ s. S.read_faults s) r.sources.items)) }
+    ensures refused { IfErr result (λ e. (e.0.items ≡ sources.items) × (e.1.items ≡ wires.items)) }
+    ensures silent { OnErr result (host.new ≡ host.old) }
+{
+    let count = sources.len();
+    let credits = SESSION_CREDITS * count as u64 + u64::from(sizes.shards) + 1;
+    let Ok(pool) = PoolBlank::open(alloc, sizes.small, sizes.large, credits) else {
+        return Err((sources, wires));
+    };
+    let Ok(book) = BookBlank::open(alloc, sizes.shards, count as u16) else {
+        return Err((sources, wires));
+    };
+    drive_named::<R, Brand, Brand, S, H, W, PUT, FLUSH>(
+        rt, alloc, sizes, schedule, pool, book, sources, wires, host, put, flush,
+    )
+}

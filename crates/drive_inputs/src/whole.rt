@@ -1,0 +1,132 @@
+// A schedule is followed in what was opened.
+ghost use Rattle.std.specs.Prelude.{◌≡◌, ◌<◌, ◌≤◌, [], All, length, map, vec_capacity};
+ghost use Rattle.std.specs.List.{range_with_len};
+ghost use Rattle.schedule_text.specs.Text.{session_of};
+ghost use Rattle.serve_model.specs.Seats.{IsSpare};
+ghost use Rattle.shard_store.specs.Journals.{histories};
+ghost use Rattle.tx_ring.specs.Shown.{ring_size};
+ghost use Rattle.drive_script.specs.Says.{text_room};
+ghost use Rattle.serve_house.specs.Opened.{IsPool, IsBook, IsDesk, pool_sizes};
+ghost use Rattle.serve_house.specs.Ran.{AreReads};
+ghost use Rattle.drive_inputs.specs.Drove.{DroveInputs};
+
+use crate::crop::{Crop, bring_in};
+use crate::pairing::pair_up;
+use crate::space::Space;
+use command_exec::Shop;
+use drive_script::{Account, Driving, drive};
+use drive_told::laws::driven_together;
+use flake_base::{Ends, Host, Journal, Source};
+use order_book::BookName;
+use pinned_pool::{PoolEnd, PoolName};
+use schedule_text::Line;
+use serve_house::{Closed, House, Sizes, close_all};
+use std::alloc::Global;
+use std::sync::Wait;
+
+/// Room for a run.
+pub(crate) type Room<N, P, S, W> = Space<Driving<N, P, S, W>, Account<N, P, S, W>, N, S, W>;
+
+/// What a run leaves. Ends, sources and wires stand at their sources' places.
+#[derive(Drop)]
+pub struct Driven<S, W> {
+    pub ends: Ends,
+    pub journal: Journal,
+    pub pool: PoolEnd,
+    pub sources: Vec<S>,
+    pub wires: Vec<W>,
+    /// Whether a say failed.
+    pub failed: bool,
+}
+
+/// Does each line of the schedule, gathers and gives back what is left, and closes all.
+pub(crate) fn drive_opened<
+    R: Wait,
+    N: BookName,
+    P: PoolName + Send,
+    S: Source + Drop,
+    H: Host,
+    W: Drop,
+    PUT: Fn(W, &[u8]) -> (W, bool),
+    FLUSH: Fn(W) -> (W, bool),
+>(
+    rt: &R,
+    alloc: Global,
+    sizes: &Sizes,
+    schedule: &[Line],
+    house: House<N, P>,
+    space: Room<N, P, S, W>,
+    sources: Vec<S>,
+    wires: Vec<W>,
+    host: &mut H,
+    put: &PUT,
+    flush: &FLUSH,
+) -> Driven<S, W>
+    requires calls { PUT.IsAlwaysCallable put.now × FLUSH.IsAlwaysCallable flush.now }
+    requires pool { IsPool (length sources.items) sizes.now P.sizes }
+    requires book { IsBook (length sources.items) sizes.now N.sizes }
+    requires wires { length sources.items ≤ length wires.items }
+    requires there { All (λ line. session_of line < length sources.items) schedule.now }
+    requires main { IsSpare house.main × (house.main.credits ≡ 1) }
+    requires desks { All (λ d. IsDesk P.sizes d.session d.device.end d.device.failed) house.desks.items }
+    requires numbers { map (λ d. d.session.pass.list.number) house.desks.items
+        ≡ range_with_len 0 (length sources.items) }
+    requires ring { All (λ d. ring_size d.session.ring ≡ sizes.now.ring) house.desks.items }
+    requires threshold { All (λ d. d.session.pass.threshold ≡ sizes.now.threshold) house.desks.items }
+    requires drivings { (space.drivings.items ≡ []) × (length sources.items ≤ vec_capacity space.drivings) }
+    requires accounts { (space.accounts.items ≡ []) × (length sources.items ≤ vec_capacity space.accounts) }
+    requires line { text_room ≤ vec_capacity space.line.text }
+    requires ends { (space.crop.ends.items ≡ []) × (length sources.items ≤ space.crop.ends.spare) }
+    requires lists { (space.crop.lists.items ≡ []) × (length sources.items ≤ space.crop.lists.spare) }
+    requires room { (space.crop.sources.items ≡ []) × (length sources.items ≤ vec_capacity space.crop.sources) }
+    requires wire_room { (space.crop.wires.items ≡ []) × (length wires.items ≤ vec_capacity space.crop.wires) }
+    ensures drove { DroveInputs (λ w p r. PUT.post put.now w p r) (λ w r. FLUSH.post flush.now w r)
+        (pool_sizes (length sources.items) sizes.now) sizes.now.ring sizes.now.threshold schedule.now result.failed
+        (map (λ s. S.left s) sources.items) (map (λ s. S.left s) result.sources.items) result.ends.items
+        (histories result.journal.items) result.pool wires.items result.wires.items (H.host_told host.old)
+        (H.host_told host.new) }
+    ensures shards { length result.journal.items ≡ sizes.now.shards }
+    ensures reads { AreReads result.ends.items (map (λ s. S.read_faults s) sources.items)
+        (map (λ s. S.read_faults s) result.sources.items) }
+{
+    let House {
+        pool,
+        book,
+        store,
+        mut main,
+        desks,
+    } = house;
+    let Space {
+        drivings,
+        accounts,
+        line,
+        crop,
+    } = space;
+    let (drivings, past) = pair_up(alloc, desks, sources, wires, drivings);
+    let shop = Shop {
+        pool: &pool,
+        book: &book,
+        store: &store,
+    };
+    let drive_script::Driven { accounts, failed } = drive(
+        rt, &shop, schedule, drivings, line, accounts, host, put, flush,
+    );
+    let parts = store.into_parts(&pool);
+    let Crop {
+        ends,
+        lists,
+        sources,
+        wires,
+    } = bring_in(&pool, &mut main, accounts, past, crop);
+    let Closed { journal, end: pool } = close_all(pool, book, parts, main, lists);
+    driven_together::<W, PUT, FLUSH>(put, flush);
+    let _ = sizes;
+    Driven {
+        ends,
+        journal,
+        pool,
+        sources,
+        wires,
+        failed,
+    }
+}

@@ -1,0 +1,6 @@
+pub mod Ran
+pub mod Opened
+pub mod Joined
+pub mod Passing
+pub mod Closed
+pub mod Together
