@@ -1,4 +1,4 @@
--- The command lines of `serve` and `check`, as commands of the kit's `clap`.
+-- The command lines of `serve`, `drive` and `check`, as commands of the kit's `clap`.
 use Rattle.std.specs.Prelude.{ℕ, List, Option, Some, None, codes, if◌then◌else◌, true}
 use Rattle.clap.specs.Walk.{Row, Rule, is_empty}
 use Rattle.clap.specs.Simple.{App, matches_of, new_app, new_rule, on_top, with_rule}
@@ -22,14 +22,20 @@ abbrev pub bare_command : List ℕ → App
 bare_command name = on_top (λ shape. record shape { disable_help_flag = true; disable_version_flag = true })
     (new_app name)
 
-abbrev pub sized_command : App
-sized_command = with_rule (with_rule (with_rule (with_rule (with_rule (with_rule (bare_command (codes "serve"))
+-- the sizes of a run: five options
+abbrev pub sized_command : List ℕ → App
+sized_command name = with_rule (with_rule (with_rule (with_rule (with_rule (bare_command name)
     (option_rule (codes "shards"))) (option_rule (codes "small"))) (option_rule (codes "large")))
-    (option_rule (codes "ring"))) (option_rule (codes "threshold"))) (option_rule (codes "workers"))
+    (option_rule (codes "ring"))) (option_rule (codes "threshold"))
 
--- `serve`: six options, a flag, and files
+-- `serve`: the sizes, an option more, a flag, and files
 abbrev pub serve_command : App
-serve_command = with_rule (with_rule sized_command (flag_rule (codes "journal"))) file_rule
+serve_command = with_rule (with_rule (with_rule (sized_command (codes "serve")) (option_rule (codes "workers")))
+    (flag_rule (codes "journal"))) file_rule
+
+-- `drive`: the sizes, and files
+abbrev pub drive_command : App
+drive_command = with_rule (sized_command (codes "drive")) file_rule
 
 -- `check`: files alone
 abbrev pub check_command : App

@@ -3,3 +3,4 @@ pub mod Command
 pub mod Named
 pub mod Sizes
 pub mod Task
+pub mod Drive

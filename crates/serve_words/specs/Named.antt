@@ -2,11 +2,12 @@
 use Rattle.std.specs.Prelude.{ℕ, List, [], ◌∷◌, codes, if◌then◌else◌}
 use Rattle.std.specs.Str.{bytes_eq}
 use Rattle.serve_words.specs.declared.named.CommandName.{CommandName}
-use Rattle.serve_words.specs.declared.named.CommandName.TheVariants.{Serve, Check, Gen}
+use Rattle.serve_words.specs.declared.named.CommandName.TheVariants.{Serve, Check, Gen, Drive}
 
 -- words that name no command are bad words of `serve`
 abbrev pub name_of : List (List ℕ) → CommandName
 name_of [] = Serve
 name_of (command ∷ words) =
     if bytes_eq command (codes "check") then Check else
-    if bytes_eq command (codes "gen") then Gen else Serve
+    if bytes_eq command (codes "gen") then Gen else
+    if bytes_eq command (codes "drive") then Drive else Serve

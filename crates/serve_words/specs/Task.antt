@@ -1,5 +1,5 @@
 -- What the words of the command line ask for.
-use Rattle.std.specs.Prelude.{ℕ, Bool, List, [], ◌∷◌, Option, Some, None, codes, if◌then◌else◌, map, length, unwrap_or}
+use Rattle.std.specs.Prelude.{ℕ, Bool, List, [], ◌∷◌, Option, None, codes, if◌then◌else◌, map, length, unwrap_or}
 use Rattle.std.specs.Prelude.{◌≤◌, ◌*◌, ◌&&◌, false, nat_le, String, string_bytes}
 use Rattle.std.specs.Global.{Global}
 use Rattle.std.specs.Option.{option_and_then, option_map, option_map_or}

@@ -4,8 +4,8 @@ ghost use Rattle.clap.specs.Faults.{is_simple_and_free};
 ghost use Rattle.clap.specs.Matches.{found_of};
 ghost use Rattle.clap.specs.Simple.{app_of, is_simple};
 ghost use Rattle.clap.specs.Walk.{rows_of, rule_of};
-ghost use Rattle.serve_words.specs.Command.{bare_command, check_command, file_rule, flag_rule, option_rule};
-ghost use Rattle.serve_words.specs.Command.{rows_by, serve_command, sized_command};
+ghost use Rattle.serve_words.specs.Command.{bare_command, check_command, drive_command, file_rule, flag_rule};
+ghost use Rattle.serve_words.specs.Command.{option_rule, rows_by, serve_command, sized_command};
 ghost use Rattle.serve_words.specs.Task.{texts_of};
 
 use clap::error::ErrorKind;
@@ -35,6 +35,17 @@ pub(crate) fn check_matches<'a>(
     matches_by(check_command(alloc)?, words)
 }
 
+/// What the words say to `drive`, by the names of the options; none where they don't fit the command.
+pub(crate) fn drive_matches<'a>(
+    alloc: Global,
+    words: &'a [String],
+) -> Result<Option<ArgMatches<'a>>, Memory>
+    ensures { IfOk result (λ matches. option_map (λ m. rows_of (found_of m)) matches
+        ≡ rows_by drive_command (texts_of words.entry.now)) }
+{
+    matches_by(drive_command(alloc)?, words)
+}
+
 // What the words say to a command of plain options and files.
 fn matches_by<'a>(
     command: Command<'a>,
@@ -57,9 +68,17 @@ fn matches_by<'a>(
 fn serve_command<'a>(alloc: Global) -> Result<Command<'a>, AllocError>
     ensures { IfOk result (λ command. app_of command ≡ serve_command) }
 {
-    let command = sized_command(alloc)?
+    let command = sized_command(alloc, "serve")?
+        .arg(size_option(alloc, "workers"))?
         .arg(flag(alloc, "journal"))?
         .arg(files(alloc))?;
+    Ok(command)
+}
+
+fn drive_command<'a>(alloc: Global) -> Result<Command<'a>, AllocError>
+    ensures { IfOk result (λ command. app_of command ≡ drive_command) }
+{
+    let command = sized_command(alloc, "drive")?.arg(files(alloc))?;
     Ok(command)
 }
 
@@ -69,16 +88,16 @@ fn check_command<'a>(alloc: Global) -> Result<Command<'a>, AllocError>
     bare_command(alloc, "check").arg(files(alloc))
 }
 
-fn sized_command<'a>(alloc: Global) -> Result<Command<'a>, AllocError>
-    ensures { IfOk result (λ command. app_of command ≡ sized_command) }
+// The sizes of a run.
+fn sized_command<'a>(alloc: Global, name: &'a str) -> Result<Command<'a>, AllocError>
+    ensures { IfOk result (λ command. app_of command ≡ sized_command name.entry.now) }
 {
-    let command = bare_command(alloc, "serve")
+    let command = bare_command(alloc, name)
         .arg(size_option(alloc, "shards"))?
         .arg(size_option(alloc, "small"))?
         .arg(size_option(alloc, "large"))?
         .arg(size_option(alloc, "ring"))?
-        .arg(size_option(alloc, "threshold"))?
-        .arg(size_option(alloc, "workers"))?;
+        .arg(size_option(alloc, "threshold"))?;
     Ok(command)
 }
 

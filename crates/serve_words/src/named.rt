@@ -9,6 +9,7 @@ pub enum CommandName {
     Serve,
     Check,
     Gen,
+    Drive,
 }
 
 /// The command that the words behind the program's name ask for.
@@ -18,6 +19,7 @@ pub fn command_name(words: &[String]) -> CommandName
     match words {
         [command, ..] if command.as_str() == "check" => CommandName::Check,
         [command, ..] if command.as_str() == "gen" => CommandName::Gen,
+        [command, ..] if command.as_str() == "drive" => CommandName::Drive,
         _ => CommandName::Serve,
     }
 }

@@ -1,5 +1,5 @@
-use Rattle.std.proofs.Common.{◌≡◌, ◌+◌, ◌<◌, ◌≤◌, ℕ, suc, List, [], ◌∷◌, ◌++◌, Bor, Option, length, map, take, get_or, arith, sym, ap, ap₂, ◌∙◌, option_map, length-append}
-use Rattle.std.proofs.lemmas.List.{length-map, length-take-le, map-append, take_all, take_more}
+use Rattle.std.proofs.Common.{◌≡◌, ◌+◌, ◌<◌, ℕ, suc, List, [], ◌∷◌, ◌++◌, Bor, Option, length, map, take, get_or, arith, sym, ap, ap₂, ◌∙◌, option_map, length-append}
+use Rattle.std.proofs.lemmas.List.{length-map, length-take-le, map-append, take_more}
 use Rattle.serve_words.specs.Check.{file_at, files_from}
 use Rattle.serve_words.proofs.check.files_of.Goals as goal
 

@@ -13,6 +13,4 @@ returns c =
     ∙ ap₂ with_rule small c.size_option-3.ensures.rule in
     let ring = c.in_ok-arg-4.ensures.shape c.size_option-4.ensures.local
     ∙ ap₂ with_rule large c.size_option-4.ensures.rule in
-    let threshold = c.in_ok-arg-5.ensures.shape c.size_option-5.ensures.local
-    ∙ ap₂ with_rule ring c.size_option-5.ensures.rule in
-    c.in_ok-command.ensures.shape c.size_option-6.ensures.local ∙ ap₂ with_rule threshold c.size_option-6.ensures.rule
+    c.in_ok-command.ensures.shape c.size_option-5.ensures.local ∙ ap₂ with_rule ring c.size_option-5.ensures.rule

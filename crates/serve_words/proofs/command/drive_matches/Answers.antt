@@ -1,0 +1,12 @@
+use Rattle.std.proofs.Common.{◌≡◌, IfOk, option_map, subst}
+use Rattle.clap.specs.Matches.{found_of}
+use Rattle.clap.specs.Simple.{App}
+use Rattle.clap.specs.Walk.{rows_of}
+use Rattle.serve_words.specs.Command.{rows_by}
+use Rattle.serve_words.specs.Task.{texts_of}
+use Rattle.serve_words.proofs.command.drive_matches.Goals as goal
+
+pub returns : goal.returns
+returns c =
+    subst (λ (a : App). IfOk c.matches_by.result (λ matches. option_map (λ m. rows_of (found_of m)) matches ≡ rows_by a (texts_of c.args.words.now)))
+    c.in_ok-drive_command.ensures c.matches_by.ensures
