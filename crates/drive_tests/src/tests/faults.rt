@@ -1,5 +1,5 @@
 // Faults of reads, puts and says, and inputs that are not whole requests.
-use super::texts::Item::{From, Letters, Of};
+use super::texts::Item::{Letters, Of};
 use super::texts::Part;
 use super::texts::Part::{Ask, Bulks, Set, Text, Times};
 use super::{DRIVEN, Reads, Row, check_rows, check_said};
@@ -173,42 +173,6 @@ static FAULTS: [Row; 14] = [
 #[test]
 fn faults(rt: HostRuntime) -> Result<(), Fail> {
     check_rows(&rt, rt.alloc(), &FAULTS)
-}
-
-/// 64 PINGs of a message of 1,048,576 bytes, 67,110,528 bytes in all, of which 67,108,864 are judged.
-const TOO_LONG: Row = Row {
-    name: "an input that is too long",
-    inputs: &[&[Times(
-        64,
-        &[
-            Of("*2\r\n$4\r\nPING\r\n$1048576\r\n"),
-            Letters(b'x', 1_048_576),
-            Of("\r\n"),
-        ],
-    )]],
-    schedule: &[(64, "call 0")],
-    status: 3,
-    said: &[
-        Times(
-            63,
-            &[
-                Of("call 0 "),
-                From(0, 1),
-                Of(" send "),
-                From(1_048_576, 512),
-                Of(":21\n"),
-            ],
-        ),
-        Text("call 0 end\nheld 0 0\n"),
-    ],
-    sent: &[&[Times(63, &[Of("-ERR value too long\r\n")])]],
-    ends: &[(End::TooLong, 67_108_864, 63, false)],
-    ..DRIVEN
-};
-
-#[test]
-fn an_input_that_is_too_long(rt: HostRuntime) -> Result<(), Fail> {
-    check_rows(&rt, rt.alloc(), &[TOO_LONG])
 }
 
 /// What is said of a long value, its GET and a PING.

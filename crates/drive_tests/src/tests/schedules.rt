@@ -171,23 +171,18 @@ fn repeated(alloc: Global, text: &[u8], count: usize) -> Result<Bytes, Fail> {
     Ok(texts)
 }
 
-// 64 bytes that are no line.
-const NO_LINE: &[u8] = b"xxxxxxxxxxxxxxxxxxxxxxxxxxxxxxxxxxxxxxxxxxxxxxxxxxxxxxxxxxxxxxxx";
-
-// 67,108,864 bytes may be read, and that text is one line of no form.
+// A schedule may have 67,108,864 bytes, and this has 4,096 more.
 #[test]
 fn a_schedule_that_is_too_large(rt: HostRuntime) -> Result<(), Fail> {
     let alloc = rt.alloc();
-    let longest = repeated(alloc, NO_LINE, 1_048_576)?;
-    check_schedule(&rt, alloc, longest, WHOLE, 1, FIRST_IS_BAD)?;
-    let mut longer = repeated(alloc, NO_LINE, 1_048_576)?;
-    longer.push(b'x')?;
-    let too_large = Answer {
+    let block = repeated(alloc, b"xxxxxxxxxxxxxxxx", 256)?;
+    let schedule = repeated(alloc, block.as_slice(), 16_385)?;
+    let answer = Answer {
         status: 9,
         detail: Detail::File(0),
         said: "too large 0\n",
     };
-    check_schedule(&rt, alloc, longer, WHOLE, 1, too_large)
+    check_schedule(&rt, alloc, schedule, WHOLE, 1, answer)
 }
 
 #[test]
