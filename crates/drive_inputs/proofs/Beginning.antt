@@ -26,9 +26,9 @@ module _ {g : Ghosts Sent} where
           none_reaped = ap (λ (s : SessionView). s.reaped) is.session_is;
           none_told = is.pass.untold;
           told = ap (λ (s : SessionView). s.told) is.session_is;
-          none_completed = ap (λ (v : DeviceView Sent). v.completed) is.device;
+          none_completed = ap (λ (v : DeviceView Sent). v.completed) is.blank;
           unfailed = is.unfailed;
-          device_told = ap (λ (v : DeviceView Sent). v.told) is.device;
+          device_told = ap (λ (v : DeviceView Sent). v.told) is.blank;
           none_kept = refl;
           none_ended = refl;
           unread = untouched.unread;

@@ -10,7 +10,6 @@ use Rattle.std.proofs.Common.{
   [],
   ◌∷◌,
   ◌++◌,
-  Option,
   Some,
   All,
   map,
@@ -18,7 +17,6 @@ use Rattle.std.proofs.Common.{
   slice_get,
   refl,
   ap,
-  sym,
   ◌∙◌,
   subst,
   arith,
@@ -27,16 +25,14 @@ use Rattle.std.specs.Borrow.{Bor}
 use Rattle.std.specs.List.{flat_map, range_with_len}
 use Rattle.std.proofs.lemmas.List.Elements.{All-head, All-tail}
 use Rattle.view_sums.specs.Total.{total, Each}
-use Rattle.flake_base.specs.declared.session.SessionEnd.{SessionEnd}
 use Rattle.flake_model.specs.Command.{Command}
 use Rattle.pin_core.specs.declared.sizes.Sizes.{Sizes}
 use Rattle.pinned_pool.specs.declared.view.View.{View}
 use Rattle.order_book.specs.Closed.{own_deeds}
-use Rattle.order_book.specs.Pages.{SessionList}
 use Rattle.reply_planner.specs.Places.{addresses_of}
 use Rattle.serve_model.specs.Handed.{HasRun}
 use Rattle.session_pass.specs.Views.{SessionView}
-use Rattle.transcript_model.specs.Lines.{Event, Said}
+use Rattle.transcript_model.specs.Lines.{Said}
 use Rattle.transcript_model.specs.Sessions.{WireGrew, IsTold, events_of, texts_of}
 use Rattle.transcript_model.specs.Terms.{Terms}
 use Rattle.transcript_model.specs.Transcript.{IsStage}

@@ -22,8 +22,7 @@ use Rattle.std.proofs.Common.{
   arith,
 }
 use Rattle.std.specs.Borrow.{Bor}
-use Rattle.std.specs.List.{flat_map, range_with_len}
-use Rattle.std.proofs.lemmas.List.{map-append, length-map}
+use Rattle.std.proofs.lemmas.List.{map-append, length-map, length-append}
 use Rattle.std.proofs.lemmas.List.Elements.{All-head, All-tail}
 use Rattle.view_sums.specs.Total.{Each}
 use Rattle.flake_base.specs.Told.{HostTold}
@@ -40,7 +39,6 @@ use Rattle.session_pass.specs.Views.{SessionView}
 use Rattle.drive_script.specs.Driven.{Leaving, DroveAll}
 use Rattle.drive_script.specs.Driving.{Driving}
 use Rattle.drive_script.specs.Lanes.{sends_by}
-use Rattle.drive_told.specs.Closed.{WereClosed}
 use Rattle.drive_told.specs.Driven.{OneDriven, AreDriven}
 use Rattle.drive_told.specs.Together.{DrivenTogether}
 use Rattle.serve_house.specs.Closed.{WasClosed}
@@ -178,7 +176,7 @@ module _ {W D A : Type 0} (put_may : W → Bor (List ℕ) → (W × Bool) → Ty
       let own : List (OneDriven W) = ones drove all in
       let are = subst (λ (n : ℕ). AreDriven (sends_by put_may flush_may) z n ring threshold drove.lines own lists main)
       shards_are (are_driven ring threshold lists spare main drove all fit lists_is empty joins) in
-      let have = together books z ring threshold schedule drove.lines own past end.shards lists journal main end.store
+      let has = together books z ring threshold schedule drove.lines own past end.shards lists journal main end.store
       end.last closed drove.answers are (record {
         parts = end.parts;
         book = end.tied;
@@ -206,20 +204,34 @@ module _ {W D A : Type 0} (put_may : W → Bor (List ℕ) → (W × Bool) → Ty
       let drove_ones : DroveInputs put_may flush_may z ring threshold schedule failed
       (map (λ (one : OneDriven W). one.input) own) (map (λ (one : OneDriven W). one.left) own)
       (map (λ (one : OneDriven W). one.end) own) journal closed first_olds first_news old new = record {
-        ran = have.ran;
+        ran = has.ran;
         sends = subst (λ (texts : List (Bool × List ℕ)). AllSent put_may flush_may texts first_olds first_news)
-            (sym have.texts_are) (each.all_sent put_may flush_may z shards drove.lines past 0 firsts lasts all);
+            (sym has.texts_are) (each.all_sent put_may flush_may z shards drove.lines past 0 firsts lasts all);
         lines = drove.lines;
         said = drove.said;
-        own = have.own;
-        shards = have.shards;
-        told_by = have.told_by;
-        sources = have.sources;
-        apart = have.apart;
+        own = has.own;
+        shards = has.shards;
+        told_by = has.told_by;
+        sources = has.sources;
+        apart = has.apart;
       } in
       subst (λ (q : pool_sizes.Sizes × List (Option (List ℕ)) × List (Option (List ℕ)) × List SessionEnd × List W × List W).
       DroveInputs put_may flush_may q.0 ring threshold schedule failed q.1 q.2 q.3 journal closed q.4 q.5 old new)
       (λ i. (same i, a i, b i, e i, o i, n i)) drove_ones
+
+-- how many wires there are, with those past the sessions
+pub wires_past : {D W : Type 0} (drivings : List D) (wire : D → Option W) (past olds : List W)
+    → map wire drivings ++ map Some past ≡ map Some olds → length drivings + length past ≡ length olds
+wires_past {D} {W} drivings wire past olds is =
+    let all = ap (λ (l : List (Option W)). length l) is in
+    omega (
+      arith,
+      all,
+      length-append (map wire drivings) (map Some past),
+      length-map drivings wire,
+      length-map past Some,
+      length-map olds Some,
+    )
 
 -- the credits of desks' sessions
 pub credits_of : {K : Type 0} (P : K → Type 0) (own : K → SessionView) → ((k : K) → P k → HasCredits (own k))

@@ -49,9 +49,10 @@ pub(crate) fn pair_up<N: BookName, P: PoolName + Send, S: Source + Drop, W: Drop
             device,
             room: _,
         } = desk;
+        let pump = Pump::new(alloc, source);
         let lane = Lane { session, device };
         let asking = Asking {
-            pump: Pump::new(alloc, source),
+            pump,
             kept: None,
             end: None,
         };

@@ -41,7 +41,7 @@ module _ {g : Ghosts Sent} where
         pass = new;
         session_is = refl;
         ring = ring;
-        device = untold;
+        blank = untold;
         unfailed = unfailed;
       })
 

@@ -1,6 +1,6 @@
 -- Seats that go into one.
 use Rattle.std.proofs.Common.{◌≡◌, ℕ, ◌+◌, ◌*◌, ◌≤◌, List, [], ◌∷◌, ◌++◌, length, refl, ap, sym, subst, append-nil, length-append, arith}
-use Rattle.view_sums.specs.Total.{total, Each, SameItems}
+use Rattle.view_sums.specs.Total.{SameItems}
 use Rattle.view_sums.proofs.Eachs.{each-append}
 use Rattle.view_sums.proofs.Sums.{total-append}
 use Rattle.pin_core.specs.declared.sizes.Sizes.{Sizes}
@@ -17,7 +17,7 @@ use Rattle.serve_model.specs.Seats.{HasAll, IsSpare}
 use Rattle.serve_model.specs.Stages.{NoStageRefused}
 use Rattle.serve_model.proofs.Seats.{joins_add, one_seat, any_order}
 use Rattle.serve_house.specs.Joined.{HasJoined}
-use Rattle.serve_house.specs.Opened.{session_credits, IsNewPass}
+use Rattle.serve_house.specs.Opened.{IsNewPass}
 use Rattle.serve_house.specs.Passing.{AreRefused, HasStages}
 
 pub joins_none : (v : View) → HasJoined [] v v

@@ -63,5 +63,5 @@ module _ {g : Ghosts Sent} where
     pub pass : IsNewPass z session.pass
     pub session_is : session ≡ session_of session.pass session.pass.seat session.ring blank_driver false
     pub ring : device_ring device ≡ session.ring
-    pub device : device_view device ≡ blank_device
+    pub blank : device_view device ≡ blank_device
     pub unfailed : failed ≡ false

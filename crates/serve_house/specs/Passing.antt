@@ -1,5 +1,5 @@
 -- Passes that are opened one after another.
-use Rattle.std.specs.Prelude.{◌≡◌, ℕ, ◌+◌, ◌*◌, ◌<◌, List, [], ◌++◌, All, length}
+use Rattle.std.specs.Prelude.{◌≡◌, ℕ, ◌+◌, ◌*◌, ◌<◌, List, [], All, length}
 use Rattle.view_sums.specs.Total.{Each}
 use Rattle.pin_core.specs.declared.sizes.Sizes.{Sizes}
 use Rattle.pinned_pool.specs.Sought.{Sought}

@@ -1,5 +1,5 @@
 // Sessions that wait for their sources.
-ghost use Rattle.std.specs.Prelude.{◌≡◌, ◌<◌, ◌≤◌, [], All, length, map, vec_len, vec_capacity, IfOk};
+ghost use Rattle.std.specs.Prelude.{◌≡◌, ◌<◌, ◌≤◌, [], All, length, map, vec_capacity, IfOk};
 ghost use Rattle.std.specs.List.{range_with_len};
 ghost use Rattle.tx_ring.specs.Shown.{ring_size};
 ghost use Rattle.serve_house.specs.Opened.{IsNewPass, IsDesk};

@@ -1,5 +1,5 @@
 // All that a run needs before it reads.
-ghost use Rattle.std.specs.Prelude.{◌≡◌, ◌+◌, ◌<◌, ◌≤◌, [], All, map, IfOk};
+ghost use Rattle.std.specs.Prelude.{◌≡◌, ◌+◌, ◌<◌, ◌≤◌, All, map, IfOk};
 ghost use Rattle.std.specs.List.{range_with_len};
 ghost use Rattle.order_book.specs.Pages.{new_shards};
 ghost use Rattle.serve_model.specs.Seats.{IsSpare};

@@ -1,5 +1,5 @@
 // The seats of a pool's shards.
-ghost use Rattle.std.specs.Prelude.{◌≡◌, ◌+◌, ◌<◌, ◌≤◌, [], IfOk};
+ghost use Rattle.std.specs.Prelude.{◌≡◌, ◌+◌, ◌<◌, IfOk};
 ghost use Rattle.serve_model.specs.Seats.{IsSpare};
 ghost use Rattle.serve_house.specs.Opened.{AreSeats};
 

@@ -16,6 +16,6 @@ module _ {W : Type 0} (put_may : W → Bor (List ℕ) → (W × Bool) → Type 0
       (journal : List (List Entry)) (closed : End) (olds news : List W) : Type 0 where
     -- what the wires have of it is said by `sends`
     pub ran : WasRun z inputs lefts ends journal (no_wires ends) (no_wires ends) closed
-    pub sends : AllSent (wire_texts ran.served.sessions journal) olds news
+    pub sends : AllSent put_may flush_may (wire_texts ran.served.sessions journal) olds news
     -- so many bytes of each in whole replies
-    pub wholes : AllWhole (all_replies ran.served.sessions journal) counts olds news
+    pub wholes : AllWhole put_may flush_may (all_replies ran.served.sessions journal) counts olds news

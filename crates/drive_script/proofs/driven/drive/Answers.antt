@@ -9,6 +9,6 @@ drive_lines-failed-requires-clause-fresh g c = λ _ _. new_are_fresh _ (puts_are
 pub leave_all-accounts-requires-clause-going : goal.leave_all-accounts-requires-clause-going
 leave_all-accounts-requires-clause-going g c = λ _ _. going_all _ _ _ _ _ _ _ _ _ _ c.drive_lines-failed.ensures.driven
 
-pub returns-clause-driven : goal.returns-clause-driven
-returns-clause-driven g c =
+pub returns : goal.returns
+returns g c =
     drove_all _ _ _ _ _ _ _ c.args.schedule.now c.drive_lines-failed.new.sessions.items c.leave_all-accounts.result.items c.drive_lines-failed.result _ _ c.drive_lines-failed.ensures.driven c.leave_all-accounts.ensures

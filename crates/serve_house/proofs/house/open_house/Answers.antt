@@ -1,4 +1,4 @@
-use Rattle.std.proofs.Common.{◌*◌, ap, ◌∙◌, sym, length, subst, arith, ℕ, ◌≡◌, map}
+use Rattle.std.proofs.Common.{◌*◌, ap, ◌∙◌, sym, arith, ℕ}
 use Rattle.std.specs.List.{range_with_len}
 use Rattle.pin_core.specs.declared.sizes.Sizes.{Sizes}
 use Rattle.command_exec.specs.Passes.{PassView}

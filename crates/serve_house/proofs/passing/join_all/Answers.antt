@@ -1,6 +1,5 @@
-use Rattle.std.proofs.Common.{All, ap, sym, ◌∙◌, subst, length, length-append, arith, ◌∷◌, []}
+use Rattle.std.proofs.Common.{All, sym, subst, length-append, ◌∷◌, []}
 use Rattle.std.proofs.lemmas.List.Elements.{All-head, All-tail}
-use Rattle.command_exec.specs.Passes.{PassView}
 use Rattle.serve_house.specs.Opened.{IsNewPass}
 use Rattle.serve_house.specs.Passing.{HasStages}
 use Rattle.serve_house.proofs.Joining.{stages_none, stages_more}

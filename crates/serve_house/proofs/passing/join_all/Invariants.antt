@@ -1,4 +1,4 @@
-use Rattle.std.proofs.Common.{◌≡◌, ◌++◌, All, length}
+use Rattle.std.proofs.Common.{All, length}
 use Rattle.std.specs.Vec.Iter.{into_iter_items}
 use Rattle.serve_house.specs.Opened.{IsNewPass}
 use Rattle.serve_house.specs.Passing.{HasStages}

@@ -1,9 +1,8 @@
-use Rattle.std.proofs.Common.{◌≡◌, [], ◌∷◌, Some, Option, All, IfSome, ap, sym, subst, length, length-append, arith}
-use Rattle.std.proofs.lemmas.List.Elements.{All-push, All-pop, All-weaker}
-use Rattle.pinned_pool.specs.declared.view.View.{View}
+use Rattle.std.proofs.Common.{◌≡◌, [], ◌∷◌, Some, All, ap, sym, subst, length, length-append, arith}
+use Rattle.std.proofs.lemmas.List.Elements.{All-push, All-pop}
 use Rattle.command_exec.specs.Passes.{PassView}
 use Rattle.serve_house.specs.Opened.{IsNewPass}
-use Rattle.serve_house.specs.Passing.{IsNewList, IsRefused}
+use Rattle.serve_house.specs.Passing.{IsNewList}
 use Rattle.serve_house.proofs.Passes.{lists_on}
 use Rattle.serve_house.proofs.passing.open_all.Goals as goal
 

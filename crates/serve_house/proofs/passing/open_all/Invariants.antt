@@ -1,4 +1,4 @@
-use Rattle.std.proofs.Common.{◌≡◌, ◌+◌, ◌*◌, ◌≤◌, ◌++◌, All, length, map, reverse, vec_len, vec_capacity}
+use Rattle.std.proofs.Common.{◌≡◌, ◌+◌, ◌*◌, ◌≤◌, ◌++◌, All, length, map, reverse, vec_capacity}
 use Rattle.serve_model.specs.Seats.{IsSpare}
 use Rattle.serve_house.specs.Opened.{session_credits, IsNewPass}
 use Rattle.serve_house.specs.Passing.{IsNewList}

@@ -1,5 +1,3 @@
-use Rattle.std.proofs.Common.{subst}
-use Rattle.serve_model.specs.Seats.{IsSpare}
 use Rattle.serve_house.proofs.Joining.{never_refused}
 use Rattle.serve_house.proofs.passing.open_passes.Goals as goal
 

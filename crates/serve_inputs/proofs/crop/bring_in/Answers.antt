@@ -1,6 +1,5 @@
-use Rattle.std.proofs.Common.{◌≡◌, ◌∷◌, [], ◌++◌, map, length, refl, ap, sym, ◌∙◌, subst, length-append, arith}
+use Rattle.std.proofs.Common.{◌∷◌, [], map, length, refl, ap, sym, subst, arith}
 use Rattle.std.proofs.lemmas.List.{map-append}
-use Rattle.pinned_pool.specs.declared.view.View.{View}
 use Rattle.serve_house.specs.Joined.{HasJoined}
 use Rattle.serve_house.proofs.Joining.{joins_none, joins_more}
 use Rattle.serve_house.proofs.Lists.{all_given, given_on, both_more, items_more}

@@ -1,4 +1,4 @@
-use Rattle.std.proofs.Common.{◌≡◌, ℕ, ◌+◌, ◌*◌, ◌++◌, map, ap, sym, ◌∙◌, length, arith}
+use Rattle.std.proofs.Common.{ℕ, ◌*◌, ap, sym, arith}
 use Rattle.pin_core.specs.declared.sizes.Sizes.{Sizes}
 use Rattle.serve_house.proofs.Lists.{count_of, same_count, count_past, count_as}
 use Rattle.serve_house.specs.Opened.{IsDesk}
