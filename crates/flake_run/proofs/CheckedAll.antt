@@ -53,7 +53,7 @@ refused_memory task before after done refused =
     (inl (record { sources_are = refused.sources; files = refused.files }))
 
 -- where no say failed before
-status_since : (finding : Finding) (old mid new : HostTold) (status : ℕ) → mid.say_faults ≡ old.say_faults → IsStatus finding mid new status → IsStatus finding old new status
+pub status_since : (finding : Finding) (old mid new : HostTold) (status : ℕ) → mid.say_faults ≡ old.say_faults → IsStatus finding mid new status → IsStatus finding old new status
 status_since BadWords old mid new status same is = is
 status_since (OpenFault n) old mid new status same is = is
 status_since (ReadFault n) old mid new status same is = is

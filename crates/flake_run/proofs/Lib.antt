@@ -1,5 +1,6 @@
 pub mod OpenedFiles
 pub mod Served
+pub mod DrivenRun
 pub mod Highest
 pub mod Ran
 pub mod RanServed
@@ -18,3 +19,6 @@ pub mod Requested
 pub mod CheckedFiles
 pub mod CheckedAll
 pub mod CheckedComplete
+pub mod CameTo
+pub mod DroveComplete
+pub mod DroveAll

@@ -88,7 +88,7 @@ says_since text old mid new said count says = record {
 }
 
 -- sources whose reads had not failed before
-pub counts_from : (ends : List SessionEnd) (names : List (List ℕ)) (nows : List ℕ) → AreReads ends (map (λ (name : List ℕ). 0) names) nows → AreCountsOf (ways ends) nows
+pub counts_from : {A : Type 0} (ends : List SessionEnd) (names : List A) (nows : List ℕ) → AreReads ends (map (λ (_ : A). 0) names) nows → AreCountsOf (ways ends) nows
 counts_from [] [] [] reads = refl
 counts_from [] [] (now ∷ nows) reads = absurd reads
 counts_from [] (name ∷ names) nows reads = absurd reads

@@ -50,7 +50,7 @@ highest_zero : (way : End) (ways : List End) → status_by way ≡ 0 → highest
 highest_zero way ways here rest = omega (arith, here, rest)
 
 -- all of them
-whole_ends : (sessions : List Session) (names : List (List ℕ)) (holds : List ℕ → Option (List ℕ)) (ends : List SessionEnd) (counts : List ℕ) → AllByRecursion IsSession sessions
+pub whole_ends : (sessions : List Session) (names : List (List ℕ)) (holds : List ℕ → Option (List ℕ)) (ends : List SessionEnd) (counts : List ℕ) → AllByRecursion IsSession sessions
     → map (λ (session : Session). session.input) sessions ≡ map holds names → map (λ (session : Session). session.end) sessions ≡ ends
     → AreCountsOf (ways ends) counts → AllByRecursion (λ n. n ≡ 0) counts → AllByRecursion (λ way. status_by way ≢ 6) (ways ends)
     → AllByRecursion (λ name. IsWhole (holds name)) names → highest_by (ways ends) ≡ 0
@@ -63,7 +63,7 @@ whole_ends (session ∷ sessions) (name ∷ names) holds (end ∷ ends) (count �
     (whole_end session (holds name) end count each.0 (cc inputs) (cc are) faults.0 none.0 memory.0 whole.0)
     (whole_ends sessions names holds ends counts each.1 (cc inputs) (cc are) faults.1 none.1 memory.1 whole.1)
 
-counts_are : (sources : List SourceTold) → AllByRecursion (λ (source : SourceTold). source.faults ≡ 0) sources → AllByRecursion (λ n. n ≡ 0) (read_faults_of sources)
+pub counts_are : (sources : List SourceTold) → AllByRecursion (λ (source : SourceTold). source.faults ≡ 0) sources → AllByRecursion (λ n. n ≡ 0) (read_faults_of sources)
 counts_are [] all = tt
 counts_are (source ∷ sources) all = (all.0, counts_are sources all.1)
 

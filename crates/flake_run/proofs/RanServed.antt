@@ -23,7 +23,7 @@ none_missed : (missed have need : ℕ) → (0 < missed → have < need) → need
 none_missed zero have need exceeded fits = refl
 none_missed (suc missed) have need exceeded fits = absurd (let more = exceeded (omega arith) in omega (arith, more, fits))
 
-enough : (z : Sizes) (sessions : List Session) (journal : List (List Entry)) (pool : PoolEnd) → IsCounted z sessions journal pool
+pub enough : (z : Sizes) (sessions : List Session) (journal : List (List Entry)) (pool : PoolEnd) → IsCounted z sessions journal pool
     → ((class : Class) → demand_of class (all_commands sessions) ≤ count_of z class) → missing_writes sessions journal ≡ 0
 enough z sessions journal pool counted fits =
     let small = none_missed (counted.missed Small) _ _ (counted.exceeded Small) (fits Small) in

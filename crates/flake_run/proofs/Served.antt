@@ -12,8 +12,9 @@ use Rattle.flake_model.specs.Session.{Session}
 use Rattle.flake_model.specs.Wire.{EachWire, WiresGrew, HasPut, BytesAre, FaultIs, FaultsAre, KeptIs, KeptAre}
 use Rattle.pin_core.specs.declared.sizes.Sizes.{Sizes}
 use Rattle.pinned_pool.specs.Ends.{End}
-use Rattle.serve_house.specs.Ran.{AllSent}
+use Rattle.serve_house.specs.Ran.{AllSent, no_wires}
 use Rattle.serve_inputs.specs.Ran.{RanAll}
+use Rattle.serve_model.specs.Shown.{WasRun}
 use Rattle.wire_told.specs.Sent.{WasSent, AreTold}
 use Rattle.wire_told.proofs.Sent.{sends_told, flush_told}
 use Rattle.flake_run.specs.Serving.{IsRun}
@@ -65,12 +66,13 @@ module _ {W : Type 0} (put_may : W → Bor (List ℕ) → (W × Bool) → Type 0
       ((flushed.0, kept_from text.0 _ _ _ flushed.1), all_put texts olds news sent.1)
 
   -- of wires whose puts and flushes tell what they do
-  pub served_to : (z : Sizes) (inputs lefts : List (Option (List ℕ))) (ends : List SessionEnd) (counts : List ℕ) (journal : List (List Entry)) (pool : End) (olds news : List W)
-      → RanAll put_may flush_may z inputs lefts ends counts journal pool olds news → IsRun z inputs lefts ends journal pool olds news told
-  served_to z inputs lefts ends counts journal pool olds news ran =
-      let was = ran.ran.served in
+  pub run_told : (z : Sizes) (inputs lefts : List (Option (List ℕ))) (ends : List SessionEnd) (journal : List (List Entry)) (pool : End) (olds news : List W)
+      → (ran : WasRun z inputs lefts ends journal (no_wires ends) (no_wires ends) pool) → AllSent put_may flush_may (wire_texts ran.served.sessions journal) olds news
+      → IsRun z inputs lefts ends journal pool olds news told
+  run_told z inputs lefts ends journal pool olds news ran sends =
+      let was = ran.served in
       let texts = wire_texts was.sessions journal in
-      let each : EachWire (WasPut told) texts olds news = all_put texts olds news ran.sends in
+      let each : EachWire (WasPut told) texts olds news = all_put texts olds news sends in
       let failed : map (λ (text : Bool × List ℕ). text.0) texts ≡ map (λ (end : SessionEnd). end.failed) ends =
       failed_are (all_commands was.sessions) journal 0 was.sessions ∙ ap (map (λ (end : SessionEnd). end.failed)) was.ends_are in
       let as_many : length texts ≡ length ends =
@@ -88,7 +90,7 @@ module _ {W : Type 0} (put_may : W → Bor (List ℕ) → (W × Bool) → Type 0
           wires = subst (λ ts. WiresGrew ts (map (λ w. (told w).sent) olds) (map (λ w. (told w).sent) news)) (all_as_is texts)
               (each_told (WasPut told) (λ (text : Bool × List ℕ) (old new : Option (List ℕ)). Grew text.0 text.1 old new) (λ (text : Bool × List ℕ). text) (λ w. (told w).sent) (λ text old new put. put.0.sent) texts olds news each);
         };
-        counted = ran.ran.counted;
+        counted = ran.counted;
         bytes = subst (λ ts. BytesAre ts (map (λ w. (told w).bytes) olds) (map (λ w. (told w).bytes) news)) (all_as_is texts)
             (each_told (WasPut told) (λ (text : Bool × List ℕ) (old new : ℕ). HasPut text.0 (length text.1) old new) (λ (text : Bool × List ℕ). text) (λ w. (told w).bytes) (λ text old new put. put.0.bytes) texts olds news each);
         faults = subst (λ fs. FaultsAre fs (map (λ w. (told w).faults) olds) (map (λ w. (told w).faults) news)) failed
@@ -99,10 +101,20 @@ module _ {W : Type 0} (put_may : W → Bor (List ℕ) → (W × Bool) → Type 0
       }
 
   -- its sessions are those that ran
+  pub run_sessions : (z : Sizes) (inputs lefts : List (Option (List ℕ))) (ends : List SessionEnd) (journal : List (List Entry)) (pool : End) (olds news : List W)
+      → (ran : WasRun z inputs lefts ends journal (no_wires ends) (no_wires ends) pool) → (sends : AllSent put_may flush_may (wire_texts ran.served.sessions journal) olds news)
+      → (run_told z inputs lefts ends journal pool olds news ran sends).run.sessions ≡ ran.served.sessions
+  unfolding run_told
+  run_sessions z inputs lefts ends journal pool olds news ran sends = refl
+
+  pub served_to : (z : Sizes) (inputs lefts : List (Option (List ℕ))) (ends : List SessionEnd) (counts : List ℕ) (journal : List (List Entry)) (pool : End) (olds news : List W)
+      → RanAll put_may flush_may z inputs lefts ends counts journal pool olds news → IsRun z inputs lefts ends journal pool olds news told
+  served_to z inputs lefts ends counts journal pool olds news ran = run_told z inputs lefts ends journal pool olds news ran.ran ran.sends
+
   pub served_sessions : (z : Sizes) (inputs lefts : List (Option (List ℕ))) (ends : List SessionEnd) (counts : List ℕ) (journal : List (List Entry)) (pool : End) (olds news : List W)
       → (ran : RanAll put_may flush_may z inputs lefts ends counts journal pool olds news) → (served_to z inputs lefts ends counts journal pool olds news ran).run.sessions ≡ ran.ran.served.sessions
   unfolding served_to
-  served_sessions z inputs lefts ends counts journal pool olds news ran = refl
+  served_sessions z inputs lefts ends counts journal pool olds news ran = run_sessions z inputs lefts ends journal pool olds news ran.ran ran.sends
 
 -- there are as many sources behind a run, and ends, as inputs
 pub lefts_count : {W : Type 0} (z : Sizes) (inputs lefts : List (Option (List ℕ))) (ends : List SessionEnd) (journal : List (List Entry)) (pool : End) (olds news : List W) (told : W → WireTold)

@@ -13,3 +13,7 @@ pub mod Generated
 pub mod Finding
 pub mod Files
 pub mod Checked
+pub mod DriveTask
+pub mod Schedule
+pub mod Driven
+pub mod Drove

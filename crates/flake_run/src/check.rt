@@ -29,8 +29,8 @@ fn say<H: Host>(host: &mut H, finding: Finding, text: &[u8]) -> u8
     }
 }
 
-// Says what was found, and answers that. Where saying it fails, the host has counted it.
-fn conclude<H: Host>(
+/// Says what was found, and answers that. Where saying it fails, the host has counted it.
+pub(crate) fn conclude<H: Host>(
     alloc: Global,
     host: &mut H,
     finding: Finding,

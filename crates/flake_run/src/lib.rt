@@ -2,12 +2,15 @@
 #![tactic(auto)]
 
 mod check;
+mod drive;
+mod driving;
 mod files;
 mod finding;
 mod generated;
 mod opening;
 mod outcome;
 pub mod run;
+mod schedule;
 mod serve;
 mod source;
 mod summary;

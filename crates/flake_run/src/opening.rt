@@ -1,5 +1,5 @@
 // Files that are opened before any is read.
-ghost use Rattle.std.specs.Prelude.{◌≡◌, ◌≤◌, [], length, map, vec_capacity, IfOk, IfErr};
+ghost use Rattle.std.specs.Prelude.{◌≡◌, ◌<◌, ◌≤◌, suc, [], ◌∷◌, length, map, vec_capacity, IfOk, IfErr};
 ghost use Rattle.std.specs.List.{range_with_len};
 ghost use Rattle.flake_run.specs.Opening.{AreOpened, FailsToOpen};
 
@@ -38,6 +38,29 @@ pub fn numbered<S: Source + Drop>(sources: Vec<S>, room: Vec<Opened<S>>) -> Vec<
     ensures sources { map (λ s. s.source) result.items ≡ sources.items }
 {
     let mut opened = room;
+    for source in sources {
+        let file = opened.len() as u16;
+        let _ = opened.push(Opened { file, source });
+    }
+    opened
+}
+
+/// A first source and others behind it, with their files' numbers, in room that was taken ahead.
+pub fn numbered_behind<S: Source + Drop>(
+    first: S,
+    sources: Vec<S>,
+    room: Vec<Opened<S>>,
+) -> Vec<Opened<S>>
+    requires room { (room.items ≡ []) × (length sources.items < vec_capacity room) }
+    requires few { length sources.items ≤ 16 }
+    ensures files { map (λ s. s.file) result.items ≡ range_with_len 0 (suc (length sources.items)) }
+    ensures sources { map (λ s. s.source) result.items ≡ first ∷ sources.items }
+{
+    let mut opened = room;
+    let _ = opened.push(Opened {
+        file: 0,
+        source: first,
+    });
     for source in sources {
         let file = opened.len() as u16;
         let _ = opened.push(Opened { file, source });

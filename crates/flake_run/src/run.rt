@@ -14,8 +14,11 @@ ghost use Rattle.flake_run.specs.Said.{Said};
 ghost use Rattle.gen_words.specs.Task.{task_of as gen_task_of};
 ghost use Rattle.flake_run.specs.Checked.{Checked};
 ghost use Rattle.flake_run.specs.Generated.{Generated};
+ghost use Rattle.flake_run.specs.DriveTask.{drive_of};
+ghost use Rattle.flake_run.specs.Drove.{Drove};
 
 use crate::check::check;
+use crate::drive::drive;
 use crate::generated::generate;
 use crate::outcome::Outcome;
 use crate::serve::serve;
@@ -27,8 +30,9 @@ use std::sync::Wait;
 use std::thread::Threads;
 
 /// Does what the first word names: `serve` serves the files that the words name, with the sizes and by as many workers
-/// as they ask for, and the replies to a file's requests go to the wire at its place; `check` judges replies by a
-/// journal; `gen` serves requests that are generated from a number.
+/// as they ask for, and the replies to a file's requests go to the wire at its place; `drive` serves them as a schedule
+/// asks, and says what happens; `check` judges replies by a journal; `gen` serves requests that are generated from a
+/// number.
 pub fn run<R: Threads + Wait + Sync, H: Host, G: Gate>(
     rt: &R,
     alloc: Global,
@@ -80,10 +84,17 @@ pub fn run<R: Threads + Wait + Sync, H: Host, G: Gate>(
         (outside (H.host_told host.new) result.wires.items (λ w. wire_told w))
         (done result.status result.detail result.ends.items result.journal.items result.held result.pool
         (map (λ s. source_told s.file (H.In.left s.source) (H.In.read_faults s.source)) result.sources.items)) }
+    // What `drive` does.
+    ensures driven { name_of (texts_of words.now) ≡ CommandName.Drive → Drove (drive_of words.now)
+        (outside (H.host_told host.old) wires.items (λ w. wire_told w))
+        (outside (H.host_told host.new) result.wires.items (λ w. wire_told w))
+        (done result.status result.detail result.ends.items result.journal.items result.held result.pool
+        (map (λ s. source_told s.file (H.In.left s.source) (H.In.read_faults s.source)) result.sources.items)) }
 {
     match command_name(words) {
         CommandName::Serve => serve(rt, alloc, words, host, wires, gate),
         CommandName::Check => check(alloc, words, host, wires),
+        CommandName::Drive => drive(rt, alloc, words, host, wires),
         CommandName::Gen => generate(rt, alloc, words, host, wires, gate),
     }
 }

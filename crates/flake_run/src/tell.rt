@@ -1,8 +1,9 @@
 // What is said.
-ghost use Rattle.std.specs.Prelude.{◌≡◌, ◌≢◌, ◌<◌, ◌≤◌, ◌⊎◌, length, map, true, false, IfOk};
+ghost use Rattle.std.specs.Prelude.{◌≡◌, ◌≢◌, ◌<◌, ◌≤◌, ◌⊎◌, ◌||◌, length, map, true, false, IfOk};
 ghost use Rattle.std.specs.List.{list_any};
 ghost use Rattle.flake_base.specs.Causes.{Rose, HasCause};
 ghost use Rattle.flake_run.specs.Causes.{status_by, highest_by};
+ghost use Rattle.flake_run.specs.Driven.{some_put_failed, status_with};
 ghost use Rattle.flake_run.specs.Generated.{replies_in, total_line};
 ghost use Rattle.flake_run.specs.Outside.{LeavesFiles, outside};
 ghost use Rattle.flake_run.specs.Outcome.{done, source_told, ways};
@@ -168,4 +169,15 @@ pub fn report_total<H: Host>(
         return OUT_OF_MEMORY;
     };
     answer(host, text.as_bytes(), ends)
+}
+
+/// The status of sessions that were driven, where a say failed or not.
+pub fn drive_status(ends: &[SessionEnd], say_failed: bool) -> u8
+    ensures { result ≡ status_with (say_failed || some_put_failed ends.now) (highest_by (ways ends.now)) }
+{
+    let status = status_by_ends(ends);
+    if status != OUT_OF_MEMORY && (say_failed || some_failed(ends)) {
+        return WRITE_FAULT;
+    }
+    status
 }

@@ -46,7 +46,7 @@ fn sized_task<'a>(task: ServeTask<'a>) -> FilesTask<'a>
     }
 }
 
-fn sizes_of(sizes: &serve_words::Sizes) -> Sizes
+pub(crate) fn sizes_of(sizes: &serve_words::Sizes) -> Sizes
     ensures { result ≡ sizes_of sizes.now }
 {
     Sizes {

@@ -1,0 +1,124 @@
+-- What a run of `drive` does.
+use Rattle.std.specs.Prelude.{◌≡◌, ◌≢◌, ◌⊎◌, ◌≤◌, ◌∷◌, ℕ, List, [], Option, Some, All, IsSomeAnd, IfSome, length, map}
+use Rattle.std.specs.Prelude.{slice_get}
+use Rattle.std.specs.List.{AllByRecursion, range_with_len}
+use Rattle.flake_base.specs.Causes.{Rose}
+use Rattle.flake_base.specs.Told.{HostTold}
+use Rattle.journal_text.specs.Lines.{lines_of}
+use Rattle.schedule_text.specs.Reading.{AreLines}
+use Rattle.schedule_text.specs.declared.line.Line.{Line}
+use Rattle.check_files.specs.Named.{AreDistinct}
+use Rattle.flake_run.specs.Causes.{SomePutFailed}
+use Rattle.flake_run.specs.Checked.{IsConcluded, NoneOpened}
+use Rattle.flake_run.specs.Complete.{IsWhole}
+use Rattle.flake_run.specs.Driven.{WasDriven}
+use Rattle.flake_run.specs.DriveTask.{Drive, IsUndrivable, served_names}
+use Rattle.flake_run.specs.Opening.{AreOpened, FailsToOpen}
+use Rattle.flake_run.specs.Outcome.{Done, SourceTold, files_of, read_faults_of}
+use Rattle.flake_run.specs.Outside.{Outside, LeavesFiles}
+use Rattle.flake_run.specs.Schedule.{IsUndriven, schedule_limit}
+use Rattle.flake_run.specs.declared.finding.Finding.{Finding}
+use Rattle.flake_run.specs.declared.finding.Finding.TheVariants.{BadWords, OpenFault, ReadFault, TooLarge, BadLine}
+use Rattle.flake_run.specs.declared.finding.Finding.TheVariants.{Judged, Memory}
+use Rattle.flake_run.specs.declared.outcome.Detail.TheVariants.{Nothing}
+
+-- All files were opened, the schedule's first of all, and each source comes back. These bytes were left of the
+-- schedule, and these inputs.
+pub record AllOpened (names : List (List ℕ)) (old new : HostTold) (left : Option (List ℕ))
+    (inputs : List (Option (List ℕ))) (sources : List SourceTold) : Type 0 where
+  pub between : HostTold
+  pub zeros : List ℕ
+  pub opened : AreOpened names old between (left ∷ inputs) zeros
+  pub leaves : LeavesFiles between new
+  pub files : files_of sources ≡ range_with_len 0 (length names)
+
+-- the files in front of the one of this number were opened, and its open failed
+pub record OneFails (file : ℕ) (names : List (List ℕ)) (old new : HostTold) (sources : List SourceTold) : Type 0 where
+  pub between : HostTold
+  pub lefts : List (Option (List ℕ))
+  pub fails : FailsToOpen names old between lefts (read_faults_of sources)
+  pub number : length lefts ≡ file
+  pub leaves : LeavesFiles between new
+  pub files : files_of sources ≡ range_with_len 0 file
+
+-- All files were opened, but the schedule's gave none. No read of the others failed.
+pub record NoneDriven (finding : Finding) (names : List (List ℕ)) (old new : HostTold) (sources : List SourceTold)
+    : Type 0 where
+  pub left : Option (List ℕ)
+  pub inputs : List (Option (List ℕ))
+  pub opened : AllOpened names old new left inputs sources
+  pub count : ℕ
+  pub counts : List ℕ
+  pub counts_are : read_faults_of sources ≡ count ∷ counts
+  pub fresh : AllByRecursion (λ n. n ≡ 0) counts
+  pub undriven : IsUndriven finding (length inputs) left 0 count
+
+-- the words are a task, for which there are wires
+abbrev pub IsAccepted : {W : Type 0} → Option Drive → Outside W → (Drive → Type 0) → Type 0
+IsAccepted task before Holds =
+    IsSomeAnd task (λ job. (length (served_names job) ≤ length before.wires) × Holds job)
+
+-- why nothing was driven
+abbrev pub WasRefused : {W : Type 0} → Finding → Option Drive → Outside W → HostTold → List SourceTold → Type 0
+WasRefused BadWords task before new sources = IsUndrivable task before × NoneOpened before.host new sources
+WasRefused (OpenFault file) task before new sources =
+    IsAccepted task before (λ job. OneFails file job.names before.host new sources)
+WasRefused (ReadFault file) task before new sources =
+    IsAccepted task before (λ job. NoneDriven (ReadFault file) job.names before.host new sources)
+WasRefused (TooLarge file) task before new sources =
+    IsAccepted task before (λ job. NoneDriven (TooLarge file) job.names before.host new sources)
+WasRefused (BadLine line) task before new sources =
+    IsAccepted task before (λ job. NoneDriven (BadLine line) job.names before.host new sources)
+WasRefused (Judged verdict) task before new sources = ⊥
+WasRefused Memory task before new sources =
+    NoneOpened before.host new sources
+    ⊎ ((file : ℕ) × IsAccepted task before (λ job. OneFails file job.names before.host new sources))
+    ⊎ IsAccepted task before (λ job. NoneDriven Memory job.names before.host new sources)
+
+-- Nothing was served. It is said why and answered; the wires are as handed in, and there is no history and no pool.
+pub record NothingServed {W : Type 0} (task : Option Drive) (before after : Outside W) (done : Done) : Type 0 where
+  pub finding : Finding
+  pub concluded : IsConcluded finding before after done
+  pub refused : WasRefused finding task before after.host done.sources
+
+-- The files were opened, and those behind the schedule's were driven by it.
+pub record DroveFiles {W : Type 0} (job : Drive) (before after : Outside W) (done : Done) : Type 0 where
+  -- what the schedule's source had left, and the inputs: they were held under the names, where no name stands twice
+  pub left : Option (List ℕ)
+  pub inputs : List (Option (List ℕ))
+  pub inputs_are : AreDistinct job.names → left ∷ inputs ≡ map before.host.holds job.names
+  -- each file was opened once, none failed to open, and each source comes back
+  pub opened : AllOpened job.names before.host after.host left inputs done.sources
+  -- the headline, and what was said of it
+  pub driven : WasDriven job.sizes left inputs before after done
+
+-- memory was not wanting, and no count of failed calls rose
+pub record NoneFailed {W : Type 0} (job : Drive) (before after : Outside W) (done : Done) : Type 0 where
+  pub memory : done.status ≢ 6
+  pub opens : All (λ name. Rose (before.host.open_faults name) (after.host.open_faults name) → ⊥) job.names
+  pub reads : All (λ source. source.faults ≡ 0) done.sources
+  pub says : Rose before.host.say_faults after.host.say_faults → ⊥
+  pub puts : SomePutFailed (length (served_names job)) before after → ⊥
+
+-- the schedule is told, has no more bytes than it may and is of its form, and all inputs are told and whole requests
+pub record AreDrivable (job : Drive) (host : HostTold) : Type 0 where
+  pub text : List ℕ
+  pub text_is : slice_get (map host.holds job.names) 0 ≡ Some (Some text)
+  pub within : length text ≤ schedule_limit
+  pub schedule : List Line
+  pub lines : AreLines (length (served_names job)) (lines_of text) schedule
+  pub inputs : All (λ name. IsWhole (host.holds name)) (served_names job)
+
+pub record Drove {W : Type 0} (task : Option Drive) (before after : Outside W) (done : Done) : Type 0 where
+  -- where something was served, the words were accepted, and this was done
+  pub served : done.ends ≢ [] → IsAccepted task before (λ job. DroveFiles job before after done)
+  -- where nothing was, this is why
+  pub refused : done.ends ≡ [] → NothingServed task before after done
+  -- 0, 3 and 5 come only where something was served, and so does 4 that is not the schedule's
+  pub some : (done.status ≡ 0) ⊎ (done.status ≡ 3) ⊎ (done.status ≡ 5) ⊎ ((done.status ≡ 4) × (done.detail ≡ Nothing))
+      → done.ends ≢ []
+  -- bad words and too few wires are answered by 1 and by nothing else, but that memory was wanting
+  pub bad_words : done.status ≢ 6 → IsUndrivable task before → done.status ≡ 1
+  -- where the words are accepted and nothing failed, a schedule and whole requests give status 0
+  pub whole : IfSome task (λ job. length (served_names job) ≤ length before.wires → AreDistinct job.names
+      → NoneFailed job before after done → AreDrivable job before.host → done.status ≡ 0)

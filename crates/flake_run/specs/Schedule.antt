@@ -1,0 +1,37 @@
+-- What the source of a schedule comes to.
+use Rattle.std.specs.Prelude.{◌≡◌, ℕ, List, Option}
+use Rattle.flake_base.specs.Causes.{Rose}
+use Rattle.journal_text.specs.Lines.{lines_of}
+use Rattle.schedule_text.specs.Reading.{AreLines, IsBadLine}
+use Rattle.schedule_text.specs.declared.line.Line.{Line}
+use Rattle.check_files.specs.Whole.{IsPast, IsWhole}
+use Rattle.flake_run.specs.declared.finding.Finding.{Finding}
+use Rattle.flake_run.specs.declared.finding.Finding.TheVariants.{BadWords, OpenFault, ReadFault, TooLarge, BadLine}
+use Rattle.flake_run.specs.declared.finding.Finding.TheVariants.{Judged, Memory}
+
+-- how many bytes it may have
+abbrev pub schedule_limit : ℕ
+schedule_limit = 67_108_864
+
+-- All that the source had left was read, and its text has the lines of this schedule, for so many sessions.
+pub record HasSchedule (sessions : ℕ) (left : Option (List ℕ)) (schedule : List Line) : Type 0 where
+  pub text : List ℕ
+  pub whole : IsWhole schedule_limit left text
+  pub lines : AreLines sessions (lines_of text) schedule
+
+-- All that the source had left was read, and this line of its text is the first that isn't of its form.
+pub record HasBadLine (sessions : ℕ) (left : Option (List ℕ)) (line : ℕ) : Type 0 where
+  pub text : List ℕ
+  pub whole : IsWhole schedule_limit left text
+  pub bad : IsBadLine sessions (lines_of text) line
+
+-- Why it gave no schedule, of which the file has number 0; and how often its reads failed before and behind. Where
+-- memory was wanting that is free.
+abbrev pub IsUndriven : Finding → ℕ → Option (List ℕ) → ℕ → ℕ → Type 0
+IsUndriven BadWords sessions left old new = ⊥
+IsUndriven (OpenFault file) sessions left old new = ⊥
+IsUndriven (ReadFault file) sessions left old new = (file ≡ 0) × Rose old new
+IsUndriven (TooLarge file) sessions left old new = (file ≡ 0) × IsPast schedule_limit left × (new ≡ old)
+IsUndriven (BadLine line) sessions left old new = HasBadLine sessions left line × (new ≡ old)
+IsUndriven (Judged verdict) sessions left old new = ⊥
+IsUndriven Memory sessions left old new = Unit {0}

@@ -1,0 +1,99 @@
+// Sources that are driven by a schedule, to the first wires.
+ghost use Rattle.std.specs.Prelude.{◌≡◌, ◌<◌, ◌≤◌, All, IfErr, IfOk, OnErr, OnOk, length, map};
+ghost use Rattle.schedule_text.specs.Text.{session_of};
+ghost use Rattle.serve_house.specs.Opened.{IsSized, pool_sizes};
+ghost use Rattle.serve_house.specs.Ran.{AreReads};
+ghost use Rattle.shard_store.specs.Journals.{histories};
+ghost use Rattle.wire_told.specs.Sent.{FlushIs, PutIs};
+ghost use Rattle.flake_run.specs.Driven.{IsDrivenBy, IsDrivenRun};
+ghost use Rattle.flake_run.specs.Schedule.{IsUndriven};
+
+use crate::finding::Finding;
+use crate::schedule::schedule_in;
+use crate::source::{flush, put};
+use drive_inputs::{Driven, drive_inputs};
+use flake_base::{Host, Source, Wire};
+use schedule_text::Line;
+use serve_house::Sizes;
+use std::alloc::Global;
+use std::sync::Wait;
+
+/// Drives each source by the schedule's lines, and says the transcript; the replies go to the wire at its place. Where
+/// memory is wanting before the first read all comes back.
+fn drive_sources<R: Wait, S: Source + Drop, H: Host>(
+    rt: &R,
+    alloc: Global,
+    sizes: &Sizes,
+    schedule: &[Line],
+    sources: Vec<S>,
+    wires: Vec<Box<dyn Wire>>,
+    host: &mut H,
+) -> Result<Driven<S, Box<dyn Wire>>, (Vec<S>, Vec<Box<dyn Wire>>)>
+    requires sized { IsSized (length sources.items) sizes.now }
+    requires wires { length sources.items ≤ length wires.items }
+    requires there { All (λ line. session_of line < length sources.items) schedule.now }
+    ensures run { IfOk result (λ r. IsDrivenRun (pool_sizes (length sources.items) sizes.now) sizes.now.ring
+        sizes.now.threshold schedule.now r.failed (map (λ s. S.left s) sources.items)
+        (map (λ s. S.left s) r.sources.items) r.ends.items (histories r.journal.items) r.pool wires.items r.wires.items
+        (λ w. wire_told w) (H.host_told host.old) (H.host_told host.new)) }
+    ensures reads { IfOk result (λ r. AreReads r.ends.items (map (λ s. S.read_faults s) sources.items)
+        (map (λ s. S.read_faults s) r.sources.items)) }
+    ensures shards { IfOk result (λ r. length r.journal.items ≡ sizes.now.shards) }
+    ensures back { IfErr result (λ e. (e.0.items ≡ sources.items) × (e.1.items ≡ wires.items)) }
+    ensures silent { OnErr result (H.host_told host.new ≡ H.host_told host.old) }
+{
+    let driven = drive_inputs(
+        rt,
+        alloc,
+        sizes,
+        schedule,
+        sources,
+        wires,
+        host,
+        &|w: Box<dyn Wire>, piece: &[u8]| -> (Box<dyn Wire>, bool)
+            ensures { 0 < length piece.now → PutIs result.1 piece.now (wire_told w) (wire_told result.0) }
+        { put(w, piece) },
+        &|w: Box<dyn Wire>| -> (Box<dyn Wire>, bool)
+            ensures { FlushIs result.1 (wire_told w) (wire_told result.0) }
+        { flush(w) },
+    );
+    match driven {
+        Ok(driven) => Ok(driven),
+        Err(back) => Err(back),
+    }
+}
+
+/// Reads the schedule of a source, and drives the others by it; or says why that is not done, and all comes back.
+pub fn drive_by<R: Wait, S: Source + Drop, H: Host>(
+    rt: &R,
+    alloc: Global,
+    sizes: &Sizes,
+    schedule: &mut S,
+    sources: Vec<S>,
+    wires: Vec<Box<dyn Wire>>,
+    host: &mut H,
+) -> Result<Driven<S, Box<dyn Wire>>, (Finding, Vec<S>, Vec<Box<dyn Wire>>)>
+    requires sized { IsSized (length sources.items) sizes.now }
+    requires wires { length sources.items ≤ length wires.items }
+    ensures run { IfOk result (λ r. IsDrivenBy sizes.now (S.left schedule.old) r.failed
+        (map (λ s. S.left s) sources.items) (map (λ s. S.left s) r.sources.items) r.ends.items
+        (histories r.journal.items) r.pool wires.items r.wires.items (λ w. wire_told w) (H.host_told host.old)
+        (H.host_told host.new)) }
+    ensures reads { IfOk result (λ r. AreReads r.ends.items (map (λ s. S.read_faults s) sources.items)
+        (map (λ s. S.read_faults s) r.sources.items)) }
+    ensures shards { IfOk result (λ r. length r.journal.items ≡ sizes.now.shards) }
+    ensures calm { OnOk result (S.read_faults schedule.new ≡ S.read_faults schedule.old) }
+    ensures undriven { IfErr result (λ e. IsUndriven e.0 (length sources.items) (S.left schedule.old)
+        (S.read_faults schedule.old) (S.read_faults schedule.new)) }
+    ensures back { IfErr result (λ e. (e.1.items ≡ sources.items) × (e.2.items ≡ wires.items)) }
+    ensures silent { OnErr result (H.host_told host.new ≡ H.host_told host.old) }
+{
+    let lines = match schedule_in(alloc, schedule, sources.len() as u16) {
+        Ok(lines) => lines,
+        Err(finding) => return Err((finding, sources, wires)),
+    };
+    match drive_sources(rt, alloc, sizes, lines.as_slice(), sources, wires, host) {
+        Ok(driven) => Ok(driven),
+        Err((sources, wires)) => Err((Finding::Memory, sources, wires)),
+    }
+}
