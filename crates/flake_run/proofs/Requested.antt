@@ -1,23 +1,20 @@
 -- What a run of generated requests comes to.
-use Rattle.std.proofs.Common.{◌≡◌, ◌≢◌, ◌⊎◌, ◌<◌, ◌≤◌, inl, inr, ℕ, ◌+◌, Bool, true, false, List, [], ◌∷◌, Option, Some, None, length, map, arith, refl, sym, ap, ◌∙◌, subst}
+use Rattle.std.proofs.Common.{◌≡◌, ◌≢◌, ◌⊎◌, ◌≤◌, inl, inr, ℕ, ◌+◌, Bool, true, false, List, [], ◌∷◌, Option, Some, None, length, map, arith, refl, sym, ap, ◌∙◌, subst}
 use Rattle.std.specs.Prelude.{max, take, IfSome}
 use Rattle.std.specs.Borrow.{Bor}
-use Rattle.std.specs.List.{AllByRecursion, list_any, range_with_len}
-use Rattle.std.proofs.lemmas.List.{length-map}
+use Rattle.std.specs.List.{AllByRecursion, list_any}
 use Rattle.std.proofs.lemmas.List.Elements.{All-from_recursion}
 use Rattle.std.proofs.lemmas.List.FromFn.{length-map-range_with_len}
 use Rattle.flake_base.specs.Causes.{Rose}
-use Rattle.flake_base.specs.Growth.{Grew}
 use Rattle.flake_base.specs.Told.{HostTold, WireTold, raised}
 use Rattle.flake_base.specs.declared.journal.Entry.{Entry}
 use Rattle.flake_base.specs.declared.session.End.{End}
 use Rattle.flake_base.specs.declared.session.End.TheVariants.{Clean, Memory}
 use Rattle.flake_base.specs.declared.session.SessionEnd.{SessionEnd}
 use Rattle.flake_model.specs.Run.{all_commands, missing_writes}
-use Rattle.flake_model.specs.Wire.{FaultsAre}
 use Rattle.pin_core.specs.declared.class.Held.{Held}
 use Rattle.pinned_pool.specs.Ends.{End as PoolEnd}
-use Rattle.transcript_model.specs.Sessions.{WireGrew, joined}
+use Rattle.transcript_model.specs.Sessions.{joined}
 use Rattle.serve_model.specs.Replies.{all_replies}
 use Rattle.session_serve.specs.Whole.{SentWhole}
 use Rattle.serve_house.specs.Opened.{pool_sizes}
@@ -25,9 +22,9 @@ use Rattle.serve_house.specs.Ran.{AllWhole}
 use Rattle.wire_told.specs.Sent.{AreTold}
 use Rattle.wire_told.proofs.Sent.{sends_told}
 use Rattle.gen_words.specs.declared.task.GenTask.{GenTask}
-use Rattle.serve_generated.specs.Generated.{HadMemory, IsTooMuch, RanGenerated, inputs_of, sizes_of}
+use Rattle.serve_generated.specs.Generated.{IsTooMuch, RanGenerated, inputs_of, sizes_of}
 use Rattle.flake_run.specs.Causes.{highest_by, status_by, SomePutFailed}
-use Rattle.flake_run.specs.Generated.{AllInWhole, Generated, IsGeneratedRun, IsUngenerated, SentInWhole, ServedRequests, replies_in, sum_of, total_line}
+use Rattle.flake_run.specs.Generated.{AllInWhole, Generated, IsGeneratedRun, IsUngenerated, SentInWhole, replies_in, sum_of, total_line}
 use Rattle.flake_run.specs.Outcome.{Done, ways}
 use Rattle.flake_run.specs.Outside.{Outside, LeavesFiles, outside}
 use Rattle.flake_run.specs.Refusals.{IsRefused}

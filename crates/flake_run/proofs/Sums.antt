@@ -1,7 +1,6 @@
 -- Sums of counts and of replies, one after another.
-use Rattle.std.proofs.Common.{◌≡◌, ◌<◌, ◌≤◌, ℕ, ◌+◌, ◌*◌, ◌-◌, ◌^◌, min, List, [], ◌∷◌, ◌++◌, length, take, get_or, arith, ap, sym, ◌∙◌}
-use Rattle.std.proofs.lemmas.List.{length-take-le, take_all, take_more}
-use Rattle.view_sums.specs.Total.{total}
+use Rattle.std.proofs.Common.{◌≡◌, ◌<◌, ◌≤◌, ℕ, ◌+◌, List, [], ◌∷◌, length, take, get_or, arith, ap, ◌∙◌}
+use Rattle.std.proofs.lemmas.List.{take_all, take_more}
 use Rattle.view_sums.proofs.Sums.{total-append}
 use Rattle.flake_base.specs.Told.{raised}
 use Rattle.flake_base.specs.declared.session.SessionEnd.{SessionEnd}

@@ -1,6 +1,6 @@
 -- What a run of generated requests does, and what it says.
 use Rattle.std.specs.Prelude.{◌≡◌, ◌≢◌, ◌⊎◌, ◌≤◌, ◌<◌, ℕ, ◌++◌, Bool, List, [], ◌∷◌, Option, Some, None, codes, length, map}
-use Rattle.std.specs.Prelude.{drop, take, All, IsNone, IfSome}
+use Rattle.std.specs.Prelude.{drop, take, All, IfSome}
 use Rattle.std.specs.Fmt.{decimal}
 use Rattle.std.specs.List.{AllByRecursion}
 use Rattle.view_sums.specs.Total.{total}

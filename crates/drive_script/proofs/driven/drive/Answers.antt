@@ -10,5 +10,6 @@ pub leave_all-accounts-requires-clause-going : goal.leave_all-accounts-requires-
 leave_all-accounts-requires-clause-going g c = λ _ _. going_all _ _ _ _ _ _ _ _ _ _ c.drive_lines-failed.ensures.driven
 
 pub returns : goal.returns
-returns g c =
-    drove_all _ _ _ _ _ _ _ c.args.schedule.now c.drive_lines-failed.new.sessions.items c.leave_all-accounts.result.items c.drive_lines-failed.result _ _ c.drive_lines-failed.ensures.driven c.leave_all-accounts.ensures
+returns g c = record {
+  driven = drove_all _ _ _ _ _ _ _ c.args.schedule.now c.drive_lines-failed.new.sessions.items c.leave_all-accounts.result.items c.drive_lines-failed.result _ _ c.drive_lines-failed.ensures.driven c.leave_all-accounts.ensures;
+}

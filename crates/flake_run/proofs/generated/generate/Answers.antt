@@ -1,7 +1,6 @@
-use Rattle.std.proofs.Common.{◌≡◌, ◌≤◌, inr, Some, IfSome, length, map, arith, refl, sym, ap, ◌∙◌, subst}
+use Rattle.std.proofs.Common.{◌≡◌, inr, Some, IfSome, map, arith, refl, sym, ap, ◌∙◌, subst}
 use Rattle.std.proofs.lemmas.List.{length-map}
 use Rattle.flake_base.specs.Told.{raised}
-use Rattle.shard_store.specs.Journals.{histories}
 use Rattle.serve_words.specs.Task.{texts_of}
 use Rattle.gen_words.specs.Task.{IsAllowed, task_of}
 use Rattle.flake_run.specs.declared.outcome.Detail.TheVariants.{Nothing}
