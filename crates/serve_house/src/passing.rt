@@ -50,6 +50,23 @@ fn open_pass<N: BookName, P: PoolName>(
     }
 }
 
+// The same lists, the last one first.
+fn turned<N: BookName>(alloc: Global, lists: SessionSeats<N>) -> Result<SessionSeats<N>, Memory>
+    requires { All IsNewList lists.items }
+    ensures lists { IfOk result (λ turned. reverse turned.items ≡ lists.items) }
+    ensures count { IfOk result (λ turned. length turned.items ≡ length lists.items) }
+    ensures new { IfOk result (λ turned. All IsNewList turned.items) }
+{
+    let mut lists = lists;
+    let mut turned = SessionSeats::with_room(alloc, lists.len())?;
+    while let Some(mine) = lists.pop() {
+        let Ok(()) = turned.push(mine) else {
+            unreachable!()
+        };
+    }
+    Ok(turned)
+}
+
 // The last list's pass first. Where a seat finds no buffer, it comes back with the passes that were opened before.
 fn open_all<N: BookName, P: PoolName>(
     alloc: Global,
@@ -67,7 +84,7 @@ fn open_all<N: BookName, P: PoolName>(
     ensures main { IsSpare main.new }
     ensures credits { IfOk result (λ _. main.new.credits + session_credits * length lists.items ≡ main.old.credits) }
     ensures passes { IfOk result (λ passes. All (λ p. IsNewPass P.sizes p × (p.threshold ≡ threshold)) passes.items) }
-    ensures lists { IfOk result (λ passes. map (λ p. p.list) (reverse passes.items) ≡ lists.items) }
+    ensures lists { IfOk result (λ passes. map (λ p. p.list) passes.items ≡ reverse lists.items) }
     ensures refused { IfErr result (λ e. IfSome e (λ r. AreRefused P.sizes (length lists.items) main.old main.new r.0
         r.1.items)) }
 {
@@ -102,9 +119,9 @@ fn join_all<N: BookName, P: PoolName>(
     }
 }
 
-/// While `main` has all other credits a pass is opened for each list, and they stand in the lists' order. That a stage
-/// finds no buffer can't be: a pool that is closed says that each buffer which was found held was claimed, and nobody
-/// has claimed any but the stages.
+/// While `main` has all other credits a pass is opened for each list, in the lists' order, so that the first session's
+/// stage has the least addresses. That a stage finds no buffer can't be: a pool that is closed says that each buffer
+/// which was found held was claimed, and nobody has claimed any but the stages.
 pub(crate) fn open_passes<N: BookName, P: PoolName>(
     alloc: Global,
     pool: Pool<P>,
@@ -125,12 +142,10 @@ pub(crate) fn open_passes<N: BookName, P: PoolName>(
     ensures lists { IfOk result (λ r. map (λ p. p.list) r.passes.items ≡ lists.items) }
 {
     let mut main = main;
+    // A list is taken from the end.
+    let lists = turned(alloc, lists)?;
     match open_all(alloc, &pool, &mut main, lists, threshold, passes) {
-        Ok(passes) => {
-            let mut passes = passes;
-            passes.reverse();
-            Ok(Passed { pool, main, passes })
-        }
+        Ok(passes) => Ok(Passed { pool, main, passes }),
         Err(refused) => {
             let Some((seat, passes)) = refused else {
                 return Err(Memory);

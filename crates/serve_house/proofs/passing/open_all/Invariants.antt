@@ -6,7 +6,7 @@ use Rattle.serve_house.proofs.passing.open_all.Given as goal
 
 abbrev pub invariant-loop-mine : goal.invariant-loop-mine
 invariant-loop-mine g l = record {
-  lists : l.lists.items ++ map (λ p. p.list) (reverse l.passes.items) ≡ l.fn.lists.items;
+  lists : map (λ p. p.list) l.passes.items ++ reverse l.lists.items ≡ reverse l.fn.lists.items;
   new : All IsNewList l.lists.items;
   passes : All (λ p. IsNewPass g.P.PoolName.sizes p × (p.threshold ≡ l.threshold)) l.passes.items;
   main : IsSpare l.main;
