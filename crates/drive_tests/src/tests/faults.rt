@@ -287,7 +287,7 @@ fn each_put_of_a_session(rt: HostRuntime) -> Result<(), Fail> {
 // The lines before one, and half of that.
 fn front_of(alloc: Global, text: &str, line: u64) -> Result<Bytes, Fail> {
     let mut front = Bytes::new(alloc);
-    let mut number = 0;
+    let mut number = 0u64;
     for words in text.split('\n') {
         let before = front.len();
         front.append(words.as_bytes())?;
@@ -297,7 +297,7 @@ fn front_of(alloc: Global, text: &str, line: u64) -> Result<Bytes, Fail> {
             front.truncate(before.saturating_add(half));
             return Ok(front);
         }
-        number += 1;
+        number = number.saturating_add(1);
     }
     Ok(front)
 }
