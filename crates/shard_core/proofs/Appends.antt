@@ -70,7 +70,7 @@ why_refused z v key bytes e r old new is why = subst (λ x. IfErr x (λ y. WhyRe
   where
     by : (e : AppendError) → WhyUnadded z v bytes e old new → IfErr (outcome_of e) (λ x. WhyRefused z (append key bytes) x old new)
     by (unadded.TooLong n) why = tt
-    by (unadded.NoBuffer none) why = record { looked = why.looked; found = why.found; fewer = why.fewer }
+    by (unadded.NoBuffer none) why = record { looked = why.1.looked; found = why.1.found; fewer = why.1.fewer }
     by unadded.Memory why = tt
 
 pub on_err : {A E : Type 0} (r : Result A E) (P : Type 0) → P → OnErr r P
@@ -190,7 +190,7 @@ module _ (z : Sizes) (key : List ℕ) (es es1 now : Entries) (own new : View) (v
   more_back payer after bytes segs e r is why same text s p t a = subst (λ x. IfOk x (λ said. IsDone z (append key bytes) s p now new.holds said segs segs t t)) (sym is) (by e why)
     where
       by : (e : AppendError) → WhyUnadded z v bytes e payer after → IfOk (outcome_of e) (λ said. IsDone z (append key bytes) s p now new.holds said segs segs t t)
-      by (unadded.TooLong n) why = more_refused bytes segs segs same text why refl s p t a
+      by (unadded.TooLong n) why = more_refused bytes segs segs same text why.0 refl s p t a
       by (unadded.NoBuffer none) why = tt
       by unadded.Memory why = tt
 

@@ -7,3 +7,4 @@ pub mod Brought
 pub mod Extended
 pub mod Deeds
 pub mod Appends
+pub mod Free

@@ -1,5 +1,6 @@
 -- What a part costs the seat that pays.
-use Rattle.std.specs.Prelude.{◌≡◌, ℕ, ◌+◌, ◌<◌, List, [], ◌++◌, length}
+use Rattle.std.specs.Prelude.{◌≡◌, ℕ, ◌+◌, ◌<◌, ◌≤◌, true, List, [], ◌++◌, length, None, Result, is_ok}
+use Rattle.pin_core.specs.Holding.{Holding}
 use Rattle.pin_core.specs.Buffers.{buffers}
 use Rattle.pin_core.specs.declared.sizes.Sizes.{Sizes}
 use Rattle.pin_core.specs.declared.class.Class.{Class}
@@ -9,15 +10,17 @@ use Rattle.pinned_pool.specs.Sought.{Sought}
 use Rattle.pinned_pool.specs.Views.{looked_at}
 use Rattle.pinned_pool.specs.declared.pool.NoBuffer.{NoBuffer}
 use Rattle.pinned_pool.specs.declared.view.View.{View}
-use Rattle.flake_model.specs.Store.{Operation, append}
+use Rattle.flake_model.specs.Store.{Store, Operation, append, stored_value}
+use Rattle.flake_model.specs.Deed.{Places}
 use Rattle.frag_value.specs.Fragments.{value_limit}
 use Rattle.frag_value.specs.Values.{size_of}
 use Rattle.frag_value.specs.declared.error.AppendError.{AppendError}
 use Rattle.frag_value.specs.declared.error.AppendError.TheVariants as unadded
 use Rattle.frag_value.specs.declared.error.PlaceError.{PlaceError}
 use Rattle.frag_value.specs.declared.error.PlaceError.TheVariants as unplaced
-use Rattle.shard_core.specs.Kept.{Frags}
+use Rattle.shard_core.specs.Kept.{Entries, Frags, Agrees}
 use Rattle.shard_core.specs.Demand.{part_row}
+use Rattle.shard_core.specs.declared.answer.PartAnswer.{PartAnswer}
 
 -- Holds, credits and returns are as before. Claims and looks only grew: within these rows, and so many requests found
 -- no buffer.
@@ -41,8 +44,24 @@ abbrev pub WhyRefused : Sizes → Operation → PlaceError → View → View →
 WhyRefused z operation (unplaced.NoBuffer none) old new = HasNone z operation none old new
 WhyRefused z operation unplaced.Memory old new = Unit {0}
 
--- why bytes are not appended
+-- the part was answered, and nothing was claimed or looked at for it
+pub record IsFree (result : Result PartAnswer PlaceError) (old new : View) : Type 0 where
+  pub answered : is_ok result ≡ true
+  pub claims : new.claims ≡ old.claims
+  pub looks : new.looks ≡ old.looks
+
+-- a part that stores nothing, on any store that agreed, is free
+abbrev pub PaysToStore : Sizes → Operation → Entries → List Holding → Result PartAnswer PlaceError → View → View
+    → Type 0
+PaysToStore z operation es hs result old new =
+    (store : Store) (places : Places) → Agrees z es hs store places
+    → stored_value store operation ≡ None → IsFree result old new
+
+-- Why bytes are not appended. For too many nothing is claimed or looked at, and only those that fit may find no buffer
+-- or no memory.
 abbrev pub WhyUnadded : Sizes → Frags → List ℕ → AppendError → View → View → Type 0
-WhyUnadded z v bytes (unadded.TooLong n) old new = value_limit < size_of v + length bytes
-WhyUnadded z v bytes (unadded.NoBuffer none) old new = HasNone z (append [] bytes) none old new
-WhyUnadded z v bytes unadded.Memory old new = Unit {0}
+WhyUnadded z v bytes (unadded.TooLong n) old new =
+    (value_limit < size_of v + length bytes) × (new.claims ≡ old.claims) × (new.looks ≡ old.looks)
+WhyUnadded z v bytes (unadded.NoBuffer none) old new =
+    (size_of v + length bytes ≤ value_limit) × HasNone z (append [] bytes) none old new
+WhyUnadded z v bytes unadded.Memory old new = size_of v + length bytes ≤ value_limit

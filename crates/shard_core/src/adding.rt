@@ -11,7 +11,7 @@ ghost use Rattle.shard_core.specs.Done.{Does, StandsAsBefore};
 ghost use Rattle.shard_core.specs.Keys.{is_key};
 ghost use Rattle.shard_core.specs.Kept.{IsKept, value_at};
 ghost use Rattle.shard_core.specs.Answers.{outcome_of};
-ghost use Rattle.shard_core.specs.Paid.{IsPaid, WhyRefused};
+ghost use Rattle.shard_core.specs.Paid.{IsPaid, PaysToStore, WhyRefused};
 
 use crate::answer::PartAnswer;
 use crate::carrying::extend;
@@ -49,6 +49,8 @@ fn add_first<P: PoolName>(
     ensures cause { IfErr result (λ e. WhyRefused P.sizes (append_op key.now bytes.now) e payer.old payer.new) }
     ensures paid { IsPaid P.sizes (λ (class : Class). part_row class (append_op key.now bytes.now)) (found_none result)
         payer.old payer.new }
+    ensures pays { PaysToStore P.sizes (append_op key.now bytes.now)
+        kept.old.values.entries kept.old.own.holds result payer.old payer.new }
 {
     match place_first(alloc, pool, kept, payer, key, bytes, stored) {
         Ok(()) => {}
@@ -96,6 +98,8 @@ fn add_more<P: PoolName>(
     ensures cause { IfErr result (λ e. WhyRefused P.sizes (append_op key.now bytes.now) e payer.old payer.new) }
     ensures paid { IsPaid P.sizes (λ (class : Class). part_row class (append_op key.now bytes.now)) (found_none result)
         payer.old payer.new }
+    ensures pays { PaysToStore P.sizes (append_op key.now bytes.now)
+        kept.old.values.entries kept.old.own.holds result payer.old payer.new }
 {
     kept.own.is_seat();
     let old = exchange(&mut kept.values, key, index, Value::empty(alloc));
@@ -139,6 +143,8 @@ pub(crate) fn add<P: PoolName>(
     ensures cause { IfErr result (λ e. WhyRefused P.sizes (append_op key.now bytes.now) e payer.old payer.new) }
     ensures paid { IsPaid P.sizes (λ (class : Class). part_row class (append_op key.now bytes.now)) (found_none result)
         payer.old payer.new }
+    ensures pays { PaysToStore P.sizes (append_op key.now bytes.now)
+        kept.old.values.entries kept.old.own.holds result payer.old payer.new }
 {
     match kept.values.get_index_of(key) {
         Some(index) => add_more(alloc, pool, kept, payer, key, index, bytes, stored),

@@ -6,7 +6,7 @@ ghost use Rattle.pin_core.specs.declared.class.Class.{Class};
 ghost use Rattle.shard_core.specs.Demand.{part_row};
 ghost use Rattle.shard_core.specs.Done.{Does, StandsAsBefore, is_taking, is_ranged};
 ghost use Rattle.shard_core.specs.Kept.{IsKept};
-ghost use Rattle.shard_core.specs.Paid.{IsPaid, WhyRefused};
+ghost use Rattle.shard_core.specs.Paid.{IsPaid, PaysToStore, WhyRefused};
 ghost use Rattle.shard_part.specs.Parts.{operation_of};
 ghost use Rattle.shard_part.specs.Settings.{setting_of};
 
@@ -51,6 +51,8 @@ fn apply_other<P: PoolName, T: Taker<P>>(
     ensures cause { IfErr result (λ e. WhyRefused P.sizes (operation_of part.now) e payer.old payer.new) }
     ensures paid { IsPaid P.sizes (λ (class : Class). part_row class (operation_of part.now)) (found_none result)
         payer.old payer.new }
+    ensures pays { PaysToStore P.sizes (operation_of part.now)
+        kept.old.values.entries kept.old.own.holds result payer.old payer.new }
     ensures none { T.begun taker.new ≡ None }
     ensures base { T.base taker.new ≡ T.base taker.old }
     ensures room { is_ranged (operation_of part.now) ≡ false
@@ -101,6 +103,8 @@ pub(crate) fn apply<P: PoolName, T: Taker<P>>(
     ensures cause { IfErr result (λ e. WhyRefused P.sizes (operation_of part.now) e payer.old payer.new) }
     ensures paid { IsPaid P.sizes (λ (class : Class). part_row class (operation_of part.now)) (found_none result)
         payer.old payer.new }
+    ensures pays { PaysToStore P.sizes (operation_of part.now)
+        kept.old.values.entries kept.old.own.holds result payer.old payer.new }
     ensures none { T.begun taker.new ≡ None }
     ensures base { T.base taker.new ≡ T.base taker.old }
     ensures room { is_ranged (operation_of part.now) ≡ false

@@ -10,7 +10,7 @@ ghost use Rattle.pin_core.specs.declared.class.Class.{Class};
 ghost use Rattle.shard_core.specs.Done.{Does};
 ghost use Rattle.shard_core.specs.Keys.{is_key};
 ghost use Rattle.shard_core.specs.Kept.{IsKept, Agrees, IsAsBefore, bytes_kept};
-ghost use Rattle.shard_core.specs.Paid.{IsPaid};
+ghost use Rattle.shard_core.specs.Paid.{IsPaid, PaysToStore};
 ghost use Rattle.shard_part.specs.Settings.{when_of, set_by};
 
 use crate::answer::PartAnswer;
@@ -118,6 +118,8 @@ pub(crate) fn set<P: PoolName, T: Taker<P>>(
     ensures cause { IfErr result (λ e. WhyUnplaced P.sizes (fragments_of bytes.now) e payer.old payer.new) }
     ensures paid { IsPaid P.sizes (λ (class : Class). fragments_in class (fragments_of bytes.now)) (found_none result)
         payer.old payer.new }
+    ensures pays { PaysToStore P.sizes (set_by setting key.now bytes.now)
+        kept.old.values.entries kept.old.own.holds result payer.old payer.new }
 {
     let found = kept.values.get_index_of(key);
     if setting.when.stores(found.is_some()) {

@@ -9,7 +9,7 @@ ghost use Rattle.shard_core.specs.Demand.{part_row};
 ghost use Rattle.shard_core.specs.Done.{Does, StandsAsBefore, is_taking, is_ranged};
 ghost use Rattle.shard_core.specs.Keys.{key_eq};
 ghost use Rattle.shard_core.specs.Kept.{IsKept};
-ghost use Rattle.shard_core.specs.Paid.{IsPaid, WhyRefused};
+ghost use Rattle.shard_core.specs.Paid.{IsPaid, PaysToStore, WhyRefused};
 ghost use Rattle.shard_core.specs.Shelves.{IsBare, keys_on};
 ghost use Rattle.shard_part.specs.Parts.{operation_of};
 
@@ -83,6 +83,8 @@ impl<P: PoolName> Shelf<P> {
         ensures cause { IfErr result (λ e. WhyRefused P.sizes (operation_of part.now) e payer.old payer.new) }
         ensures paid { IsPaid P.sizes (λ (class : Class). part_row class (operation_of part.now)) (found_none result)
             payer.old payer.new }
+        ensures pays { PaysToStore P.sizes (operation_of part.now)
+            self.old.entries self.old.seat.holds result payer.old payer.new }
         ensures none { T.begun taker.new ≡ None }
         ensures base { T.base taker.new ≡ T.base taker.old }
         ensures room { is_ranged (operation_of part.now) ≡ false

@@ -4,6 +4,7 @@ use Rattle.std.specs.FinMap as finite
 use Rattle.frag_value.specs.Values.{value_bytes}
 use Rattle.shard_core.proofs.Changed.{missing_key}
 use Rattle.shard_core.proofs.Appends.{paid_row, none_row, add_done}
+use Rattle.shard_core.proofs.Free.{append_stores}
 use Rattle.shard_core.proofs.adding.add_first.Goals as goal
 
 pub place_first-requires-clause-missing : goal.place_first-requires-clause-missing
@@ -31,3 +32,10 @@ returns-in-Err-clause-paid g c = paid_row g.P.PoolName.sizes c.args.key.now c.ar
 
 pub returns-in-Err-clause-cause : goal.returns-in-Err-clause-cause
 returns-in-Err-clause-cause g c = none_row g.P.PoolName.sizes c.args.key.now c.args.bytes.now c.in-Err.error c.args.payer.now c.place_first.new.payer c.in-Err.ensures.cause
+
+pub returns-in-Err-clause-pays : goal.returns-in-Err-clause-pays
+returns-in-Err-clause-pays g c = λ s p a stored.
+    let key = c.args.key.now in
+    let es = c.args.kept.now.values.entries in
+    let none : None ≡ finite.get s key = ap (option_map (value_bytes c.args.kept.now.own.holds)) (sym (missing_key key es c.requires.missing)) ∙ a.bytes key in
+    absurd (append_stores s key c.args.bytes.now None none c.requires.few stored)

@@ -8,6 +8,7 @@ use Rattle.shard_core.specs.Paid.{IsPaid}
 use Rattle.shard_core.proofs.Changed.{Put, put-set}
 use Rattle.shard_core.proofs.Holds.{has_found}
 use Rattle.shard_core.proofs.Appends.{restored_kept, restored_same, more_done, more_back, why_refused, none_told, on_err}
+use Rattle.shard_core.proofs.Free.{more_stores, refused_free}
 use Rattle.shard_core.proofs.adding.add_more.Goals as goal
 
 pub extend-requires-clause-value : goal.extend-requires-clause-value
@@ -98,3 +99,12 @@ pub returns-in-Err-clause-paid : goal.returns-in-Err-clause-paid
 returns-in-Err-clause-paid g c =
     subst (λ n. IsPaid g.P.PoolName.sizes (λ (class : Class). part_row class (append c.args.key.now c.args.bytes.now)) n c.args.payer.now c.extend.new.payer)
     (none_told c.in-Err.error ∙ ap found_none (sym c.refused.ensures)) c.in-Err.ensures.paid
+
+pub returns-in-Ok-clause-pays : goal.returns-in-Ok-clause-pays
+returns-in-Ok-clause-pays g c = λ s p a stored.
+    absurd (more_stores g.P.PoolName.sizes c.args.key.now c.args.bytes.now c.args.kept.now.values.entries c.args.kept.now.own c.exchange-old.result c.requires.kept c.exchange-old.ensures.old c.in-Ok.ensures.longer.few s p a stored)
+
+pub returns-in-Err-clause-pays : goal.returns-in-Err-clause-pays
+returns-in-Err-clause-pays g c =
+    refused_free g.P.PoolName.sizes c.args.key.now c.args.bytes.now c.args.kept.now.values.entries c.args.kept.now.own c.exchange-old.result c.requires.kept c.exchange-old.ensures.old
+    c.in-Err.error c.refused.result c.args.payer.now c.extend.new.payer c.refused.ensures c.in-Err.ensures.cause
