@@ -12,6 +12,7 @@ pub mod Sayings
 pub mod Steps
 pub mod Few
 pub mod Quiets
+pub mod Counted
 pub mod Closing
 pub mod Rows
 pub mod Beginning

@@ -1,5 +1,6 @@
 pub mod Shown
 pub mod Happened
+pub mod Recycled
 pub mod Lanes
 pub mod Asked
 pub mod Refused

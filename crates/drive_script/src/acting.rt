@@ -8,6 +8,7 @@ ghost use Rattle.transcript_model.specs.Lines.{Event, line_of};
 ghost use Rattle.drive_script.specs.Asked.{IsAsked, GoesOn};
 ghost use Rattle.drive_script.specs.Happened.{event_of};
 ghost use Rattle.drive_script.specs.Lanes.{Fixed, IsLane, sends_by};
+ghost use Rattle.drive_script.specs.Recycled.{Recycles};
 ghost use Rattle.drive_script.specs.Running.{RunsOn};
 ghost use Rattle.drive_script.specs.Shown.{session_shown, device_shown};
 
@@ -51,6 +52,7 @@ impl<N: BookName, P: PoolName + Send> Lane<N, P> {
           session = session_of line;
           event = event_of result.1 sent.new.items stored.new.items;
         }) ≡ line }
+        ensures recycles { Recycles result.1 self.old.session self.new.session }
         ensures right { (fixed : Fixed) (start : W) (given : List Meaning) (events : List Event)
             (input : Option (List ℕ)) (before : ℕ)
             → IsAsked input before given (length self.old.session.posted) asking.old.kept asking.old.end

@@ -9,6 +9,7 @@ ghost use Rattle.drive_script.specs.Happened.{event_of};
 ghost use Rattle.drive_script.specs.Lanes.{sends_by};
 ghost use Rattle.drive_script.specs.Left.{IsGoing, GathersAll};
 ghost use Rattle.drive_script.specs.Ran.{FlushesOnly, GathersOut};
+ghost use Rattle.drive_script.specs.Recycled.{Recycles};
 
 use crate::asking::Asking;
 use crate::happened::Happened;
@@ -53,6 +54,7 @@ impl<N: BookName, P: PoolName + Send, S: Source, W: Drop> Driving<N, P, S, W> {
           session = session_of line;
           event = event_of result sent.new.items stored.new.items;
         }) ≡ line }
+        ensures recycles { Recycles result self.old.lane.session self.new.lane.session }
         ensures right { (first : Shown W) (events : List Event)
             → IsUnderWay (sends_by (λ w p r. PUT.post put.now w p r) (λ w r. FLUSH.post flush.now w r))
             P.sizes N.sizes.shards first events (driving_of self.old.lane.session self.old.lane.device.failed

@@ -9,6 +9,7 @@ ghost use Rattle.tx_ring.specs.Shown.{device_ring, completed};
 ghost use Rattle.transcript_model.specs.Lines.{Event, line_of};
 ghost use Rattle.drive_script.specs.Happened.{event_of};
 ghost use Rattle.drive_script.specs.Lanes.{Fixed, IsDriven, IsLane, sends_by};
+ghost use Rattle.drive_script.specs.Recycled.{Recycles};
 ghost use Rattle.drive_script.specs.Running.{RunsOn};
 ghost use Rattle.drive_script.specs.Shown.{session_shown, device_shown};
 
@@ -80,6 +81,7 @@ impl<N: BookName, P: PoolName + Send> Lane<N, P> {
         ensures answers { (session : ℕ) → line_of (record { session = session; event = event_of result [] [] })
             ≡ asked.Reap session }
         ensures lists { (sent stored : List Seg) → event_of result sent stored ≡ event_of result [] [] }
+        ensures recycles { Recycles result self.old.session self.new.session }
         ensures posted { self.new.session.posted ≡ self.old.session.posted }
         ensures failed { self.new.device.failed ≡ self.old.device.failed }
         ensures runs { (given : List Meaning) (end : Option End)

@@ -63,6 +63,12 @@ reaps_one p n pass pass' opened ring ring' d d' stopped call same_ring reaps bac
       reaped = reaps.reaped;
       call_is = call_is;
       recycles = back.few;
+      ended = back.ended;
+      lasts = back.lasts;
+      counts = back.count;
+      holds = back.holds;
+      credits = back.credits;
+      returns = back.returns;
       keeps = record {
         rest = record {
           number = ap (λ (l : SessionList). l.number) list;

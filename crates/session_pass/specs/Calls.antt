@@ -1,11 +1,12 @@
 -- What a session's calls do.
-use Rattle.std.specs.Prelude.{◌≡◌, ℕ, ◌<◌, ◌≤◌, ◌⊎◌, List, [], ◌∷◌, ◌++◌, true, length, slice_get, Some}
+use Rattle.std.specs.Prelude.{◌≡◌, ℕ, ◌+◌, ◌<◌, ◌≤◌, ◌⊎◌, List, [], ◌∷◌, ◌++◌, true, length, slice_get, Some}
 use Rattle.view_sums.specs.Total.{Each}
 use Rattle.pin_core.specs.declared.sizes.Sizes.{Sizes}
 use Rattle.flake_base.specs.declared.segment.Seg.{Seg}
 use Rattle.flake_model.specs.Command.{Command, parts}
 use Rattle.reply_layout.specs.Frames.{frame_from}
 use Rattle.reply_layout.specs.Need.{need_of}
+use Rattle.reply_planner.specs.Owned.{bare_all, fresh_all}
 use Rattle.reply_planner.specs.Parcels.{Sent}
 use Rattle.reply_planner.specs.Places.{addresses_of}
 use Rattle.call_model.specs.Outcomes.{Outcomes, call_deeds}
@@ -99,13 +100,21 @@ pub record CallRefused (z : Sizes) (shards : ℕ) (command : Command) (old new :
   pub misses : new.misses ≡ old.misses
   pub stopped : new.stopped ≡ true
 
--- the oldest reply that waits was given back, so many of whose holds were the last of their buffers
+-- The oldest reply that waits was given back, so many of whose holds were the last of their buffers: the seat has its
+-- staging buffers, its credit and those of its pins again.
 pub record ReapsOne (old new : SessionView) (call recycled : ℕ) : Type 0 where
   pub parcel : Sent
   pub oldest : slice_get old.posted (length old.reaped) ≡ Some parcel
   pub reaped : new.reaped ≡ old.reaped ++ parcel ∷ []
   pub call_is : call ≡ parcel.call
   pub recycles : recycled ≤ parcel.pinned
+  -- the buffers whose last hold was given back
+  pub ended : List ℕ
+  pub lasts : new.pass.seat.lasts ≡ old.pass.seat.lasts ++ ended
+  pub counts : length ended ≡ recycled
+  pub holds : bare_all new.pass.seat.holds ≡ bare_all old.pass.seat.holds ++ fresh_all parcel.staged
+  pub credits : new.pass.seat.credits ≡ old.pass.seat.credits + 1 + parcel.paid
+  pub returns : new.pass.seat.returns ≡ old.pass.seat.returns + parcel.paid
   pub keeps : KeepsAll old new
   pub misses : new.misses ≡ old.misses
 

@@ -3,6 +3,7 @@ use Rattle.drive_script.specs.Running.{RunsOn}
 use Rattle.drive_script.specs.Shown.{session_shown, device_shown}
 use Rattle.drive_script.proofs.Acted.{call_goes, reap_goes, stays_asked, lane_same}
 use Rattle.drive_script.proofs.ByPuts.{puts_are_sending}
+use Rattle.drive_script.proofs.Counted.{call_counts, gather_counts}
 use Rattle.drive_script.proofs.lane.Lane.act.Goals as goal
 
 pub returns-in-Call-clause-right : goal.returns-in-Call-clause-right
@@ -35,3 +36,9 @@ returns-in-Reap-clause-right g c = λ fixed start given events input before aske
           (c.reap-happened.ensures.right fixed given c.args.asking.now.end lane.whole events lane.driven)),
       c.reap-happened.ensures.runs given c.args.asking.now.end,
     )
+
+pub returns-in-Call-clause-recycles : goal.returns-in-Call-clause-recycles
+returns-in-Call-clause-recycles g c = call_counts c.call-happened.result c.args.self.now.session c.call-happened.new.self.session (c.call-happened.ensures.answers 0 [] [])
+
+pub returns-in-Gather-clause-recycles : goal.returns-in-Gather-clause-recycles
+returns-in-Gather-clause-recycles g c = gather_counts c.gather.result.1 c.args.self.now.session c.gather.new.self.session (c.gather.ensures.answers 0)

@@ -3,6 +3,7 @@ use Rattle.transcript_model.specs.Lines.{nothing_reaped}
 use Rattle.drive_model.specs.Views.{SessionShown, DeviceShown}
 use Rattle.drive_script.specs.Lanes.{IsDriven}
 use Rattle.drive_script.specs.Shown.{session_shown, device_shown}
+use Rattle.drive_script.proofs.Counted.{reap_counts}
 use Rattle.drive_script.proofs.Ends.{both_shown}
 use Rattle.drive_script.proofs.Lanes.{lane_reaped, lane_none, told_again}
 use Rattle.drive_script.proofs.Running.{running_reaped, running_none}
@@ -40,3 +41,7 @@ returns-in-Some-clause-runs g c = λ given end first.
 pub returns-in-None-clause-runs : goal.returns-in-None-clause-runs
 returns-in-None-clause-runs g c = λ given end first.
     running_none g.P.PoolName.sizes g.N.BookName.sizes.shards first given end c.args.self.now.session c.reap_one-reaped.new.self c.both_ends.new.session _ c.in-None.ensures.none c.both_ends.ensures.session
+
+pub returns-in-Some-clause-recycles : goal.returns-in-Some-clause-recycles
+returns-in-Some-clause-recycles g c =
+    reap_counts c.args.self.now.session c.reap_one-reaped.new.self c.both_ends.new.session _ _ _ c.in-Some.ensures.one c.both_ends.ensures.session
