@@ -128,6 +128,7 @@ module _ {W : Type 0} (task : Option GenTask) (before after : Outside W) (done :
     statuses = inr (inl r.status);
     served = λ some. absurd (some r.ends);
     some = λ status. absurd (not_one done.status r.status status);
+    by_end = λ some. absurd (some r.ends);
     wires = λ none. r.wires;
     journal = λ none. r.journal;
     pool = λ none. (r.pool, r.held);
@@ -160,6 +161,7 @@ module _ {W : Type 0} (task : Option GenTask) (before after : Outside W) (done :
     statuses = inr (inr (inr r.status));
     served = λ some. absurd (some r.ends);
     some = λ status. absurd (not_six done.status r.status status);
+    by_end = λ some. absurd (some r.ends);
     wires = λ none. r.wires;
     journal = λ none. r.journal;
     pool = λ none. (r.pool, r.held);
@@ -213,7 +215,7 @@ pub answered_all : {W : Type 0} (task : GenTask) (tells : W → WireTold) (host 
     → Answered task tells host now wires after done → Generated (Some task) (outside host wires tells) (outside now after tells) done
 answered_all {W} task tells host now wires after done a = record {
   statuses = four a.reported.statuses;
-  served = λ some. record {
+  served = λ some. (not_refused, record {
     lefts = a.lefts;
     run = a.run.run.run;
     pool = a.pool;
@@ -232,8 +234,9 @@ answered_all {W} task tells host now wires after done a = record {
     counts = a.run.counts;
     wholes = a.run.wholes;
     said = λ six. subst (λ bytes. Says (total_line (replies_in done.ends) bytes done.held) host now) a.run.sums (a.reported.said six);
-  };
-  some = λ status. (there, tt);
+  });
+  some = λ status. there;
+  by_end = λ some five six. (a.reported.by_end five six).0;
   wires = λ none. absurd (there none);
   journal = λ none. absurd (there none);
   pool = λ none. absurd (there none);

@@ -1,6 +1,6 @@
 -- What a run of generated requests does, and what it says.
 use Rattle.std.specs.Prelude.{◌≡◌, ◌≢◌, ◌⊎◌, ◌≤◌, ◌<◌, ℕ, ◌++◌, Bool, List, [], ◌∷◌, Option, Some, None, codes, length, map}
-use Rattle.std.specs.Prelude.{drop, take, All, IfSome}
+use Rattle.std.specs.Prelude.{drop, take, All, IfSome, IsSomeAnd}
 use Rattle.std.specs.Fmt.{decimal}
 use Rattle.std.specs.List.{AllByRecursion}
 use Rattle.view_sums.specs.Total.{total}
@@ -21,7 +21,7 @@ use Rattle.serve_model.specs.Shown.{IsCounted}
 use Rattle.serve_house.specs.Opened.{pool_sizes}
 use Rattle.gen_words.specs.declared.task.GenTask.{GenTask}
 use Rattle.serve_generated.specs.Generated.{HadMemory, IsTooMuch, commands_in_all, inputs_of, sizes_of}
-use Rattle.flake_run.specs.Causes.{SomePutFailed, status_by}
+use Rattle.flake_run.specs.Causes.{SomePutFailed, status_by, highest_by}
 use Rattle.flake_run.specs.Outside.{Outside, LeavesFiles, sent_by, bytes_of, kept_by, faults_of}
 use Rattle.flake_run.specs.Outcome.{Done, none_held, ways}
 use Rattle.flake_run.specs.Said.{Says}
@@ -111,10 +111,13 @@ IsUngenerated (Some task) before = (length before.wires < task.sessions) ⊎ IsT
 -- No file is opened for generated requests, whatever comes of them.
 pub record Generated {W : Type 0} (task : Option GenTask) (before after : Outside W) (done : Done) : Type 0 where
   pub statuses : (done.status ≡ 0) ⊎ (done.status ≡ 1) ⊎ (done.status ≡ 5) ⊎ (done.status ≡ 6)
-  -- the headline, where something was served
-  pub served : done.ends ≢ [] → IfSome task (λ task. ServedRequests task before after done)
+  -- the headline, where something was served: that was a task, with its wires, for which a pool can be large enough
+  pub served : done.ends ≢ []
+      → (IsUngenerated task before → ⊥) × IsSomeAnd task (λ task. ServedRequests task before after done)
   -- which is so with 0 and 5
-  pub some : (done.status ≡ 0) ⊎ (done.status ≡ 5) → (done.ends ≢ []) × IfSome task (λ _. Unit {0})
+  pub some : (done.status ≡ 0) ⊎ (done.status ≡ 5) → done.ends ≢ []
+  -- the status is the highest by the ends, where nothing else failed
+  pub by_end : done.ends ≢ [] → done.status ≢ 5 → done.status ≢ 6 → done.status ≡ highest_by (ways done.ends)
   -- where nothing was, the wires are as handed in, and there is no history and no pool
   pub wires : done.ends ≡ [] → after.wires ≡ before.wires
   pub journal : done.ends ≡ [] → done.journal ≡ []
