@@ -142,6 +142,7 @@ module _ {W : Type 0} (task : Option GenTask) (before after : Outside W) (done :
     written = λ zero. absurd (omega (arith, zero, r.status));
     whole = is_whole task un;
     said = λ one. r.said;
+    no_memory = λ six. absurd (omega (arith, six, r.status));
   }
     where
       not_one : (status : ℕ) → status ≡ 1 → (status ≡ 0) ⊎ (status ≡ 5) → ⊥
@@ -175,6 +176,7 @@ module _ {W : Type 0} (task : Option GenTask) (before after : Outside W) (done :
     written = λ zero. absurd (omega (arith, zero, r.status));
     whole = is_whole task;
     said = λ one. absurd (omega (arith, one, r.status));
+    no_memory = λ six none. r.said;
   }
     where
       not_six : (status : ℕ) → status ≡ 6 → (status ≡ 0) ⊎ (status ≡ 5) → ⊥
@@ -254,6 +256,7 @@ answered_all {W} task tells host now wires after done a = record {
       (so.2, quiet so.1);
   whole = λ enough fits six says puts. is_zero says puts six (four a.reported.statuses);
   said = λ one. absurd (not_one (four a.reported.statuses) one);
+  no_memory = λ six none. absurd (there none);
 } where
   count : length done.ends ≡ task.sessions
   count = generated_count task a.lefts done.ends a.shown done.journal a.pool wires after tells a.run

@@ -12,7 +12,7 @@ use Rattle.flake_run.specs.Refusals.{IsRefused}
 use Rattle.flake_run.specs.Untouched.{Untouched}
 use Rattle.flake_run.specs.Causes.{Causes}
 use Rattle.flake_run.specs.declared.outcome.Refusal.TheVariants.{Memory}
-use Rattle.flake_run.proofs.Ran.{Clauses, IsTask, sources_are}
+use Rattle.flake_run.proofs.Ran.{Clauses, IsTask, says_since, sources_are}
 use Rattle.flake_run.proofs.Stopped.{not_served, not_written, not_refusable}
 
 -- the files were opened, and want of memory was said
@@ -73,5 +73,8 @@ module _ {W : Type 0} (tells : W → WireTold) (task : Task) (job : Job) (host m
     untouched = unserved_untouched;
     causes = unserved_causes;
     complete = record { whole = λ enough distinct nothing whole. absurd (nothing.memory six) };
-    said = record { text = λ other. absurd (other six) };
+    said = record {
+      text = λ other. absurd (other six);
+      no_memory = λ is none. says_since _ host mid now u.opened.said u.opened.say_faults u.refused.said;
+    };
   })

@@ -143,3 +143,5 @@ pub record Generated {W : Type 0} (task : Option GenTask) (before after : Outsid
       → done.status ≡ 0)
   -- what is said where the words are bad words; of what was served `served` says it
   pub said : done.status ≡ 1 → Says (said_line (codes "bad words")) before.host after.host
+  -- and where memory was wanting before anything was served
+  pub no_memory : done.status ≡ 6 → done.ends ≡ [] → Says (said_line (codes "out of memory")) before.host after.host
