@@ -81,10 +81,10 @@ module _ {W : Type 0} (tells : W → WireTold) (sizes : Sizes) (left : Option (L
     sessions = ends_count (pool_sizes (length inputs) sizes) inputs lefts done.ends done.journal closed wires after tells h.by.run.run
 
   -- nothing was driven, and that was said
-  pub came_refused : (finding : Finding) (before : Done) (sources : List SourceTold) (count : ℕ) (counts : List ℕ) → ConcludesBy finding (outside host wires tells) (outside now after tells) before → LeavesFiles host now
-      → read_faults_of sources ≡ count ∷ counts → AllByRecursion (λ n. n ≡ 0) counts → IsUndriven finding (length inputs) left 0 count → files_of sources ≡ range_with_len 0 (suc (length inputs))
+  pub came_refused : (finding : Finding) (before : Done) (sources : List SourceTold) (rest : Option (List ℕ)) (count : ℕ) (counts : List ℕ) → ConcludesBy finding (outside host wires tells) (outside now after tells) before → LeavesFiles host now
+      → lefts_of sources ≡ rest ∷ inputs → read_faults_of sources ≡ count ∷ counts → AllByRecursion (λ n. n ≡ 0) counts → IsUndriven finding (length inputs) left 0 count → files_of sources ≡ range_with_len 0 (suc (length inputs))
       → CameOf sizes left inputs (outside host wires tells) (outside now after tells) (record before { sources = sources })
-  came_refused finding before sources count counts concludes leaves are fresh undriven files = record {
+  came_refused finding before sources rest count counts concludes leaves left_are are fresh undriven files = record {
     driven = λ some. absurd (some (no_ends concludes));
     refused = λ none. ⊎_elim (λ is. not_driven finding is undriven) (λ is. not_driven Memory is tt) concludes;
     leaves = leaves;
@@ -98,6 +98,8 @@ module _ {W : Type 0} (tells : W → WireTold) (sizes : Sizes) (left : Option (L
     not_driven finding is undriven = record {
       finding = finding;
       concluded = record { status = is.status; detail = is.detail; said = is.said; ends = is.ends; journal = is.journal; held = is.held; pool = is.pool; wires = is.wires };
+      rest = rest;
+      lefts_are = left_are;
       count = count;
       counts = counts;
       counts_are = are;

@@ -14,7 +14,7 @@ use Rattle.flake_run.specs.DriveTask.{Drive, IsUndrivable, served_names}
 use Rattle.flake_run.specs.Drove.{AllOpened, Drove, DroveFiles, IsAccepted, NoneDriven, NothingServed, OneFails, WasRefused}
 use Rattle.flake_run.specs.Finding.{finding_detail}
 use Rattle.flake_run.specs.Opening.{AreOpened, FailsToOpen}
-use Rattle.flake_run.specs.Outcome.{Done, SourceTold, files_of, read_faults_of}
+use Rattle.flake_run.specs.Outcome.{Done, SourceTold, files_of, lefts_of, read_faults_of}
 use Rattle.flake_run.specs.Outside.{Outside, LeavesFiles, outside, sent_by}
 use Rattle.flake_run.specs.Refusals.{IsRefused}
 use Rattle.flake_run.specs.Schedule.{IsUndriven}
@@ -159,19 +159,19 @@ module _ {W : Type 0} (tells : W → WireTold) (task : Option Drive) (job : Driv
     detail = w.detail;
   }
 
-  none_driven : (left : Option (List ℕ)) (inputs : List (Option (List ℕ))) (done : Done) (finding : Finding) (count : ℕ) (counts : List ℕ) → AllOpened job.names host now left inputs done.sources → read_faults_of done.sources ≡ count ∷ counts
+  none_driven : (left : Option (List ℕ)) (inputs : List (Option (List ℕ))) (done : Done) (finding : Finding) (rest : Option (List ℕ)) (count : ℕ) (counts : List ℕ) → AllOpened job.names host now left inputs done.sources → lefts_of done.sources ≡ rest ∷ inputs → read_faults_of done.sources ≡ count ∷ counts
       → AllByRecursion (λ n. n ≡ 0) counts → IsUndriven finding (length inputs) left 0 count → WasRefused finding task (outside host wires tells) now done.sources
-  none_driven left inputs done BadWords count counts opened are fresh undriven = absurd undriven
-  none_driven left inputs done (OpenFault file) count counts opened are fresh undriven = absurd undriven
-  none_driven left inputs done (ReadFault file) count counts opened are fresh undriven =
-      accepted (λ job. NoneDriven (ReadFault file) job.names host now done.sources) (record { left = left; inputs = inputs; opened = opened; count = count; counts = counts; counts_are = are; fresh = fresh; undriven = undriven })
-  none_driven left inputs done (TooLarge file) count counts opened are fresh undriven =
-      accepted (λ job. NoneDriven (TooLarge file) job.names host now done.sources) (record { left = left; inputs = inputs; opened = opened; count = count; counts = counts; counts_are = are; fresh = fresh; undriven = undriven })
-  none_driven left inputs done (BadLine line) count counts opened are fresh undriven =
-      accepted (λ job. NoneDriven (BadLine line) job.names host now done.sources) (record { left = left; inputs = inputs; opened = opened; count = count; counts = counts; counts_are = are; fresh = fresh; undriven = undriven })
-  none_driven left inputs done (Judged verdict) count counts opened are fresh undriven = absurd undriven
-  none_driven left inputs done Memory count counts opened are fresh undriven =
-      inr (inr (accepted (λ job. NoneDriven Memory job.names host now done.sources) (record { left = left; inputs = inputs; opened = opened; count = count; counts = counts; counts_are = are; fresh = fresh; undriven = undriven })))
+  none_driven left inputs done BadWords rest count counts opened left_are are fresh undriven = absurd undriven
+  none_driven left inputs done (OpenFault file) rest count counts opened left_are are fresh undriven = absurd undriven
+  none_driven left inputs done (ReadFault file) rest count counts opened left_are are fresh undriven =
+      accepted (λ job. NoneDriven (ReadFault file) job.names host now done.sources) (record { left = left; inputs = inputs; opened = opened; rest = rest; lefts_are = left_are; count = count; counts = counts; counts_are = are; fresh = fresh; undriven = undriven })
+  none_driven left inputs done (TooLarge file) rest count counts opened left_are are fresh undriven =
+      accepted (λ job. NoneDriven (TooLarge file) job.names host now done.sources) (record { left = left; inputs = inputs; opened = opened; rest = rest; lefts_are = left_are; count = count; counts = counts; counts_are = are; fresh = fresh; undriven = undriven })
+  none_driven left inputs done (BadLine line) rest count counts opened left_are are fresh undriven =
+      accepted (λ job. NoneDriven (BadLine line) job.names host now done.sources) (record { left = left; inputs = inputs; opened = opened; rest = rest; lefts_are = left_are; count = count; counts = counts; counts_are = are; fresh = fresh; undriven = undriven })
+  none_driven left inputs done (Judged verdict) rest count counts opened left_are are fresh undriven = absurd undriven
+  none_driven left inputs done Memory rest count counts opened left_are are fresh undriven =
+      inr (inr (accepted (λ job. NoneDriven Memory job.names host now done.sources) (record { left = left; inputs = inputs; opened = opened; rest = rest; lefts_are = left_are; count = count; counts = counts; counts_are = are; fresh = fresh; undriven = undriven })))
 
   -- all files were opened
   pub drove_opened : (left : Option (List ℕ)) (inputs : List (Option (List ℕ))) (zeros : List ℕ) (done : Done) → AreOpened job.names host mid (left ∷ inputs) zeros → CameOf job.sizes left inputs (outside mid wires tells) (outside now after tells) done
@@ -189,17 +189,17 @@ module _ {W : Type 0} (tells : W → WireTold) (task : Option Drive) (job : Driv
       record {
         finding = why.finding;
         concluded = concluded_since why.finding done opened.said opened.say_faults why.concluded;
-        refused = none_driven left inputs done why.finding why.count why.counts all why.counts_are why.fresh why.undriven;
+        refused = none_driven left inputs done why.finding why.rest why.count why.counts all why.lefts_are why.counts_are why.fresh why.undriven;
       })
     where
       all : AllOpened job.names host now left inputs done.sources
       all = record { between = mid; zeros = zeros; opened = opened; leaves = came.leaves; files = came.files ∙ ap (range_with_len 0) opened.as_many }
 
   -- one did not open
-  pub drove_unopened : (lefts : List (Option (List ℕ))) (finding : Finding) (done : Done) → FailsToOpen job.names host mid lefts (read_faults_of done.sources) → (finding ≡ OpenFault (length lefts)) ⊎ (finding ≡ Memory)
+  pub drove_unopened : (lefts : List (Option (List ℕ))) (finding : Finding) (done : Done) → FailsToOpen job.names host mid lefts (read_faults_of done.sources) → lefts_of done.sources ≡ lefts → (finding ≡ OpenFault (length lefts)) ⊎ (finding ≡ Memory)
       → LeavesFiles mid now → files_of done.sources ≡ range_with_len 0 (length lefts) → IsConcluded finding (outside mid wires tells) (outside now after tells) done
       → Drove task (outside host wires tells) (outside now after tells) done
-  drove_unopened lefts finding done fails is leaves files concluded = drove_by task (outside host wires tells) (outside now after tells) done
+  drove_unopened lefts finding done fails left_are is leaves files concluded = drove_by task (outside host wires tells) (outside now after tells) done
       (λ some. absurd (some concluded.ends))
       (λ none. record {
         finding = finding;
@@ -208,7 +208,7 @@ module _ {W : Type 0} (tells : W → WireTold) (task : Option Drive) (job : Driv
       })
     where
       one : OneFails (length lefts) job.names host now done.sources
-      one = record { between = mid; lefts = lefts; fails = fails; number = refl; leaves = leaves; files = files }
+      one = record { between = mid; lefts = lefts; fails = fails; lefts_are = left_are; number = refl; leaves = leaves; files = files }
 
       refused : (finding ≡ OpenFault (length lefts)) ⊎ (finding ≡ Memory) → WasRefused finding task (outside host wires tells) now done.sources
       refused (inl is) = subst (λ f. WasRefused f task (outside host wires tells) now done.sources) (sym is) (accepted (λ job. OneFails (length lefts) job.names host now done.sources) one)
@@ -218,11 +218,11 @@ module _ {W : Type 0} (tells : W → WireTold) (task : Option Drive) (job : Driv
       → IsConcluded finding (outside mid wires tells) (outside now after tells) (record before { sources = sources })
   with_sources finding before sources is = record { status = is.status; detail = is.detail; said = is.said; ends = is.ends; journal = is.journal; held = is.held; pool = is.pool; wires = is.wires }
 
-  pub drove_unopened_by : (lefts : List (Option (List ℕ))) (n : ℕ) (before : Done) (sources : List SourceTold) → FailsToOpen job.names host mid lefts (read_faults_of sources) → n ≡ length lefts → LeavesFiles mid now
+  pub drove_unopened_by : (lefts : List (Option (List ℕ))) (n : ℕ) (before : Done) (sources : List SourceTold) → FailsToOpen job.names host mid lefts (read_faults_of sources) → lefts_of sources ≡ lefts → n ≡ length lefts → LeavesFiles mid now
       → files_of sources ≡ range_with_len 0 (length lefts) → ConcludesBy (OpenFault n) (outside mid wires tells) (outside now after tells) before
       → Drove task (outside host wires tells) (outside now after tells) (record before { sources = sources })
-  drove_unopened_by lefts n before sources fails number leaves files concludes =
+  drove_unopened_by lefts n before sources fails left_are number leaves files concludes =
       ⊎_elim
-      (λ is. drove_unopened lefts (OpenFault n) (record before { sources = sources }) fails (inl (ap OpenFault number)) leaves files (with_sources (OpenFault n) before sources is))
-      (λ is. drove_unopened lefts Memory (record before { sources = sources }) fails (inr refl) leaves files (with_sources Memory before sources is))
+      (λ is. drove_unopened lefts (OpenFault n) (record before { sources = sources }) fails left_are (inl (ap OpenFault number)) leaves files (with_sources (OpenFault n) before sources is))
+      (λ is. drove_unopened lefts Memory (record before { sources = sources }) fails left_are (inr refl) leaves files (with_sources Memory before sources is))
       concludes

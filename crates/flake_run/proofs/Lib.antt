@@ -10,6 +10,7 @@ pub mod RanSaid
 pub mod RanComplete
 pub mod RanAll
 pub mod Stopped
+pub mod Unread
 pub mod Unopened
 pub mod Unserved
 pub mod Lines

@@ -1,12 +1,13 @@
 -- What a run says that served its files.
-use Rattle.std.proofs.Common.{◌≡◌, inl, inr, ℕ, List, ap, sym, ◌∙◌, subst}
+use Rattle.std.proofs.Common.{◌≡◌, inl, inr, ℕ, List, length, ap, sym, ◌∙◌, subst}
 use Rattle.flake_base.specs.Told.{HostTold, WireTold}
 use Rattle.flake_run.specs.Task.{Job, Task, shows_journal}
 use Rattle.flake_run.specs.Outside.{outside}
 use Rattle.flake_run.specs.Outcome.{Done}
 use Rattle.flake_run.specs.Said.{Said, Says, served_text, text_of}
 use Rattle.flake_run.specs.declared.outcome.Detail.{Detail}
-use Rattle.flake_run.proofs.Ran.{Ran, IsTask, IsServedStatus}
+use Rattle.flake_run.proofs.Ran.{Ran, IsTask, IsServedStatus, sessions_are}
+use Rattle.flake_run.proofs.RanUntouched.{no_ends}
 
 served_is : (status : ℕ) (detail : Detail) (served : List ℕ) → IsServedStatus status → text_of status detail served ≡ served
 served_is status detail served (inl is) = ap (λ s. text_of s detail served) is
@@ -21,4 +22,5 @@ ran_said tells task job host now wires after done t r = record {
   text = λ other. subst (λ text. Says text host now)
       (sym (served_is done.status done.detail (served_text (shows_journal task) done.journal done.ends done.held) r.statuses
       ∙ ap (λ asked. served_text (shows_journal asked) done.journal done.ends done.held) t.task_is)) (r.said other);
+  no_memory = λ six none. absurd (no_ends done.ends (length job.names) (sessions_are tells job host now wires after done r) t.some_names none);
 }

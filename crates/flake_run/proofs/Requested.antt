@@ -1,8 +1,9 @@
 -- What a run of generated requests comes to.
 use Rattle.std.proofs.Common.{◌≡◌, ◌≢◌, ◌⊎◌, ◌≤◌, inl, inr, ℕ, ◌+◌, Bool, true, false, List, [], ◌∷◌, Option, Some, None, length, map, arith, refl, sym, ap, ◌∙◌, subst}
-use Rattle.std.specs.Prelude.{max, take, IfSome}
+use Rattle.std.specs.Prelude.{max, suc, zero, take, slice_get, unwrap_or, if◌then◌else◌, IfSome}
 use Rattle.std.specs.Borrow.{Bor}
 use Rattle.std.specs.List.{AllByRecursion, list_any}
+use Rattle.std.proofs.lemmas.List.{length-append}
 use Rattle.std.proofs.lemmas.List.Elements.{All-from_recursion}
 use Rattle.std.proofs.lemmas.List.FromFn.{length-map-range_with_len}
 use Rattle.flake_base.specs.Causes.{Rose}
@@ -12,6 +13,7 @@ use Rattle.flake_base.specs.declared.session.End.{End}
 use Rattle.flake_base.specs.declared.session.End.TheVariants.{Clean, Memory}
 use Rattle.flake_base.specs.declared.session.SessionEnd.{SessionEnd}
 use Rattle.flake_model.specs.Run.{all_commands, missing_writes}
+use Rattle.flake_model.specs.Wire.{HasPut}
 use Rattle.pin_core.specs.declared.class.Held.{Held}
 use Rattle.pinned_pool.specs.Ends.{End as PoolEnd}
 use Rattle.transcript_model.specs.Sessions.{joined}
@@ -24,7 +26,7 @@ use Rattle.wire_told.proofs.Sent.{sends_told}
 use Rattle.gen_words.specs.declared.task.GenTask.{GenTask}
 use Rattle.serve_generated.specs.Generated.{IsTooMuch, RanGenerated, inputs_of, sizes_of}
 use Rattle.flake_run.specs.Causes.{highest_by, status_by, SomePutFailed}
-use Rattle.flake_run.specs.Generated.{AllInWhole, Generated, IsGeneratedRun, IsUngenerated, SentInWhole, replies_in, sum_of, total_line}
+use Rattle.flake_run.specs.Generated.{AllInWhole, Generated, IsGeneratedRun, IsUngenerated, SentInWhole, bytes_in, replies_in, sum_of, total_line}
 use Rattle.flake_run.specs.Outcome.{Done, ways}
 use Rattle.flake_run.specs.Outside.{Outside, LeavesFiles, outside}
 use Rattle.flake_run.specs.Refusals.{IsRefused}
@@ -37,39 +39,56 @@ use Rattle.flake_run.proofs.RanCauses.{put_or_said}
 use Rattle.flake_run.proofs.Served.{served_to, served_sessions, ends_count}
 
 -- the exact bytes of what was sent whole, by what a wire tells
-record IsExact (replies : Bool × List (List ℕ)) (shown : ℕ) (old new : Option (List ℕ)) : Type 0 where
+record IsExact (replies : Bool × List (List ℕ)) (shown : ℕ) (old new : WireTold) : Type 0 where
   bytes : ℕ
   sent : SentInWhole replies bytes old new
   shown_is : shown ≡ raised 0 bytes
 
-record AreExact (replies : List (Bool × List (List ℕ))) (shown : List ℕ) (olds news : List (Option (List ℕ))) : Type 0 where
+record AreExact (replies : List (Bool × List (List ℕ))) (shown : List ℕ) (olds news : List WireTold) : Type 0 where
   counts : List ℕ
   wholes : AllInWhole replies counts olds news
   sums : raised 0 (sum_of shown) ≡ raised 0 (sum_of counts)
+
+-- the bytes of one text more
+one_more : (texts : List (List ℕ)) (whole : ℕ) → bytes_in (suc whole) texts ≡ bytes_in whole texts + length (unwrap_or (slice_get texts whole) [])
+one_more [] zero = refl
+one_more [] (suc whole) = refl
+one_more (text ∷ texts) zero = omega (arith, length-append text [])
+one_more (text ∷ texts) (suc whole) =
+    omega (arith, one_more texts whole, length-append text (joined (take (suc whole) texts)), length-append text (joined (take whole texts)))
+
+-- whole texts were put, and a front of the next one behind them
+put_between : (failed : Bool) (whole : ℕ) (texts : List (List ℕ)) (old mid new : ℕ) → HasPut false (bytes_in whole texts) old mid → HasPut failed (length (if failed then unwrap_or (slice_get texts whole) [] else [])) mid new
+    → (raised old (bytes_in whole texts) ≤ raised new 0) × (raised new 0 ≤ raised old (bytes_in (suc whole) texts))
+put_between false whole texts old mid new before behind = (omega (arith, before, behind), omega (arith, before, behind, one_more texts whole))
+put_between true whole texts old mid new before behind = (omega (arith, before, behind.0), omega (arith, before, behind.0, behind.1, one_more texts whole))
 
 sums_more : (count n shown sum : ℕ) → shown ≡ raised 0 n → raised 0 count ≡ raised 0 sum → raised 0 (shown + count) ≡ raised 0 (n + sum)
 sums_more count n shown sum is rest = omega (arith, is, rest)
 
 module _ {W : Type 0} (put_may : W → Bor (List ℕ) → (W × Bool) → Type 0) (flush_may : W → (W × Bool) → Type 0) (told : W → WireTold) (says : AreTold put_may flush_may told) where
-  whole_told : (replies : Bool × List (List ℕ)) (shown : ℕ) (old new : W) → SentWhole put_may flush_may replies.0 replies.1 shown old new → IsExact replies shown (told old).sent (told new).sent
-  whole_told replies shown old new is = record {
-    bytes = length (joined (take is.whole replies.1));
+  whole_told : (replies : Bool × List (List ℕ)) (shown : ℕ) (old new : W) → SentWhole put_may flush_may replies.0 replies.1 shown old new → IsExact replies shown (told old) (told new)
+  whole_told replies shown old new is = let before = sends_told put_may flush_may told says false _ old is.grew.middle is.grew.before in
+  let behind = sends_told put_may flush_may told says replies.0 _ is.grew.middle new is.grew.behind in
+  record {
+    bytes = bytes_in is.whole replies.1;
     sent = record {
       whole = is.whole;
       are_whole = is.are_whole;
       grew = record {
         middle = (told is.grew.middle).sent;
-        before = (sends_told put_may flush_may told says false _ old is.grew.middle is.grew.before).sent;
-        behind = (sends_told put_may flush_may told says replies.0 _ is.grew.middle new is.grew.behind).sent;
+        before = before.sent;
+        behind = behind.sent;
       };
       bytes_are = refl;
+      put = put_between replies.0 is.whole replies.1 (told old).bytes (told is.grew.middle).bytes (told new).bytes before.bytes behind.bytes;
     };
     shown_is = is.bytes_are;
   }
 
   all_told : (replies : List (Bool × List (List ℕ))) (shown : List ℕ) (olds news : List W) → AllWhole put_may flush_may replies shown olds news
-      → AreExact replies shown (map (λ w. (told w).sent) olds) (map (λ w. (told w).sent) news)
-  all_told [] shown olds news is = record { counts = []; wholes = (refl, ap (map (λ w. (told w).sent)) is.1); sums = ap (λ ns. raised 0 (sum_of ns)) is.0 }
+      → AreExact replies shown (map told olds) (map told news)
+  all_told [] shown olds news is = record { counts = []; wholes = (refl, ap (map told) is.1); sums = ap (λ ns. raised 0 (sum_of ns)) is.0 }
   all_told (replies ∷ more) [] olds news is = absurd is
   all_told (replies ∷ more) (count ∷ shown) [] news is = absurd is
   all_told (replies ∷ more) (count ∷ shown) (old ∷ olds) [] is = absurd is
@@ -92,7 +111,7 @@ module _ {W : Type 0} (put_may : W → Bor (List ℕ) → (W × Bool) → Type 0
         commands = λ memory. ap all_commands same ∙ ran.commands memory;
         none_missing = λ memory. ap (λ ss. missing_writes ss journal) same ∙ ran.none_missing memory;
         counts = exact.counts;
-        wholes = subst (λ ss. AllInWhole (all_replies ss journal) exact.counts (map (λ w. (told w).sent) olds) (map (λ w. (told w).sent) news)) (sym same) exact.wholes;
+        wholes = subst (λ ss. AllInWhole (all_replies ss journal) exact.counts (map told olds) (map told news)) (sym same) exact.wholes;
         sums = exact.sums;
       }
 
@@ -128,6 +147,7 @@ module _ {W : Type 0} (task : Option GenTask) (before after : Outside W) (done :
     statuses = inr (inl r.status);
     served = λ some. absurd (some r.ends);
     some = λ status. absurd (not_one done.status r.status status);
+    by_end = λ some. absurd (some r.ends);
     wires = λ none. r.wires;
     journal = λ none. r.journal;
     pool = λ none. (r.pool, r.held);
@@ -141,6 +161,7 @@ module _ {W : Type 0} (task : Option GenTask) (before after : Outside W) (done :
     written = λ zero. absurd (omega (arith, zero, r.status));
     whole = is_whole task un;
     said = λ one. r.said;
+    no_memory = λ six. absurd (omega (arith, six, r.status));
   }
     where
       not_one : (status : ℕ) → status ≡ 1 → (status ≡ 0) ⊎ (status ≡ 5) → ⊥
@@ -160,6 +181,7 @@ module _ {W : Type 0} (task : Option GenTask) (before after : Outside W) (done :
     statuses = inr (inr (inr r.status));
     served = λ some. absurd (some r.ends);
     some = λ status. absurd (not_six done.status r.status status);
+    by_end = λ some. absurd (some r.ends);
     wires = λ none. r.wires;
     journal = λ none. r.journal;
     pool = λ none. (r.pool, r.held);
@@ -173,6 +195,7 @@ module _ {W : Type 0} (task : Option GenTask) (before after : Outside W) (done :
     written = λ zero. absurd (omega (arith, zero, r.status));
     whole = is_whole task;
     said = λ one. absurd (omega (arith, one, r.status));
+    no_memory = λ six none. r.said;
   }
     where
       not_six : (status : ℕ) → status ≡ 6 → (status ≡ 0) ⊎ (status ≡ 5) → ⊥
@@ -213,7 +236,7 @@ pub answered_all : {W : Type 0} (task : GenTask) (tells : W → WireTold) (host 
     → Answered task tells host now wires after done → Generated (Some task) (outside host wires tells) (outside now after tells) done
 answered_all {W} task tells host now wires after done a = record {
   statuses = four a.reported.statuses;
-  served = λ some. record {
+  served = λ some. (not_refused, record {
     lefts = a.lefts;
     run = a.run.run.run;
     pool = a.pool;
@@ -232,8 +255,9 @@ answered_all {W} task tells host now wires after done a = record {
     counts = a.run.counts;
     wholes = a.run.wholes;
     said = λ six. subst (λ bytes. Says (total_line (replies_in done.ends) bytes done.held) host now) a.run.sums (a.reported.said six);
-  };
-  some = λ status. (there, tt);
+  });
+  some = λ status. there;
+  by_end = λ some five six. (a.reported.by_end five six).0;
   wires = λ none. absurd (there none);
   journal = λ none. absurd (there none);
   pool = λ none. absurd (there none);
@@ -251,6 +275,7 @@ answered_all {W} task tells host now wires after done a = record {
       (so.2, quiet so.1);
   whole = λ enough fits six says puts. is_zero says puts six (four a.reported.statuses);
   said = λ one. absurd (not_one (four a.reported.statuses) one);
+  no_memory = λ six none. absurd (there none);
 } where
   count : length done.ends ≡ task.sessions
   count = generated_count task a.lefts done.ends a.shown done.journal a.pool wires after tells a.run

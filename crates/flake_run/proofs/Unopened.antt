@@ -1,5 +1,5 @@
 -- What a run says of which a file did not open.
-use Rattle.std.proofs.Common.{◌≡◌, inl, inr, ℕ, suc, ◌==◌, if◌then◌else◌, List, [], Option, Some, IsSomeAnd, length, take, slice_get, arith, ap, sym, ◌∙◌, subst}
+use Rattle.std.proofs.Common.{◌≡◌, inl, inr, ℕ, suc, ◌==◌, if◌then◌else◌, List, [], Option, Some, IsSomeAnd, length, map, take, slice_get, arith, ap, sym, ◌∙◌, subst}
 use Rattle.std.specs.List.{range_with_len}
 use Rattle.std.proofs.lemmas.List.{length-take}
 use Rattle.std.proofs.lemmas.List.Elements.{recursion_from_All}
@@ -10,7 +10,7 @@ use Rattle.check_files.specs.Named.{AreOther, counted_times}
 use Rattle.flake_run.specs.Opening.{FailsToOpen}
 use Rattle.flake_run.specs.Task.{Job, Task}
 use Rattle.flake_run.specs.Outside.{outside}
-use Rattle.flake_run.specs.Outcome.{Done, SourceTold, files_of}
+use Rattle.flake_run.specs.Outcome.{Done, SourceTold, files_of, lefts_of, read_faults_of}
 use Rattle.flake_run.specs.Refusals.{IsRefused}
 use Rattle.flake_run.specs.Untouched.{Untouched}
 use Rattle.flake_run.specs.Causes.{Causes, OpenFailed}
@@ -20,6 +20,7 @@ use Rattle.flake_run.specs.declared.outcome.Detail.TheVariants.{File}
 use Rattle.flake_run.specs.declared.outcome.Refusal.TheVariants.{OpenFault}
 use Rattle.flake_run.proofs.Ran.{Clauses, IsTask, says_since}
 use Rattle.flake_run.proofs.Stopped.{not_served, not_written, not_refusable, at_place}
+use Rattle.flake_run.proofs.Unread.{distinct_front, none_read}
 
 -- the files in front were opened, the open of the next one failed, and that was said
 pub record Unopened {W : Type 0} (tells : W → WireTold) (job : Job) (host mid now : HostTold) (wires after : List W) (before : Done) (sources : List SourceTold) : Type 0 where
@@ -28,6 +29,8 @@ pub record Unopened {W : Type 0} (tells : W → WireTold) (job : Job) (host mid 
   pub fails : FailsToOpen job.names host mid lefts zeros
   pub refused : IsRefused (OpenFault (length sources)) (outside mid wires tells) (outside now after tells) before
   pub as_many : length lefts ≡ length sources
+  pub lefts_are : lefts_of sources ≡ lefts
+  pub faults_are : read_faults_of sources ≡ zeros
   pub files_are : files_of sources ≡ range_with_len 0 (length sources)
 
 module _ {W : Type 0} (tells : W → WireTold) (task : Task) (job : Job) (host mid now : HostTold) (wires after : List W) (before : Done) (sources : List SourceTold)
@@ -59,6 +62,9 @@ module _ {W : Type 0} (tells : W → WireTold) (task : Task) (job : Job) (host m
     wires = λ none. u.refused.wires;
     journal = λ none. u.refused.journal;
     pool = λ none. (u.refused.pool, u.refused.held);
+    unread = λ none. none_read sources (take (length u.lefts) job.names) (u.faults_are ∙ u.fails.opened.fresh);
+    left = λ none distinct. u.lefts_are ∙ u.fails.opened.lefts_are (distinct_front (length u.lefts) job.names distinct)
+        ∙ ap (λ n. map host.holds (take n job.names)) u.as_many;
     refused = λ status. u.refused.ends;
     sources = λ one. absurd (omega (arith, one, two));
     holds = λ one. absurd (omega (arith, one, two));
@@ -100,6 +106,7 @@ module _ {W : Type 0} (tells : W → WireTold) (task : Task) (job : Job) (host m
   unopened_said = record {
     text = λ other. subst (λ text. Says text host now) (sym text_is)
         (says_since _ host mid now (u.fails.unopened.said ∙ u.fails.opened.said) (u.fails.unopened.say_faults ∙ u.fails.opened.say_faults) u.refused.said);
+    no_memory = λ six. absurd (omega (arith, six, two));
   }
 
   pub unopened_all : Clauses tells task host now wires after (record before { sources = sources })

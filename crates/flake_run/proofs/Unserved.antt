@@ -1,5 +1,5 @@
 -- What a run says that opened its files, and for which memory was wanting before the first read.
-use Rattle.std.proofs.Common.{◌≡◌, inl, inr, ℕ, suc, ◌==◌, if◌then◌else◌, List, Option, Some, length, take, arith, ap, sym, ◌∙◌, subst}
+use Rattle.std.proofs.Common.{◌≡◌, inl, inr, ℕ, suc, ◌==◌, if◌then◌else◌, List, Option, Some, length, map, take, arith, ap, sym, ◌∙◌, subst}
 use Rattle.std.specs.List.{range_with_len}
 use Rattle.std.proofs.lemmas.List.{take_all}
 use Rattle.flake_base.specs.Told.{HostTold, WireTold}
@@ -7,13 +7,14 @@ use Rattle.check_files.specs.Named.{AreOther, counted_times}
 use Rattle.flake_run.specs.Opening.{AreOpened}
 use Rattle.flake_run.specs.Task.{Job, Task}
 use Rattle.flake_run.specs.Outside.{outside}
-use Rattle.flake_run.specs.Outcome.{Done, SourceTold, files_of}
+use Rattle.flake_run.specs.Outcome.{Done, SourceTold, files_of, lefts_of, read_faults_of}
 use Rattle.flake_run.specs.Refusals.{IsRefused}
 use Rattle.flake_run.specs.Untouched.{Untouched}
 use Rattle.flake_run.specs.Causes.{Causes}
 use Rattle.flake_run.specs.declared.outcome.Refusal.TheVariants.{Memory}
-use Rattle.flake_run.proofs.Ran.{Clauses, IsTask, sources_are}
+use Rattle.flake_run.proofs.Ran.{Clauses, IsTask, says_since, sources_are}
 use Rattle.flake_run.proofs.Stopped.{not_served, not_written, not_refusable}
+use Rattle.flake_run.proofs.Unread.{none_read}
 
 -- the files were opened, and want of memory was said
 pub record Unserved {W : Type 0} (tells : W → WireTold) (job : Job) (host mid now : HostTold) (wires after : List W) (before : Done) (sources : List SourceTold) : Type 0 where
@@ -22,6 +23,8 @@ pub record Unserved {W : Type 0} (tells : W → WireTold) (job : Job) (host mid 
   pub opened : AreOpened job.names host mid lefts zeros
   pub refused : IsRefused Memory (outside mid wires tells) (outside now after tells) before
   pub files_are : files_of sources ≡ range_with_len 0 (length job.names)
+  pub lefts_are : lefts_of sources ≡ lefts
+  pub faults_are : read_faults_of sources ≡ zeros
 
 module _ {W : Type 0} (tells : W → WireTold) (task : Task) (job : Job) (host mid now : HostTold) (wires after : List W) (before : Done) (sources : List SourceTold)
     (t : IsTask task job wires) (u : Unserved tells job host mid now wires after before sources) where
@@ -39,6 +42,8 @@ module _ {W : Type 0} (tells : W → WireTold) (task : Task) (job : Job) (host m
     wires = λ none. u.refused.wires;
     journal = λ none. u.refused.journal;
     pool = λ none. (u.refused.pool, u.refused.held);
+    unread = λ none. none_read sources job.names (u.faults_are ∙ u.opened.fresh);
+    left = λ none distinct. u.lefts_are ∙ u.opened.lefts_are distinct ∙ ap (map host.holds) (sym all_names);
     refused = λ status. u.refused.ends;
     sources = λ one. absurd (omega (arith, one, six));
     holds = λ one. absurd (omega (arith, one, six));
@@ -73,5 +78,8 @@ module _ {W : Type 0} (tells : W → WireTold) (task : Task) (job : Job) (host m
     untouched = unserved_untouched;
     causes = unserved_causes;
     complete = record { whole = λ enough distinct nothing whole. absurd (nothing.memory six) };
-    said = record { text = λ other. absurd (other six) };
+    said = record {
+      text = λ other. absurd (other six);
+      no_memory = λ is none. says_since _ host mid now u.opened.said u.opened.say_faults u.refused.said;
+    };
   })

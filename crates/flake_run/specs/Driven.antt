@@ -105,11 +105,13 @@ pub record WasDriven {W : Type 0} (sizes : Sizes) (left : Option (List ℕ)) (in
   pub status : done.status ≡ status_with (failed || some_put_failed done.ends) (highest_by (ways done.ends))
   pub detail : done.detail ≡ Nothing
 
--- Nothing was driven, and it was said and answered why. No read of the inputs failed.
+-- Nothing was driven, and it was said and answered why. No input was read: no read of it failed, and all of it is left.
 pub record NotDriven {W : Type 0} (left : Option (List ℕ)) (inputs : List (Option (List ℕ))) (before after : Outside W)
     (done : Done) : Type 0 where
   pub finding : Finding
   pub concluded : IsConcluded finding before after done
+  pub rest : Option (List ℕ)
+  pub lefts_are : lefts_of done.sources ≡ rest ∷ inputs
   pub count : ℕ
   pub counts : List ℕ
   pub counts_are : read_faults_of done.sources ≡ count ∷ counts

@@ -14,7 +14,7 @@ use Rattle.flake_run.specs.Complete.{IsWhole}
 use Rattle.flake_run.specs.Driven.{WasDriven}
 use Rattle.flake_run.specs.DriveTask.{Drive, IsUndrivable, served_names}
 use Rattle.flake_run.specs.Opening.{AreOpened, FailsToOpen}
-use Rattle.flake_run.specs.Outcome.{Done, SourceTold, files_of, read_faults_of}
+use Rattle.flake_run.specs.Outcome.{Done, SourceTold, files_of, lefts_of, read_faults_of}
 use Rattle.flake_run.specs.Outside.{Outside, LeavesFiles}
 use Rattle.flake_run.specs.Schedule.{IsUndriven, schedule_limit}
 use Rattle.flake_run.specs.declared.finding.Finding.{Finding}
@@ -32,21 +32,25 @@ pub record AllOpened (names : List (List ℕ)) (old new : HostTold) (left : Opti
   pub leaves : LeavesFiles between new
   pub files : files_of sources ≡ range_with_len 0 (length names)
 
--- the files in front of the one of this number were opened, and its open failed
+-- The files in front of the one of this number were opened, and its open failed. The sources were not read since.
 pub record OneFails (file : ℕ) (names : List (List ℕ)) (old new : HostTold) (sources : List SourceTold) : Type 0 where
   pub between : HostTold
   pub lefts : List (Option (List ℕ))
   pub fails : FailsToOpen names old between lefts (read_faults_of sources)
+  pub lefts_are : lefts_of sources ≡ lefts
   pub number : length lefts ≡ file
   pub leaves : LeavesFiles between new
   pub files : files_of sources ≡ range_with_len 0 file
 
--- All files were opened, but the schedule's gave none. No read of the others failed.
+-- All files were opened, but the schedule's gave none. The others were not read: no read of them failed, and they have
+-- all of their inputs left.
 pub record NoneDriven (finding : Finding) (names : List (List ℕ)) (old new : HostTold) (sources : List SourceTold)
     : Type 0 where
   pub left : Option (List ℕ)
   pub inputs : List (Option (List ℕ))
   pub opened : AllOpened names old new left inputs sources
+  pub rest : Option (List ℕ)
+  pub lefts_are : lefts_of sources ≡ rest ∷ inputs
   pub count : ℕ
   pub counts : List ℕ
   pub counts_are : read_faults_of sources ≡ count ∷ counts

@@ -1,5 +1,5 @@
 -- What a run says to its host.
-use Rattle.std.specs.Prelude.{◌≢◌, ℕ, ◌==◌, ◌++◌, ◌∷◌, Bool, if◌then◌else◌, true, false, List, [], codes}
+use Rattle.std.specs.Prelude.{◌≡◌, ◌≢◌, ℕ, ◌==◌, ◌++◌, ◌∷◌, Bool, if◌then◌else◌, true, false, List, [], codes}
 use Rattle.std.specs.Fmt.{decimal}
 use Rattle.flake_base.specs.Causes.{Rose}
 use Rattle.flake_base.specs.Growth.{Grew}
@@ -48,3 +48,5 @@ pub record Said {W : Type 0} (task : Task) (before after : Outside W) (done : Do
   pub text : done.status ≢ 6
       → Says (text_of done.status done.detail (served_text (shows_journal task) done.journal done.ends done.held))
       before.host after.host
+  -- and where it was wanting before anything was served, that
+  pub no_memory : done.status ≡ 6 → done.ends ≡ [] → Says (said_line (codes "out of memory")) before.host after.host

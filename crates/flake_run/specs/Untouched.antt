@@ -1,9 +1,10 @@
 -- What a run leaves as it was.
-use Rattle.std.specs.Prelude.{◌≡◌, ◌⊎◌, ℕ, suc, ◌==◌, if◌then◌else◌, List, [], None, length, take}
-use Rattle.check_files.specs.Named.{AreOther, counted_times}
+use Rattle.std.specs.Prelude.{◌≡◌, ◌⊎◌, ℕ, suc, ◌==◌, if◌then◌else◌, List, [], None, length, map, take}
+use Rattle.std.specs.List.{AllByRecursion}
+use Rattle.check_files.specs.Named.{AreDistinct, AreOther, counted_times}
 use Rattle.flake_run.specs.Task.{Task, names_of}
 use Rattle.flake_run.specs.Outside.{Outside}
-use Rattle.flake_run.specs.Outcome.{Done, none_held}
+use Rattle.flake_run.specs.Outcome.{Done, lefts_of, none_held}
 
 -- the files that were opened
 abbrev pub opened_of : Task → Done → List (List ℕ)
@@ -20,6 +21,11 @@ pub record Untouched {W : Type 0} (task : Task) (before after : Outside W) (done
   pub journal : done.ends ≡ [] → done.journal ≡ []
   -- and no pool, of which anything is held
   pub pool : done.ends ≡ [] → (done.pool ≡ None) × (done.held ≡ none_held)
+  -- and no source that comes back was read: no read of it failed
+  pub unread : done.ends ≡ [] → AllByRecursion (λ source. source.faults ≡ 0) done.sources
+  -- and it has all that the host held under its name, where no name stands twice
+  pub left : done.ends ≡ [] → AreDistinct (names_of task)
+      → lefts_of done.sources ≡ map before.host.holds (opened_of task done)
   -- bad words and a file that doesn't open serve nothing
   pub refused : (done.status ≡ 1) ⊎ (done.status ≡ 2) → done.ends ≡ []
   -- no source comes of bad words

@@ -100,5 +100,5 @@ returns g c =
       enough = omega (arith, c.if-len-count.false, c.len.ensures, c.len-count.ensures, count, behind_one job.names, c.args.wires.ok.0, task.files.ok.0);
     })
     lefts c.len-in-Err-open_files.result (done so.status so.detail so.ends.items so.journal.items so.held so.pool []) told
-    (subst (FailsToOpen job.names host mid lefts) (sym numbers.faults_are) fails) (omega (arith, c.len-in-Err-open_files.ensures, as_many, sources.ok.0)) c.conclude-outcome.ensures.files
+    (subst (FailsToOpen job.names host mid lefts) (sym numbers.faults_are) fails) numbers.lefts (omega (arith, c.len-in-Err-open_files.ensures, as_many, sources.ok.0)) c.conclude-outcome.ensures.files
     (numbers.files ∙ ap (range_with_len 0) as_many) c.conclude-outcome.ensures.concluded

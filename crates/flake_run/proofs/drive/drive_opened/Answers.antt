@@ -64,11 +64,12 @@ returns-in-Err g c =
     let numbers = are_numbered (λ s. g.H.In.Source.left s) (λ s. g.H.In.Source.read_faults s) c.numbered_behind-in-Err.result.items (c.drive_by.new.schedule ∷ c.in-Err.sources.items) c.numbered_behind-in-Err.ensures.files c.numbered_behind-in-Err.ensures.sources in
     let before = done so.status so.detail so.ends.items so.journal.items so.held so.pool [] in
     came_refused (λ w. (g.dyn-1.0.entry w.vtable).1.wire_told w.value) c.args.sizes.now (g.H.In.Source.left c.args.schedule) inputs host host now c.args.wires.items so.wires.items c.in-Err.finding before told
-    (g.H.In.Source.read_faults back) (map (λ s. g.H.In.Source.read_faults s) c.in-Err.sources.items)
+    (g.H.In.Source.left back) (g.H.In.Source.read_faults back) (map (λ s. g.H.In.Source.read_faults s) c.in-Err.sources.items)
     (subst (λ m. ConcludesBy c.in-Err.finding (outside m c.args.wires.items (λ w. (g.dyn-1.0.entry w.vtable).1.wire_told w.value)) (outside now so.wires.items (λ w. (g.dyn-1.0.entry w.vtable).1.wire_told w.value)) before) said.silent
     (subst (λ ws. ConcludesBy c.in-Err.finding (outside (g.H.Host.host_told c.drive_by.new.host) ws (λ w. (g.dyn-1.0.entry w.vtable).1.wire_told w.value)) (outside now so.wires.items (λ w. (g.dyn-1.0.entry w.vtable).1.wire_told w.value)) before) said.back.1
     c.conclude-outcome.ensures.concluded))
     (subst (λ m. LeavesFiles m now) said.silent c.conclude-outcome.ensures.files)
+    (numbers.lefts ∙ ap (λ ss. g.H.In.Source.left back ∷ map (λ s. g.H.In.Source.left s) ss) said.back.0)
     numbers.faults_are
     (subst (λ ss. AllByRecursion (λ n. n ≡ 0) (map (λ s. g.H.In.Source.read_faults s) ss)) (sym said.back.0) (zeros_are (λ s. g.H.In.Source.read_faults s) c.args.sources.items c.args.sources.items c.requires.all_fresh))
     (subst (λ n. IsUndriven c.in-Err.finding (length inputs) (g.H.In.Source.left c.args.schedule) n (g.H.In.Source.read_faults back)) c.requires.fresh

@@ -57,6 +57,8 @@ returns-in-Err-open_files g c =
           (outside (g.H.Host.host_told refused.new.host) refused.result.wires.items (λ w. (g.dyn-1.0.entry w.vtable).1.wire_told w.value)) before) (sym number) refused.ensures;
       as_many = length-map sources.items (λ s. g.H.In.Source.left s) ∙ sym as_many;
       files_are = numbers.files ∙ ap (range_with_len 0) (sym as_many);
+      lefts_are = numbers.lefts;
+      faults_are = numbers.faults_are;
     }) in
     record { served = all.served; untouched = all.untouched; causes = all.causes; complete = all.complete; said = all.said }
 
@@ -168,5 +170,7 @@ returns g c =
         files = refused.ensures.files;
       };
       files_are = numbers.files ∙ ap (λ ss. range_with_len 0 (length ss)) c.in-Err-serve_sources.ensures.back.0 ∙ ap (range_with_len 0) as_many;
+      lefts_are = numbers.lefts ∙ ap (map (λ s. g.H.In.Source.left s)) c.in-Err-serve_sources.ensures.back.0;
+      faults_are = numbers.faults_are ∙ ap (map (λ s. g.H.In.Source.read_faults s)) c.in-Err-serve_sources.ensures.back.0;
     }) in
     record { served = all.served; untouched = all.untouched; causes = all.causes; complete = all.complete; said = all.said }
