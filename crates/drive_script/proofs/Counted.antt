@@ -1,6 +1,5 @@
 -- Calls and gathers give no reply back that a line counts.
-use Rattle.std.proofs.Common.{◌≡◌, ℕ, List, [], ◌++◌, length, ap, ◌∙◌}
-use Rattle.flake_base.specs.declared.segment.Seg.{Seg}
+use Rattle.std.proofs.Common.{◌≡◌, ℕ, [], ap, ◌∙◌}
 use Rattle.schedule_text.specs.declared.line.Line.TheVariants.{Call, Gather}
 use Rattle.transcript_model.specs.Lines.{line_of}
 use Rattle.session_pass.specs.Views.{SessionView}
