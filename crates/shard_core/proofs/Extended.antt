@@ -138,9 +138,12 @@ module _ (z : Sizes) (v : Frags) (bytes : List ℕ) (hs : List Holding) (payer p
       ap (λ (x : View). x.claims) left ∙ ap (λ (x : View). x.claims) reason.2 ∙ ap (λ (x : View). x.claims) came,
       ap (λ (x : View). x.looks) left ∙ ap (λ (x : View). x.looks) reason.2 ∙ ap (λ (x : View). x.looks) came,
     )
-    why (error.NoBuffer none) some reason = (reason.0, record {
-      looked = reason.1.looked;
-      found = λ b near class. omega (arith, reason.1.found b near class, ap (λ (x : View). looked_at b x.looks) left, ap (λ (x : View). looked_at b x.looks) came);
-      fewer = ⊎_elim (λ e. absurd (some e)) (λ more. omega (arith, reason.1.fewer, ap (λ (x : View). buffers_in z none.class x.claims) left, ap (λ (x : View). buffers_in z none.class x.claims) came, anew-few none.class more)) (none_or_some bytes);
-    })
+    why (error.NoBuffer none) some reason = (
+      reason.0,
+      record {
+        looked = reason.1.looked;
+        found = λ b near class. omega (arith, reason.1.found b near class, ap (λ (x : View). looked_at b x.looks) left, ap (λ (x : View). looked_at b x.looks) came);
+        fewer = ⊎_elim (λ e. absurd (some e)) (λ more. omega (arith, reason.1.fewer, ap (λ (x : View). buffers_in z none.class x.claims) left, ap (λ (x : View). buffers_in z none.class x.claims) came, anew-few none.class more)) (none_or_some bytes);
+      },
+    )
     why error.Memory some reason = reason
