@@ -1,1 +1,2 @@
 pub mod Drove
+pub use Rattle.drive_script.specs.Lanes

@@ -10,7 +10,7 @@ use Rattle.transcript_model.specs.Lines.{Said}
 use Rattle.transcript_model.specs.Sessions.{WireGrew, texts_of}
 use Rattle.transcript_model.specs.Transcript.{AreSent, IsToldBy, Run, terms_of}
 use Rattle.transcript_model.proofs.Sourced.{sourced}
-use Rattle.drive_script.specs.Lanes.{sends_by}
+use Rattle.drive_inputs.specs.Lanes.{sends_by}
 use Rattle.drive_told.specs.Together.{driven_run}
 use Rattle.drive_show.specs.Shown.{IsTranscriptTold, sent_on}
 use Rattle.wire_told.specs.Sent.{AreTold}

@@ -1,2 +1,3 @@
 pub mod Held
 pub mod Shown
+pub use Rattle.drive_inputs.specs.Drove

@@ -18,7 +18,7 @@ use Rattle.pin_core.specs.declared.class.Held.{Held}
 use Rattle.pinned_pool.specs.Ends.{End as PoolEnd}
 use Rattle.transcript_model.specs.Sessions.{joined}
 use Rattle.serve_model.specs.Replies.{all_replies}
-use Rattle.session_serve.specs.Whole.{SentWhole}
+use Rattle.serve_inputs.specs.Whole.{SentWhole}
 use Rattle.serve_house.specs.Opened.{pool_sizes}
 use Rattle.serve_house.specs.Ran.{AllWhole}
 use Rattle.wire_told.specs.Sent.{AreTold}

@@ -1,1 +1,2 @@
 pub mod Ran
+pub use Rattle.session_serve.specs.Whole
