@@ -3,7 +3,5 @@
 
 mod store;
 mod table;
-#[cfg(test)]
-mod tests;
 
 pub use store::{PartAnswer, SHARDS, Store};

@@ -6,8 +6,6 @@ mod error;
 mod file;
 mod named;
 mod opening;
-#[cfg(test)]
-mod tests;
 mod verdict;
 mod whole;
 

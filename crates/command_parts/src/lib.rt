@@ -8,8 +8,6 @@ mod need;
 mod op;
 mod options;
 mod tested;
-#[cfg(test)]
-mod tests;
 
 pub use command::Command;
 pub use op::Op;

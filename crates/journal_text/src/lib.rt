@@ -8,8 +8,6 @@ mod laws;
 mod lines;
 mod numbers;
 mod reading;
-#[cfg(test)]
-mod tests;
 mod writing;
 
 pub use error::JournalError;

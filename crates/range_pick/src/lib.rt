@@ -6,8 +6,6 @@ mod pieces;
 mod ranges;
 mod signed;
 mod spans;
-#[cfg(test)]
-mod tests;
 
 pub use pieces::{Piece, Pieces};
 pub use ranges::span;

@@ -5,8 +5,6 @@ mod errors;
 mod lines;
 mod reply;
 mod sizes;
-#[cfg(test)]
-mod tests;
 mod texts;
 
 pub use errors::error_text;

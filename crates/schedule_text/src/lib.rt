@@ -5,8 +5,6 @@ mod error;
 pub mod laws;
 mod line;
 mod reading;
-#[cfg(test)]
-mod tests;
 
 pub use error::ScheduleError;
 pub use line::{Line, Schedule};

@@ -4,8 +4,6 @@
 mod hash;
 mod part;
 mod setting;
-#[cfg(test)]
-mod tests;
 
 pub use hash::shard_of;
 pub use part::{Part, PartOp, VALUE_LIMIT};

@@ -1,7 +1,25 @@
-//! Tests of requests from bytes, and of replies that are judged by a journal, by public items.
+//! Tests of what reads, judges and writes texts: requests, commands, journals, schedules and replies, by public items.
 #![tactic(auto)]
 
 #[cfg(test)]
+mod commands;
+#[cfg(test)]
+mod files;
+#[cfg(test)]
+mod journals;
+#[cfg(test)]
+mod pumps;
+#[cfg(test)]
+mod ranges;
+#[cfg(test)]
 mod requests;
+#[cfg(test)]
+mod schedules;
+#[cfg(test)]
+mod shards;
+#[cfg(test)]
+mod stored;
+#[cfg(test)]
+mod texts;
 #[cfg(test)]
 mod verdicts;

@@ -1,4 +1,4 @@
-use crate::{NotInteger, Piece, Pieces, Span, read_signed, span};
+use range_pick::{NotInteger, Piece, Pieces, Span, read_signed, span};
 use std::process::Abort;
 use std::test::Fail;
 

@@ -1,4 +1,4 @@
-use crate::{PartOp, Setting, When, shard_of};
+use shard_part::{PartOp, Setting, When, shard_of};
 use std::process::Abort;
 
 /// A key of bytes from the whole range.

@@ -1,4 +1,4 @@
-use crate::{PartAnswer, Store};
+use byte_store::{PartAnswer, Store};
 use flake_base::Memory;
 use shard_part::{Part, PartOp, VALUE_LIMIT};
 use std::alloc::Global;

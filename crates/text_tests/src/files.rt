@@ -1,4 +1,4 @@
-use crate::{CheckError, File, check_files, check_named, read_whole};
+use check_files::{CheckError, File, check_files, check_named, read_whole};
 use flake_base::{Bytes, Fails, Files, MemoryHost, MemorySource};
 use replay_check::Verdict;
 use std::alloc::Global;

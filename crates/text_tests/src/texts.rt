@@ -1,5 +1,5 @@
-use crate::{Items, Reply, error_text, line, put_text, text};
 use flake_base::{Bytes, ErrorKind};
+use resp_text::{Items, Reply, error_text, line, put_text, text};
 use std::alloc::Global;
 use std::process::Abort;
 use std::test::Fail;

@@ -1,5 +1,6 @@
-use crate::{JournalError, journal_text, read_journal};
 use flake_base::{Entry, Journal, Sequence};
+use journal_text::{JournalError, journal_text, read_journal};
+use std::alloc::Global;
 use std::test::Fail;
 
 fn entry(session: u16, call: u32, part: u16) -> Entry {
@@ -69,54 +70,43 @@ fn what_was_read_is_written_again(rt: HostRuntime) -> Result<(), Fail> {
     Ok(())
 }
 
-static BAD_LINES: [(&[u8], u64); 41] = [
-    (b"", 1),
-    (b"\n", 1),
-    (b"\nshards 8\n", 1),
-    (b"shards", 1),
-    (b"shards \n", 1),
-    (b"shards 0\n", 1),
-    (b"shards 17\n", 1),
-    (b"shards 08\n", 1),
-    (b"shards 8 \n", 1),
-    (b"shards  8\n", 1),
-    (b" shards 8\n", 1),
-    (b"shards\t8\n", 1),
-    (b"shards 8\r\n", 1),
-    (b"Shards 8\n", 1),
-    (b"shards +8\n", 1),
-    (b"shards 18446744073709551617\n", 1),
-    (b"4 0 0 0\n", 1),
-    (b"shards 8\n\n", 2),
-    (b"shards 8\nshards 8\n", 2),
-    (b"shards 8\n8 0 0 0\n", 2),
-    (b"shards 8\n16 0 0 0\n", 2),
-    (b"shards 8\n4 16 0 0\n", 2),
-    (b"shards 8\n4 0 4294967296 0\n", 2),
-    (b"shards 8\n4 0 18446744073709551616 0\n", 2),
-    (b"shards 8\n4 0 0 64\n", 2),
-    (b"shards 8\n4 0 0\n", 2),
-    (b"shards 8\n4 0 0 \n", 2),
-    (b"shards 8\n4 0 0 0 0\n", 2),
-    (b"shards 8\n04 0 0 0\n", 2),
-    (b"shards 8\n4 00 0 0\n", 2),
-    (b"shards 8\n4 0 01 0\n", 2),
-    (b"shards 8\n4 0 0 00\n", 2),
-    (b"shards 8\n4 0 0 -1\n", 2),
-    (b"shards 8\n4\t0 0 0\n", 2),
-    (b"shards 8\n4  0 0 0\n", 2),
-    (b"shards 8\n 4 0 0 0\n", 2),
-    (b"shards 8\n4 0 0 0 \n", 2),
-    (b"shards 8\n4 0 0 0\r\n", 2),
-    (b"shards 8\n4 0 0 a\n", 2),
-    (b"shards 8\n5 0 0 0\n4 0 0 0\n", 3),
-    (b"shards 8\n4 0 0 0\n4 0 1 0\n\n3 0 2 0\n", 4),
+/// Texts whose first line is bad, and those whose second is; `/` is between two.
+static BAD_LINES: [(u64, &str); 4] = [
+    (
+        1,
+        "/\n/\nshards 8\n/shards/shards \n/shards 0\n/shards 17\n/shards 08\n/shards 8 \n/shards  8\n/ shards 8\n/\
+         shards\t8\n/shards 8\r\n/Shards 8\n/shards +8\n/shards 18446744073709551617\n/4 0 0 0\n",
+    ),
+    (
+        2,
+        "shards 8\n\n/shards 8\nshards 8\n/shards 8\n8 0 0 0\n/shards 8\n16 0 0 0\n/shards 8\n4 16 0 0\n/\
+         shards 8\n4 0 4294967296 0\n/shards 8\n4 0 18446744073709551616 0\n/shards 8\n4 0 0 64\n/\
+         shards 8\n4 0 0\n/shards 8\n4 0 0 \n/shards 8\n4 0 0 0 0\n/shards 8\n04 0 0 0\n/shards 8\n4 00 0 0\n/\
+         shards 8\n4 0 01 0\n/shards 8\n4 0 0 00\n/shards 8\n4 0 0 -1\n/shards 8\n4\t0 0 0\n/\
+         shards 8\n4  0 0 0\n/shards 8\n 4 0 0 0\n/shards 8\n4 0 0 0 \n/shards 8\n4 0 0 0\r\n/\
+         shards 8\n4 0 0 a\n",
+    ),
+    (3, "shards 8\n5 0 0 0\n4 0 0 0\n"),
+    (4, "shards 8\n4 0 0 0\n4 0 1 0\n\n3 0 2 0\n"),
 ];
+
+// Which line is bad. It has no clauses, so that no assertion carries those of `read_journal`.
+fn bad_line(alloc: Global, text: &[u8]) -> Option<u64> {
+    match read_journal(alloc, text) {
+        Err(JournalError::BadLine { line }) => Some(line),
+        _ => None,
+    }
+}
 
 #[test]
 fn bad_lines_are_named(rt: HostRuntime) {
-    for (text, line) in &BAD_LINES {
-        let read = read_journal(rt.alloc(), *text).map(|journal| journal.len());
-        assert_eq!(rt; read, Err(JournalError::BadLine { line: *line }));
+    for (line, texts) in &BAD_LINES {
+        for text in texts.split('/') {
+            assert_eq!(rt;
+                bad_line(rt.alloc(), text.as_bytes()),
+                Some(*line),
+                "{text}"
+            );
+        }
     }
 }
