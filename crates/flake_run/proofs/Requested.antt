@@ -1,6 +1,6 @@
 -- What a run of generated requests comes to.
 use Rattle.std.proofs.Common.{◌≡◌, ◌≢◌, ◌⊎◌, ◌≤◌, inl, inr, ℕ, ◌+◌, Bool, true, false, List, [], ◌∷◌, Option, Some, None, length, map, arith, refl, sym, ap, ◌∙◌, subst}
-use Rattle.std.specs.Prelude.{max, take, IfSome}
+use Rattle.std.specs.Prelude.{max, IfSome}
 use Rattle.std.specs.Borrow.{Bor}
 use Rattle.std.specs.List.{AllByRecursion, list_any}
 use Rattle.std.proofs.lemmas.List.Elements.{All-from_recursion}
@@ -14,7 +14,6 @@ use Rattle.flake_base.specs.declared.session.SessionEnd.{SessionEnd}
 use Rattle.flake_model.specs.Run.{all_commands, missing_writes}
 use Rattle.pin_core.specs.declared.class.Held.{Held}
 use Rattle.pinned_pool.specs.Ends.{End as PoolEnd}
-use Rattle.transcript_model.specs.Sessions.{joined}
 use Rattle.serve_model.specs.Replies.{all_replies}
 use Rattle.session_serve.specs.Whole.{SentWhole}
 use Rattle.serve_house.specs.Opened.{pool_sizes}
@@ -24,7 +23,7 @@ use Rattle.wire_told.proofs.Sent.{sends_told}
 use Rattle.gen_words.specs.declared.task.GenTask.{GenTask}
 use Rattle.serve_generated.specs.Generated.{IsTooMuch, RanGenerated, inputs_of, sizes_of}
 use Rattle.flake_run.specs.Causes.{highest_by, status_by, SomePutFailed}
-use Rattle.flake_run.specs.Generated.{AllInWhole, Generated, IsGeneratedRun, IsUngenerated, SentInWhole, replies_in, sum_of, total_line}
+use Rattle.flake_run.specs.Generated.{AllInWhole, Generated, IsGeneratedRun, IsUngenerated, SentInWhole, bytes_in, replies_in, sum_of, total_line}
 use Rattle.flake_run.specs.Outcome.{Done, ways}
 use Rattle.flake_run.specs.Outside.{Outside, LeavesFiles, outside}
 use Rattle.flake_run.specs.Refusals.{IsRefused}
@@ -32,17 +31,18 @@ use Rattle.flake_run.specs.Said.{Says}
 use Rattle.flake_run.specs.declared.outcome.Detail.TheVariants.{Nothing}
 use Rattle.flake_run.specs.declared.outcome.Refusal.{Refusal}
 use Rattle.flake_run.specs.declared.outcome.Refusal.TheVariants.{BadWords, Memory as NoMemory}
+use Rattle.flake_run.proofs.Between.{put_between}
 use Rattle.flake_run.proofs.Highest.{any_failed, none_failed, none_is_six}
 use Rattle.flake_run.proofs.RanCauses.{put_or_said}
 use Rattle.flake_run.proofs.Served.{served_to, served_sessions, ends_count}
 
 -- the exact bytes of what was sent whole, by what a wire tells
-record IsExact (replies : Bool × List (List ℕ)) (shown : ℕ) (old new : Option (List ℕ)) : Type 0 where
+record IsExact (replies : Bool × List (List ℕ)) (shown : ℕ) (old new : WireTold) : Type 0 where
   bytes : ℕ
   sent : SentInWhole replies bytes old new
   shown_is : shown ≡ raised 0 bytes
 
-record AreExact (replies : List (Bool × List (List ℕ))) (shown : List ℕ) (olds news : List (Option (List ℕ))) : Type 0 where
+record AreExact (replies : List (Bool × List (List ℕ))) (shown : List ℕ) (olds news : List WireTold) : Type 0 where
   counts : List ℕ
   wholes : AllInWhole replies counts olds news
   sums : raised 0 (sum_of shown) ≡ raised 0 (sum_of counts)
@@ -51,25 +51,29 @@ sums_more : (count n shown sum : ℕ) → shown ≡ raised 0 n → raised 0 coun
 sums_more count n shown sum is rest = omega (arith, is, rest)
 
 module _ {W : Type 0} (put_may : W → Bor (List ℕ) → (W × Bool) → Type 0) (flush_may : W → (W × Bool) → Type 0) (told : W → WireTold) (says : AreTold put_may flush_may told) where
-  whole_told : (replies : Bool × List (List ℕ)) (shown : ℕ) (old new : W) → SentWhole put_may flush_may replies.0 replies.1 shown old new → IsExact replies shown (told old).sent (told new).sent
-  whole_told replies shown old new is = record {
-    bytes = length (joined (take is.whole replies.1));
-    sent = record {
-      whole = is.whole;
-      are_whole = is.are_whole;
-      grew = record {
-        middle = (told is.grew.middle).sent;
-        before = (sends_told put_may flush_may told says false _ old is.grew.middle is.grew.before).sent;
-        behind = (sends_told put_may flush_may told says replies.0 _ is.grew.middle new is.grew.behind).sent;
-      };
-      bytes_are = refl;
-    };
-    shown_is = is.bytes_are;
-  }
+  whole_told : (replies : Bool × List (List ℕ)) (shown : ℕ) (old new : W) → SentWhole put_may flush_may replies.0 replies.1 shown old new → IsExact replies shown (told old) (told new)
+  whole_told replies shown old new is =
+      let before = sends_told put_may flush_may told says false _ old is.grew.middle is.grew.before in
+      let behind = sends_told put_may flush_may told says replies.0 _ is.grew.middle new is.grew.behind in
+      record {
+        bytes = bytes_in is.whole replies.1;
+        sent = record {
+          whole = is.whole;
+          are_whole = is.are_whole;
+          grew = record {
+            middle = (told is.grew.middle).sent;
+            before = before.sent;
+            behind = behind.sent;
+          };
+          bytes_are = refl;
+          put = put_between replies.0 is.whole replies.1 (told old).bytes (told is.grew.middle).bytes (told new).bytes before.bytes behind.bytes;
+        };
+        shown_is = is.bytes_are;
+      }
 
   all_told : (replies : List (Bool × List (List ℕ))) (shown : List ℕ) (olds news : List W) → AllWhole put_may flush_may replies shown olds news
-      → AreExact replies shown (map (λ w. (told w).sent) olds) (map (λ w. (told w).sent) news)
-  all_told [] shown olds news is = record { counts = []; wholes = (refl, ap (map (λ w. (told w).sent)) is.1); sums = ap (λ ns. raised 0 (sum_of ns)) is.0 }
+      → AreExact replies shown (map told olds) (map told news)
+  all_told [] shown olds news is = record { counts = []; wholes = (refl, ap (map told) is.1); sums = ap (λ ns. raised 0 (sum_of ns)) is.0 }
   all_told (replies ∷ more) [] olds news is = absurd is
   all_told (replies ∷ more) (count ∷ shown) [] news is = absurd is
   all_told (replies ∷ more) (count ∷ shown) (old ∷ olds) [] is = absurd is
@@ -92,7 +96,7 @@ module _ {W : Type 0} (put_may : W → Bor (List ℕ) → (W × Bool) → Type 0
         commands = λ memory. ap all_commands same ∙ ran.commands memory;
         none_missing = λ memory. ap (λ ss. missing_writes ss journal) same ∙ ran.none_missing memory;
         counts = exact.counts;
-        wholes = subst (λ ss. AllInWhole (all_replies ss journal) exact.counts (map (λ w. (told w).sent) olds) (map (λ w. (told w).sent) news)) (sym same) exact.wholes;
+        wholes = subst (λ ss. AllInWhole (all_replies ss journal) exact.counts (map told olds) (map told news)) (sym same) exact.wholes;
         sums = exact.sums;
       }
 
@@ -217,26 +221,29 @@ pub answered_all : {W : Type 0} (task : GenTask) (tells : W → WireTold) (host 
     → Answered task tells host now wires after done → Generated (Some task) (outside host wires tells) (outside now after tells) done
 answered_all {W} task tells host now wires after done a = record {
   statuses = four a.reported.statuses;
-  served = λ some. (not_refused, record {
-    lefts = a.lefts;
-    run = a.run.run.run;
-    pool = a.pool;
-    pool_is = a.pool_is;
-    shows = a.run.run.counted;
-    held = a.held;
-    ways = a.run.ways;
-    commands = a.run.commands;
-    none_missing = a.run.none_missing;
-    bytes = a.run.run.bytes;
-    flushed = a.run.run.flushed;
-    faults = a.run.run.faults;
-    others = a.run.run.others;
-    sessions = count;
-    shards = a.shards;
-    counts = a.run.counts;
-    wholes = a.run.wholes;
-    said = λ six. subst (λ bytes. Says (total_line (replies_in done.ends) bytes done.held) host now) a.run.sums (a.reported.said six);
-  });
+  served = λ some. (
+    not_refused,
+    record {
+      lefts = a.lefts;
+      run = a.run.run.run;
+      pool = a.pool;
+      pool_is = a.pool_is;
+      shows = a.run.run.counted;
+      held = a.held;
+      ways = a.run.ways;
+      commands = a.run.commands;
+      none_missing = a.run.none_missing;
+      bytes = a.run.run.bytes;
+      flushed = a.run.run.flushed;
+      faults = a.run.run.faults;
+      others = a.run.run.others;
+      sessions = count;
+      shards = a.shards;
+      counts = a.run.counts;
+      wholes = a.run.wholes;
+      said = λ six. subst (λ bytes. Says (total_line (replies_in done.ends) bytes done.held) host now) a.run.sums (a.reported.said six);
+    },
+  );
   some = λ status. there;
   by_end = λ some five six. (a.reported.by_end five six).0;
   wires = λ none. absurd (there none);

@@ -1,6 +1,6 @@
 -- What a run of generated requests does, and what it says.
 use Rattle.std.specs.Prelude.{◌≡◌, ◌≢◌, ◌⊎◌, ◌≤◌, ◌<◌, ℕ, ◌++◌, Bool, List, [], ◌∷◌, Option, Some, None, codes, length, map}
-use Rattle.std.specs.Prelude.{drop, take, All, IfSome, IsSomeAnd}
+use Rattle.std.specs.Prelude.{suc, drop, take, All, IfSome, IsSomeAnd}
 use Rattle.std.specs.Fmt.{decimal}
 use Rattle.std.specs.List.{AllByRecursion}
 use Rattle.view_sums.specs.Total.{total}
@@ -40,16 +40,23 @@ abbrev pub total_line : ℕ → ℕ → Held → List ℕ
 total_line replies bytes held = said_line (codes "requests " ++ decimal replies ++ codes " bytes " ++ decimal bytes
     ++ codes " held " ++ decimal held.small ++ 32 ∷ decimal held.large)
 
+-- the bytes of the first so many of some texts
+abbrev pub bytes_in : ℕ → List (List ℕ) → ℕ
+bytes_in count texts = length (joined (take count texts))
+
 -- So many of a session's replies were sent whole: all of them where its wire didn't fail; and where it did, a front of
--- the next one behind them, if there is one. They have so many bytes.
-pub record SentInWhole (replies : Bool × List (List ℕ)) (bytes : ℕ) (old new : Option (List ℕ)) : Type 0 where
+-- the next one behind them, if there is one. They have so many bytes. The wire counts at least these, whether it tells
+-- them or not, and at most those of one reply more.
+pub record SentInWhole (replies : Bool × List (List ℕ)) (bytes : ℕ) (old new : WireTold) : Type 0 where
   pub whole : ℕ
   pub are_whole : AreWhole replies.0 whole (length replies.1)
-  pub grew : WireGrew Grew replies.0 whole replies.1 old new
-  pub bytes_are : bytes ≡ length (joined (take whole replies.1))
+  pub grew : WireGrew Grew replies.0 whole replies.1 old.sent new.sent
+  pub bytes_are : bytes ≡ bytes_in whole replies.1
+  pub put : (raised old.bytes (bytes_in whole replies.1) ≤ raised new.bytes 0)
+      × (raised new.bytes 0 ≤ raised old.bytes (bytes_in (suc whole) replies.1))
 
 -- so it is of each session, and wires past them are as they were
-abbrev pub AllInWhole : List (Bool × List (List ℕ)) → List ℕ → List (Option (List ℕ)) → List (Option (List ℕ)) → Type 0
+abbrev pub AllInWhole : List (Bool × List (List ℕ)) → List ℕ → List WireTold → List WireTold → Type 0
 AllInWhole [] counts olds news = (counts ≡ []) × (news ≡ olds)
 AllInWhole (replies ∷ more) [] olds news = ⊥
 AllInWhole (replies ∷ more) (count ∷ counts) [] news = ⊥
@@ -65,8 +72,7 @@ pub record IsGeneratedRun {W : Type 0} (task : GenTask) (lefts : List (Option (L
   pub commands : HadMemory ends → all_commands run.run.sessions ≡ commands_in_all task
   pub none_missing : HadMemory ends → missing_writes run.run.sessions journal ≡ 0
   pub counts : List ℕ
-  pub wholes : AllInWhole (all_replies run.run.sessions journal) counts (map (λ wire. (told wire).sent) olds)
-      (map (λ wire. (told wire).sent) news)
+  pub wholes : AllInWhole (all_replies run.run.sessions journal) counts (map told olds) (map told news)
   pub sums : raised 0 (sum_of shown) ≡ raised 0 (sum_of counts)
 
 -- What a run says of generated requests that it served.
@@ -98,7 +104,8 @@ pub record ServedRequests {W : Type 0} (task : GenTask) (before after : Outside 
   pub shards : length done.journal ≡ 8
   -- so many bytes of each session were sent in whole replies
   pub counts : List ℕ
-  pub wholes : AllInWhole (all_replies run.sessions done.journal) counts (sent_by before) (sent_by after)
+  pub wholes : AllInWhole (all_replies run.sessions done.journal) counts (map before.tells before.wires)
+      (map after.tells after.wires)
   -- and that is said, unless memory was wanting: all replies, all these bytes, and what is held
   pub said : done.status ≢ 6 → Says (total_line (replies_in done.ends) (raised 0 (sum_of counts)) done.held)
       before.host after.host
