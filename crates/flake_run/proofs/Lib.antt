@@ -16,6 +16,7 @@ pub mod Unserved
 pub mod Lines
 pub mod Numbers
 pub mod Sums
+pub mod Between
 pub mod Requested
 pub mod CheckedFiles
 pub mod CheckedAll

@@ -1,9 +1,8 @@
 -- What a run of generated requests comes to.
 use Rattle.std.proofs.Common.{◌≡◌, ◌≢◌, ◌⊎◌, ◌≤◌, inl, inr, ℕ, ◌+◌, Bool, true, false, List, [], ◌∷◌, Option, Some, None, length, map, arith, refl, sym, ap, ◌∙◌, subst}
-use Rattle.std.specs.Prelude.{max, suc, zero, take, slice_get, unwrap_or, if◌then◌else◌, IfSome}
+use Rattle.std.specs.Prelude.{max, IfSome}
 use Rattle.std.specs.Borrow.{Bor}
 use Rattle.std.specs.List.{AllByRecursion, list_any}
-use Rattle.std.proofs.lemmas.List.{length-append}
 use Rattle.std.proofs.lemmas.List.Elements.{All-from_recursion}
 use Rattle.std.proofs.lemmas.List.FromFn.{length-map-range_with_len}
 use Rattle.flake_base.specs.Causes.{Rose}
@@ -13,10 +12,8 @@ use Rattle.flake_base.specs.declared.session.End.{End}
 use Rattle.flake_base.specs.declared.session.End.TheVariants.{Clean, Memory}
 use Rattle.flake_base.specs.declared.session.SessionEnd.{SessionEnd}
 use Rattle.flake_model.specs.Run.{all_commands, missing_writes}
-use Rattle.flake_model.specs.Wire.{HasPut}
 use Rattle.pin_core.specs.declared.class.Held.{Held}
 use Rattle.pinned_pool.specs.Ends.{End as PoolEnd}
-use Rattle.transcript_model.specs.Sessions.{joined}
 use Rattle.serve_model.specs.Replies.{all_replies}
 use Rattle.serve_inputs.specs.Whole.{SentWhole}
 use Rattle.serve_house.specs.Opened.{pool_sizes}
@@ -34,6 +31,7 @@ use Rattle.flake_run.specs.Said.{Says}
 use Rattle.flake_run.specs.declared.outcome.Detail.TheVariants.{Nothing}
 use Rattle.flake_run.specs.declared.outcome.Refusal.{Refusal}
 use Rattle.flake_run.specs.declared.outcome.Refusal.TheVariants.{BadWords, Memory as NoMemory}
+use Rattle.flake_run.proofs.Between.{put_between}
 use Rattle.flake_run.proofs.Highest.{any_failed, none_failed, none_is_six}
 use Rattle.flake_run.proofs.RanCauses.{put_or_said}
 use Rattle.flake_run.proofs.Served.{served_to, served_sessions, ends_count}
@@ -49,42 +47,29 @@ record AreExact (replies : List (Bool × List (List ℕ))) (shown : List ℕ) (o
   wholes : AllInWhole replies counts olds news
   sums : raised 0 (sum_of shown) ≡ raised 0 (sum_of counts)
 
--- the bytes of one text more
-one_more : (texts : List (List ℕ)) (whole : ℕ) → bytes_in (suc whole) texts ≡ bytes_in whole texts + length (unwrap_or (slice_get texts whole) [])
-one_more [] zero = refl
-one_more [] (suc whole) = refl
-one_more (text ∷ texts) zero = omega (arith, length-append text [])
-one_more (text ∷ texts) (suc whole) =
-    omega (arith, one_more texts whole, length-append text (joined (take (suc whole) texts)), length-append text (joined (take whole texts)))
-
--- whole texts were put, and a front of the next one behind them
-put_between : (failed : Bool) (whole : ℕ) (texts : List (List ℕ)) (old mid new : ℕ) → HasPut false (bytes_in whole texts) old mid → HasPut failed (length (if failed then unwrap_or (slice_get texts whole) [] else [])) mid new
-    → (raised old (bytes_in whole texts) ≤ raised new 0) × (raised new 0 ≤ raised old (bytes_in (suc whole) texts))
-put_between false whole texts old mid new before behind = (omega (arith, before, behind), omega (arith, before, behind, one_more texts whole))
-put_between true whole texts old mid new before behind = (omega (arith, before, behind.0), omega (arith, before, behind.0, behind.1, one_more texts whole))
-
 sums_more : (count n shown sum : ℕ) → shown ≡ raised 0 n → raised 0 count ≡ raised 0 sum → raised 0 (shown + count) ≡ raised 0 (n + sum)
 sums_more count n shown sum is rest = omega (arith, is, rest)
 
 module _ {W : Type 0} (put_may : W → Bor (List ℕ) → (W × Bool) → Type 0) (flush_may : W → (W × Bool) → Type 0) (told : W → WireTold) (says : AreTold put_may flush_may told) where
   whole_told : (replies : Bool × List (List ℕ)) (shown : ℕ) (old new : W) → SentWhole put_may flush_may replies.0 replies.1 shown old new → IsExact replies shown (told old) (told new)
-  whole_told replies shown old new is = let before = sends_told put_may flush_may told says false _ old is.grew.middle is.grew.before in
-  let behind = sends_told put_may flush_may told says replies.0 _ is.grew.middle new is.grew.behind in
-  record {
-    bytes = bytes_in is.whole replies.1;
-    sent = record {
-      whole = is.whole;
-      are_whole = is.are_whole;
-      grew = record {
-        middle = (told is.grew.middle).sent;
-        before = before.sent;
-        behind = behind.sent;
-      };
-      bytes_are = refl;
-      put = put_between replies.0 is.whole replies.1 (told old).bytes (told is.grew.middle).bytes (told new).bytes before.bytes behind.bytes;
-    };
-    shown_is = is.bytes_are;
-  }
+  whole_told replies shown old new is =
+      let before = sends_told put_may flush_may told says false _ old is.grew.middle is.grew.before in
+      let behind = sends_told put_may flush_may told says replies.0 _ is.grew.middle new is.grew.behind in
+      record {
+        bytes = bytes_in is.whole replies.1;
+        sent = record {
+          whole = is.whole;
+          are_whole = is.are_whole;
+          grew = record {
+            middle = (told is.grew.middle).sent;
+            before = before.sent;
+            behind = behind.sent;
+          };
+          bytes_are = refl;
+          put = put_between replies.0 is.whole replies.1 (told old).bytes (told is.grew.middle).bytes (told new).bytes before.bytes behind.bytes;
+        };
+        shown_is = is.bytes_are;
+      }
 
   all_told : (replies : List (Bool × List (List ℕ))) (shown : List ℕ) (olds news : List W) → AllWhole put_may flush_may replies shown olds news
       → AreExact replies shown (map told olds) (map told news)
@@ -236,26 +221,29 @@ pub answered_all : {W : Type 0} (task : GenTask) (tells : W → WireTold) (host 
     → Answered task tells host now wires after done → Generated (Some task) (outside host wires tells) (outside now after tells) done
 answered_all {W} task tells host now wires after done a = record {
   statuses = four a.reported.statuses;
-  served = λ some. (not_refused, record {
-    lefts = a.lefts;
-    run = a.run.run.run;
-    pool = a.pool;
-    pool_is = a.pool_is;
-    shows = a.run.run.counted;
-    held = a.held;
-    ways = a.run.ways;
-    commands = a.run.commands;
-    none_missing = a.run.none_missing;
-    bytes = a.run.run.bytes;
-    flushed = a.run.run.flushed;
-    faults = a.run.run.faults;
-    others = a.run.run.others;
-    sessions = count;
-    shards = a.shards;
-    counts = a.run.counts;
-    wholes = a.run.wholes;
-    said = λ six. subst (λ bytes. Says (total_line (replies_in done.ends) bytes done.held) host now) a.run.sums (a.reported.said six);
-  });
+  served = λ some. (
+    not_refused,
+    record {
+      lefts = a.lefts;
+      run = a.run.run.run;
+      pool = a.pool;
+      pool_is = a.pool_is;
+      shows = a.run.run.counted;
+      held = a.held;
+      ways = a.run.ways;
+      commands = a.run.commands;
+      none_missing = a.run.none_missing;
+      bytes = a.run.run.bytes;
+      flushed = a.run.run.flushed;
+      faults = a.run.run.faults;
+      others = a.run.run.others;
+      sessions = count;
+      shards = a.shards;
+      counts = a.run.counts;
+      wholes = a.run.wholes;
+      said = λ six. subst (λ bytes. Says (total_line (replies_in done.ends) bytes done.held) host now) a.run.sums (a.reported.said six);
+    },
+  );
   some = λ status. there;
   by_end = λ some five six. (a.reported.by_end five six).0;
   wires = λ none. absurd (there none);
