@@ -5,8 +5,6 @@ mod again;
 mod ahead;
 mod host;
 mod source;
-#[cfg(test)]
-mod tests;
 mod unwritten;
 mod wire;
 
