@@ -11,7 +11,7 @@ mod told;
 mod written;
 
 use asked::{files_of, lines_of, numbers_of, said_of, sent_of, words_of};
-use flake_base::{Bytes, Fails, MemoryHost, MemoryWire, Wire};
+use flake_base::{Bytes, Fails, Files, MemoryHost, MemoryWire, Wire};
 use flake_run::run::run;
 use session_pass::NoGate;
 use std::alloc::Global;
@@ -67,29 +67,45 @@ fn wires_of(alloc: Global, count: u64, put_fails: Fails) -> Result<Vec<Box<dyn W
     Ok(wires)
 }
 
-// Has the reads of a file be so long at most, of which some fail.
-fn set_reads(alloc: Global, host: &mut MemoryHost, reads: &str) -> Result<(), Fail> {
-    let numbers = numbers_of(alloc, reads, "")?;
-    if let [file, step, failing @ ..] = numbers.as_slice() {
-        let mut fails = Fails::new(alloc);
-        for number in failing {
-            fails.push(*number)?;
-        }
-        let step = (*step as usize).max(1);
-        host.set_reads(*file as usize, step, fails);
+// A file is taken out of those of a case.
+fn take_file(files: &mut Vec<(String, Bytes)>, place: usize) -> Option<(String, Bytes)> {
+    if place < files.len() {
+        Some(files.remove(place))
+    } else {
+        None
     }
-    Ok(())
 }
 
+// A host that has this file before the others: its reads are so long at most, and these of them fail.
+fn reading_host(
+    alloc: Global,
+    first: (String, Bytes),
+    others: Vec<(String, Bytes)>,
+    step: u64,
+    reads: Fails,
+    fails: Fails,
+) -> Result<MemoryHost, Fail> {
+    let mut files = others;
+    files.insert(0, first)?;
+    let mut host = MemoryHost::new(alloc, Files::from_vec(files), SAY_ROOM, fails)?;
+    host.set_reads(0, (step as usize).max(1), reads);
+    Ok(host)
+}
+
+// The host of a case. At most one file has reads of its own, which then stands first: files are opened by their names.
 fn host_of(alloc: Global, case: &str) -> Result<MemoryHost, Fail> {
     let fails = numbers_of(alloc, case, "host fails ")?;
-    let mut host = MemoryHost::new(alloc, files_of(alloc, case)?, SAY_ROOM, fails)?;
-    for line in case.split('\n') {
-        if let Some(reads) = line.strip_prefix("reads ") {
-            set_reads(alloc, &mut host, reads)?;
+    let files = files_of(alloc, case)?;
+    if let [place, step, failing @ ..] = numbers_of(alloc, case, "reads ")?.as_slice() {
+        let mut files = files.into_vec();
+        let first = take_file(&mut files, *place as usize).ok_or("no such file")?;
+        let mut reads = Fails::new(alloc);
+        for number in failing {
+            reads.push(*number)?;
         }
+        return reading_host(alloc, first, files, *step, reads, fails);
     }
-    Ok(host)
+    Ok(MemoryHost::new(alloc, files, SAY_ROOM, fails)?)
 }
 
 // Runs what a case asks for.
