@@ -2,7 +2,5 @@
 #![tactic(auto)]
 
 mod steps;
-#[cfg(test)]
-mod tests;
 
 pub use steps::{MOST_PUT, flush_unless_failed, put_unless_failed};

@@ -4,8 +4,6 @@
 mod command;
 mod numbers;
 mod task;
-#[cfg(test)]
-mod tests;
 mod words;
 
 pub use task::GenTask;

@@ -301,6 +301,3 @@ impl PinState {
         Ok(Change::Given)
     }
 }
-
-#[cfg(test)]
-mod tests;

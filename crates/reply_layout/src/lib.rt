@@ -4,7 +4,5 @@
 
 pub mod laws;
 mod need;
-#[cfg(test)]
-mod tests;
 
 pub use need::Need;

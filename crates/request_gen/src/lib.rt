@@ -5,8 +5,6 @@ mod draws;
 mod input;
 pub mod laws;
 mod request;
-#[cfg(test)]
-mod tests;
 mod words;
 
 pub use draws::Draws;

@@ -7,8 +7,6 @@ mod drive;
 mod named;
 mod sizes;
 mod task;
-#[cfg(test)]
-mod tests;
 mod words;
 
 pub use check::{CheckTask, check_task};

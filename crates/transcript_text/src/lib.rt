@@ -3,8 +3,6 @@
 
 mod lines;
 mod parts;
-#[cfg(test)]
-mod tests;
 
 pub use lines::{
     at_end, dropped, nothing_posted, nothing_reaped, one_segment, posted, posted_front, reaped,

@@ -3,8 +3,6 @@
 
 mod framed;
 mod legacy;
-#[cfg(test)]
-mod tests;
 
 pub use framed::Framed;
 pub use legacy::{Legacy, Unsupported};

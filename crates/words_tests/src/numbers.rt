@@ -1,5 +1,6 @@
-use crate::{Draws, Key, Request, next_request, session_input};
+//! Requests that are generated from a number.
 use flake_base::{Bytes, Memory};
+use request_gen::{Draws, Key, Request, next_request, session_input};
 use std::alloc::Global;
 use std::test::Fail;
 

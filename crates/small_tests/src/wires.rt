@@ -1,5 +1,5 @@
 //! Puts and flushes on a wire that counts them.
-use crate::{flush_unless_failed, put_unless_failed};
+use any_wire::{flush_unless_failed, put_unless_failed};
 
 // How many bytes were put, and how often the wire was flushed.
 #[derive(Clone, Copy, Debug, PartialEq, Eq, Drop)]
