@@ -10,7 +10,7 @@ joined-append (x ∷ xs) ys =
     ap (λ t. bytes_put x ++ t) (joined-append xs ys) ∙ sym (append_assoc (bytes_put x) (joined xs) (joined ys))
 
 module _ {W : Type 0} (put_may : W → Bor (List ℕ) → (W × Bool) → Type 0) (flush_may : W → (W × Bool) → Type 0) where
-  chain-on : (xs ys : List Step) (failed between now : Bool) (w v end : W) → Chain put_may flush_may xs failed between w v
+  pub chain-on : (xs ys : List Step) (failed between now : Bool) (w v end : W) → Chain put_may flush_may xs failed between w v
       → Chain put_may flush_may ys between now v end → Chain put_may flush_may (xs ++ ys) failed now w end
   chain-on [] ys failed between now w v end a b =
       subst (λ f. Chain put_may flush_may ys f now w end) a.1 (subst (λ u. Chain put_may flush_may ys between now u end) a.0 b)

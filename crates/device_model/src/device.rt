@@ -3,6 +3,7 @@ ghost use Rattle.std.specs.Prelude.{◌≡◌, false, length};
 ghost use Rattle.tx_ring.specs.Shown.{closed_ring, closed_view, device_ring, device_view, completed, IsResting};
 ghost use Rattle.any_wire.specs.Sends.{Flushes};
 ghost use Rattle.device_model.specs.Devices.{Forwards, IfIdle, IfTaken, IsFound, PutsTexts};
+ghost use Rattle.device_model.specs.Pieces.{PutsPieces};
 
 use crate::gathered::Gathered;
 use crate::sending::send_frame;
@@ -69,6 +70,8 @@ impl<N: PoolName + Send> Device<N> {
         ensures found { IsFound result.1 self.new.failed self.old.end self.new.end }
         ensures put { IfTaken result.1 (PutsTexts (λ w p r. P.post put.now w p r) self.old.failed self.new.failed
             (completed self.old.end) (completed self.new.end) wire result.0) }
+        ensures pieces { IfTaken result.1 (PutsPieces (λ w p r. P.post put.now w p r) N.sizes self.old.failed
+            self.new.failed (completed self.old.end) (completed self.new.end) wire result.0) }
         ensures flushed { IfIdle result.1 (Flushes (λ w r. F.post flush.now w r) self.old.failed self.new.failed wire
             result.0) }
         ensures forwards { Forwards (λ w p r. P.post put.now w p r) (λ w r. F.post flush.now w r) self.old.failed

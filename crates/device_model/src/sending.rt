@@ -1,9 +1,11 @@
 // A reply's bytes, from the buffers to the wire.
-ghost use Rattle.std.specs.Prelude.{◌≡◌, ◌+◌, ◌<◌, ◌≤◌};
+ghost use Rattle.std.specs.Prelude.{◌≡◌, ◌+◌, ◌<◌, ◌≤◌, List, [], ◌∷◌};
 ghost use Rattle.tx_ring.specs.Jobs.{frame_of, segments};
 ghost use Rattle.reply_planner.specs.Parcels.{HasBytes};
 ghost use Rattle.reply_planner.specs.Places.{bytes_in, reading};
+ghost use Rattle.any_wire.specs.Sends.{Step, puts, Chain};
 ghost use Rattle.device_model.specs.Devices.{HasSegment, PutsText};
+ghost use Rattle.device_model.specs.Pieces.{AreCuts, AreCutsAt};
 
 use any_wire::{MOST_PUT, put_unless_failed};
 use flake_base::Seg;
@@ -23,6 +25,9 @@ pub(crate) fn send_frame<N: PoolName + Send, W: Drop, P: Fn(W, &[u8]) -> (W, boo
     requires job { segments job.old ≡ (frame_of job.old).segments }
     ensures job { job.new ≡ job.old }
     ensures sends { PutsText (λ w p r. P.post put.now w p r) failed result.1 (frame_of job.old).text wire result.0 }
+    ensures pieces { (steps : List Step)
+        × AreCutsAt (reading N.sizes (frame_of job.old).holds) steps (frame_of job.old).segments
+        × Chain (λ w p r. P.post put.now w p r) (λ w r. ⊥) steps failed result.1 wire result.0 }
 {
     let whole = job.frame();
     whole.is_parcel();
@@ -51,6 +56,9 @@ fn send_segment<N: PoolName, W: Drop, P: Fn(W, &[u8]) -> (W, bool)>(
     ensures parcel { parcel.new ≡ parcel.old }
     ensures sends { PutsText (λ w p r. P.post put.now w p r) failed result.1
         (reading N.sizes parcel.old.holds segment.address segment.len) wire result.0 }
+    ensures pieces { (steps : List Step)
+        × AreCuts steps (reading N.sizes parcel.old.holds segment.address segment.len)
+        × Chain (λ w p r. P.post put.now w p r) (λ w r. ⊥) steps failed result.1 wire result.0 }
 {
     parcel.is_parcel();
     let Some((buffer, from)) = pool.buffer_at(segment.address) else {
@@ -95,6 +103,8 @@ fn send_piece<N: PoolName, W: Drop, P: Fn(W, &[u8]) -> (W, bool)>(
     ensures parcel { parcel.new ≡ parcel.old }
     ensures sends { PutsText (λ w p r. P.post put.now w p r) failed result.1
         (bytes_in parcel.old.holds buffer from count) wire result.0 }
+    ensures piece { Chain (λ w p r. P.post put.now w p r) (λ w r. ⊥)
+        (puts (bytes_in parcel.old.holds buffer from count) ∷ []) failed result.1 wire result.0 }
 {
     parcel.is_parcel();
     if failed {

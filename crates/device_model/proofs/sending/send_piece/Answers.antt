@@ -1,7 +1,9 @@
 use Rattle.std.proofs.Common.{rules, ◌≡◌, length, true, false, refl, sym, ap, subst, arith}
+use Rattle.any_wire.specs.Sends.{Puts}
 use Rattle.any_wire.proofs.Sending.{sends-put, sends-same}
 use Rattle.reply_planner.specs.Places.{bytes_in}
 use Rattle.device_model.specs.Devices.{PutsText}
+use Rattle.device_model.proofs.Cutting.{chain-put}
 use Rattle.device_model.proofs.Puts.{run-length}
 use Rattle.device_model.proofs.sending.send_piece.Goals as goal
 
@@ -24,3 +26,17 @@ returns-clause-sends g c =
     (sends-same (λ w p r. goal.P-post g c.args.put.now w p r) (λ w r. ⊥) false c.put_unless_failed.result.1 c.load_bytes.new.room bytes c.args.wire c.put_unless_failed.result.0 read
     (sends-put (λ w p r. goal.P-post g c.args.put.now w p r) (λ w r. ⊥) false c.put_unless_failed.result.1 c.load_bytes.new.room c.args.wire c.put_unless_failed.result.0
     (omega (arith, ap length read, n, c.requires.count.0), omega (arith, ap length read, n, c.requires.count.1)) c.put_unless_failed.ensures))
+
+pub returns-then-failed-clause-piece : goal.returns-then-failed-clause-piece
+returns-then-failed-clause-piece g c =
+    let bytes = bytes_in c.args.parcel.now.holds c.args.buffer c.args.from c.args.count in
+    chain-put (λ w p r. goal.P-post g c.args.put.now w p r) c.args.failed true bytes c.args.wire c.args.wire
+    (subst (λ f. Puts (λ w p r. goal.P-post g c.args.put.now w p r) f true bytes c.args.wire c.args.wire) (sym c.if-failed.true) (refl, refl))
+
+pub returns-clause-piece : goal.returns-clause-piece
+returns-clause-piece g c =
+    let bytes = bytes_in c.args.parcel.now.holds c.args.buffer c.args.from c.args.count in
+    let read : c.load_bytes.new.room ≡ bytes = search rules in
+    chain-put (λ w p r. goal.P-post g c.args.put.now w p r) c.args.failed c.put_unless_failed.result.1 bytes c.args.wire c.put_unless_failed.result.0
+    (subst (λ f. Puts (λ w p r. goal.P-post g c.args.put.now w p r) f c.put_unless_failed.result.1 bytes c.args.wire c.put_unless_failed.result.0) (sym c.if-failed.false)
+    (subst (λ t. Puts (λ w p r. goal.P-post g c.args.put.now w p r) false c.put_unless_failed.result.1 t c.args.wire c.put_unless_failed.result.0) read c.put_unless_failed.ensures))

@@ -1,8 +1,11 @@
-use Rattle.std.proofs.Common.{◌+◌, sym, ap, ◌∙◌, subst, arith}
+use Rattle.std.proofs.Common.{◌+◌, ◌∷◌, ◌++◌, [], inl, inr, ⊎_elim, sym, ap, ◌∙◌, subst, arith}
+use Rattle.std.proofs.lemmas.Bool.{cases_lt}
+use Rattle.any_wire.specs.Sends.{puts, Chain}
 use Rattle.any_wire.proofs.Sending.{sends-on, sends-same}
 use Rattle.flake_base.specs.declared.segment.Seg.{Seg}
 use Rattle.reply_planner.specs.Parcels.{Sent, HasBytes}
 use Rattle.reply_planner.specs.Places.{place_of, bytes_in}
+use Rattle.device_model.proofs.Cutting.{whole-times, whole-more, pieces-more, chain-more}
 use Rattle.device_model.proofs.Puts.{bytes-more, segment-readable, segment-short, fits-in, run-there}
 use Rattle.device_model.proofs.sending.send_segment.Goals as goal
 
@@ -40,4 +43,24 @@ loop-done-preserved g c =
       sends = sends-same _ _ _ _ _ _ _ _ (bytes-more hs b from done n)
           (sends-on _ _ _ _ _ _ _ _ _ _ before.sends
           (sends-same _ _ _ _ _ _ _ _ (ap (λ (p : Sent). bytes_in p.holds b (from + done) n) before.parcel) c.send_piece-after.ensures.sends));
+      pieces =
+          let k = whole-times done c.args.segment.len before.whole c.loop-done-test.true in (
+            before.pieces.0 ++ puts (bytes_in hs b (from + done) n) ∷ [],
+            pieces-more g.N.PoolName.sizes c.args.parcel.now c.requires.segment.0 c.args.segment b from done n k.0 before.pieces.0
+                c.is_parcel.ensures c.requires.segment.1 c.in-Some.ensures.some k.1
+                (omega (arith, c.min-count.ensures, c.loop-done-test.true)) (omega (arith, c.min-count.ensures))
+                (omega (arith, c.min-count.ensures, c.loop-done-test.true)) before.pieces.1,
+            chain-more (λ w p r. goal.P-post g c.args.put.now w p r) before.pieces.0 (puts (bytes_in hs b (from + done) n) ∷ []) _ _ _ _ _ _
+                before.pieces.2
+                (subst
+                (λ (p : Sent). Chain (λ w q r. goal.P-post g c.args.put.now w q r) (λ w r. ⊥) (puts (bytes_in p.holds b (from + done) n) ∷ [])
+                c.loop-done.has_failed c.send_piece-after.result.1 c.loop-done.wire c.send_piece-after.result.0)
+                before.parcel c.send_piece-after.ensures.piece),
+          );
+      whole =
+          whole-more done c.args.segment.len n before.whole c.loop-done-test.true
+          (⊎_elim
+          (λ near. inr (omega (arith, c.min-count.ensures, near, c.loop-done-test.true)))
+          (λ far. inl (omega (arith, c.min-count.ensures, far, c.loop-done-test.true)))
+          (cases_lt (c.args.segment.len) (done + 512)));
     }

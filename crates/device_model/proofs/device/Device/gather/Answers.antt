@@ -26,3 +26,21 @@ returns-in-Empty-clause-forwards g c =
 pub returns-in-Closed-clause-forwards : goal.returns-in-Closed-clause-forwards
 returns-in-Closed-clause-forwards g c =
     forwards-none _ _ _ _ _ _ _ _ (ap (λ m. m.completed) c.in-Closed.ensures.closed.view) c.flush_unless_failed-wire-in-Closed.ensures
+
+pub returns-then-failed-clause-pieces : goal.returns-then-failed-clause-pieces
+returns-then-failed-clause-pieces g c = record {
+  reply = c.frame-in-Frame.result.now;
+  completed_is = search rules;
+  steps = c.send_frame-wire.ensures.pieces.0;
+  cuts = c.send_frame-wire.ensures.pieces.1;
+  chain = c.send_frame-wire.ensures.pieces.2;
+}
+
+pub returns-else-failed-clause-pieces : goal.returns-else-failed-clause-pieces
+returns-else-failed-clause-pieces g c = record {
+  reply = c.frame-in-Frame.result.now;
+  completed_is = search rules;
+  steps = c.send_frame-wire.ensures.pieces.0;
+  cuts = c.send_frame-wire.ensures.pieces.1;
+  chain = c.send_frame-wire.ensures.pieces.2;
+}
