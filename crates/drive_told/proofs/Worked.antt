@@ -17,7 +17,6 @@ use Rattle.pin_core.specs.declared.class.Class.{Class}
 use Rattle.pin_core.specs.declared.class.Class.TheVariants.{Small, Large}
 use Rattle.pinned_pool.specs.Classes.{buffers_in}
 use Rattle.pinned_pool.specs.Ends.{end_of}
-use Rattle.pinned_pool.specs.Moves.{joined}
 use Rattle.pinned_pool.specs.Views.{view}
 use Rattle.flake_model.specs.Deed.{places_at, AreApart, IsLegal}
 use Rattle.flake_model.specs.Fragments.{fragments_of}
@@ -45,7 +44,8 @@ use Rattle.transcript_model.proofs.Judge.{is_large}
 use Rattle.drive_told.specs.Closed.{WereClosed}
 use Rattle.drive_told.specs.Driven.{OneDriven, AreDriven, terms_by}
 use Rattle.drive_told.specs.Worked.{pool, books, place, set_run, get_run, set_claims, get_claims, one_of, both}
-use Rattle.drive_told.specs.Worked.{shard_pages, session_pages, shards, store, main, schedule, lines, WorkedDrive}
+use Rattle.drive_told.specs.Worked.{shard_pages, session_pages, shards, lists, store, main, last, schedule, lines}
+use Rattle.drive_told.specs.Worked.{WorkedDrive}
 use Rattle.drive_told.proofs.Joined.{together}
 
 at_most : (b : Bool) → cond b 1 0 ≤ 1
@@ -179,8 +179,7 @@ parts = record {
 no_looks : (b : ℕ) → 0 < 0 → ⊥
 no_looks b some = omega (arith, some)
 
-were : WereClosed books pool shards (map (λ (one : OneDriven (Option (List ℕ))). one.list) both) (journal_of shards)
-    main store (joined main store) (end_of pool (joined main store))
+were : WereClosed books pool shards lists (journal_of shards) main store last (end_of pool last)
 were = record {
   parts = parts;
   book = closed;
@@ -395,7 +394,7 @@ two_added : (some more : List ℕ) (weight : ℕ → ℕ)
     → total weight (some ++ more) ≡ 0 + (total weight some + (total weight more + 0))
 two_added some more weight = omega (arith, total-append weight some more)
 
-are : AreDriven Grew pool 1 1160 1 lines both (map (λ (one : OneDriven (Option (List ℕ))). one.list) both) main
+are : AreDriven Grew pool 1 1160 1 lines both lists main
 unfolding set_ran get_ran
 are = record {
   all = (
@@ -415,6 +414,10 @@ are = record {
 }
 
 pub worked_drive : WorkedDrive
-worked_drive =
-    together Grew books pool 1160 1 schedule lines both (None ∷ []) shards _ (journal_of shards) main store
-    (joined main store) _ refl are were
+worked_drive = record {
+  answers = refl;
+  driven = are;
+  closed = were;
+  have = together Grew books pool 1160 1 schedule lines both (None ∷ []) shards lists (journal_of shards) main store
+      last (end_of pool last) refl are were;
+}

@@ -1,6 +1,6 @@
 -- Two driven sessions over one shard, and a pool of one buffer besides their stages: the first sets a key, and its
 -- reply is gathered and given back; then the second gets the key, and its reply is gathered without a line.
-use Rattle.std.specs.Prelude.{ℕ, ◌*◌, false, List, [], ◌∷◌, ◌++◌, Option, Some, None, codes}
+use Rattle.std.specs.Prelude.{◌≡◌, ℕ, ◌*◌, false, List, [], ◌∷◌, ◌++◌, Option, Some, None, map, codes}
 use Rattle.std.specs.List.{range_with_len}
 use Rattle.flake_base.specs.Growth.{Grew}
 use Rattle.flake_base.specs.declared.session.End.TheVariants.{Left}
@@ -13,7 +13,7 @@ use Rattle.pinned_pool.specs.Moves.{joined}
 use Rattle.pinned_pool.specs.Views.{view}
 use Rattle.pinned_pool.specs.declared.view.View.{View}
 use Rattle.order_book.specs.Closed.{journal_of}
-use Rattle.order_book.specs.Pages.{Ranked, Page, page, ShardList, shown_shard}
+use Rattle.order_book.specs.Pages.{Ranked, Page, page, ShardList, SessionList, shown_shard}
 use Rattle.order_book.specs.declared.rule.Sizes as book_sizes
 use Rattle.call_model.specs.Outcomes.{Done, entry_at, deed_of}
 use Rattle.reply_layout.specs.Layout.{segment}
@@ -21,10 +21,11 @@ use Rattle.schedule_text.specs.declared.line.Line.{Line}
 use Rattle.schedule_text.specs.declared.line.Line.TheVariants.{Call, Gather, Reap}
 use Rattle.serve_model.specs.Runs.{Run, list_of}
 use Rattle.serve_model.specs.Worked.{setting, getting, key, bytes, set_input, get_input}
-use Rattle.transcript_model.specs.Lines.{Said, posted, sent, reaped}
+use Rattle.transcript_model.specs.Lines.{Said, posted, sent, reaped, line_of}
 use Rattle.transcript_model.specs.Whole.{stage_from}
 use Rattle.transcript_model.specs.Worked.{one}
-use Rattle.drive_told.specs.Driven.{OneDriven}
+use Rattle.drive_told.specs.Closed.{WereClosed}
+use Rattle.drive_told.specs.Driven.{OneDriven, AreDriven}
 use Rattle.drive_told.specs.Together.{HaveDriven}
 
 abbrev pub pool : pool_sizes.Sizes
@@ -110,12 +111,18 @@ session_pages = page 0 (set_deed ∷ []) ∷ page 1 (get_deed ∷ []) ∷ []
 abbrev pub shards : List ShardList
 shards = shown_shard (page 0 (set_deed ∷ get_deed ∷ [])) ∷ []
 
+abbrev pub lists : List SessionList
+lists = map (λ (driven : OneDriven (Option (List ℕ))). driven.list) both
+
 -- the pool: the shard's seat, and that with which the opening began, the sessions' in it
 abbrev pub store : View
 store = view (record { buffer = 256; front = 120 ∷ []; exclusive = false; pinned = false } ∷ []) 1 [] [] 0 []
 
 abbrev pub main : View
 main = view [] 3 (set_claims ++ get_claims) [] 0 []
+
+abbrev pub last : View
+last = joined main store
 
 abbrev pub schedule : List Line
 schedule = Call 0 ∷ Gather 0 ∷ Reap 0 ∷ Call 1 ∷ []
@@ -130,7 +137,10 @@ lines =
       event = posted 0 0 (segment 1114112 4 ∷ segment 1179648 1 ∷ segment 1114116 2 ∷ []) [];
     } ∷ []
 
--- with rings of 1,160 descriptors, and every stored piece where it lies; another wire is past them
-abbrev pub WorkedDrive : Type 0
-WorkedDrive =
-    HaveDriven Grew pool 1160 1 schedule lines both (None ∷ []) (journal_of shards) (end_of pool (joined main store))
+-- The layers can hand all of this up together, with rings of 1,160 descriptors, and every stored piece where it lies;
+-- and they were served as a whole, where another wire is past them.
+pub record WorkedDrive : Type 0 where
+  pub answers : map line_of lines ≡ schedule
+  pub driven : AreDriven Grew pool books.shards 1160 1 lines both lists main
+  pub closed : WereClosed books pool shards lists (journal_of shards) main store last (end_of pool last)
+  pub have : HaveDriven Grew pool 1160 1 schedule lines both (None ∷ []) (journal_of shards) (end_of pool last)

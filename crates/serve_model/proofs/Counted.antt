@@ -36,7 +36,7 @@ use Rattle.serve_model.specs.Shown.{fragments_by_class, IsCounted}
 use Rattle.serve_model.proofs.Counts.{sums_of, missed_whole, runs_none, none_in, weigh, counted_by, served_weight}
 use Rattle.serve_model.proofs.Counts.{Picks, pick}
 use Rattle.serve_model.proofs.Finals.{weigh_fragment}
-use Rattle.serve_model.proofs.Held.{held_at, loose_there, held_is, placed_total, left_total}
+use Rattle.serve_model.proofs.Held.{held_at, loose_there, held_is, held_most, placed_total, left_total}
 use Rattle.serve_model.proofs.Places.{each_at}
 use Rattle.serve_model.proofs.Ranges.{sum_from-total, one_in, class_of_range}
 use Rattle.serve_model.proofs.Served.{shards_long, sessions_long, told_at, answered, commands_same}
@@ -151,6 +151,10 @@ module _ (books : book_sizes.Sizes) (all : List SessionRun) (shards : List Shard
       record {
         held_small = held Small;
         held_large = held Large;
+        few = (
+          held_most (λ (weight : Holding → ℕ). total weight last.holds) 0 z.small,
+          held_most (λ (weight : Holding → ℕ). total weight last.holds) z.small z.large,
+        );
         claims = λ class. omega (arith, claimed class);
         missed = picks.picked;
         missed_are = picks.sum;

@@ -1,6 +1,6 @@
 -- What is held at the end: a buffer for each fragment of the final values.
-use Rattle.std.proofs.Common.{◌≡◌, ◌==◌, ℕ, zero, suc, ◌+◌, ◌≤◌, List, [], ◌∷◌, ◌++◌, if◌then◌else◌, map}
-use Rattle.std.proofs.Common.{refl, ap, sym, ◌∙◌, ne_eqb, arith}
+use Rattle.std.proofs.Common.{◌≡◌, ◌==◌, Bool, true, false, ℕ, zero, suc, ◌+◌, ◌≤◌, List, [], ◌∷◌, ◌++◌}
+use Rattle.std.proofs.Common.{if◌then◌else◌, map, refl, ap, sym, ◌∙◌, ne_eqb, arith}
 use Rattle.std.specs.List.{flat_map}
 use Rattle.std.specs.FinMap as finite
 use Rattle.view_sums.specs.Total.{total, same, Each, SameItems}
@@ -43,6 +43,16 @@ module _ (holds : List Holding) (kept : List (ℕ × ℕ)) (same_keys : SameItem
 zero_one : (t : ℕ) → t ≤ 1 → (if t == 0 then 0 else 1) ≡ t
 zero_one zero few = refl
 zero_one (suc t) few = rw (ne_eqb (suc t) 0 (λ is. omega arith)) (omega arith)
+
+at_most_one : (none : Bool) → (if none then 0 else 1) ≤ 1
+at_most_one true = omega arith
+at_most_one false = omega arith
+
+-- of n buffers no more than n have a hold
+pub held_most : (weighs : (Holding → ℕ) → ℕ) (first n : ℕ) → held_in weighs first n ≤ n
+held_most weighs first zero = omega arith
+held_most weighs first (suc n) =
+    omega (arith, at_most_one (weighs (at (first + n)) == 0), held_most weighs first n)
 
 -- buffers that have one hold at most are as many as their holds
 pub held_is : (weighs : (Holding → ℕ) → ℕ) (f : ℕ → ℕ) (first n : ℕ) → ((b : ℕ) → weighs (at b) ≡ f b)

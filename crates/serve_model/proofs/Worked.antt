@@ -23,14 +23,14 @@ use Rattle.flake_model.specs.Session.{IsSession}
 use Rattle.flake_model.specs.Store as part
 use Rattle.flake_model.specs.Store.{answer_on}
 use Rattle.order_book.specs.Closed.{AreClosed, journal_of}
-use Rattle.order_book.specs.Pages.{ShardList, shown_session}
+use Rattle.order_book.specs.Pages.{ShardList}
 use Rattle.call_model.specs.Stock.{AreParts, IsStock, fragments_left}
 use Rattle.serve_model.specs.Demand.{session_row}
 use Rattle.serve_model.specs.Handed.{SessionRun, session_in, runs_in, AreServed, IsLastSeat}
 use Rattle.serve_model.specs.Runs.{IsRun}
 use Rattle.serve_model.specs.Worked.{pool, books, key, bytes, place, setting, getting, setting_other, set_input}
-use Rattle.serve_model.specs.Worked.{get_input, other_input, all, shard_pages, session_pages, shards, store, seats}
-use Rattle.serve_model.specs.Worked.{last, olds, news, WorkedRun}
+use Rattle.serve_model.specs.Worked.{get_input, other_input, all, shard_pages, session_pages, shards, sessions, store}
+use Rattle.serve_model.specs.Worked.{seats, last, olds, news, WorkedRun}
 use Rattle.serve_model.proofs.Ran.{was_run}
 
 away : (a b : ℕ) → (a ≡ b → ⊥) → same a b ≡ 0
@@ -51,7 +51,7 @@ one_at_most (suc (suc (suc n))) =
     let m = suc (suc (suc n)) in
     omega (arith, away 0 m (λ is. omega arith), away 1 m (λ is. omega arith), away 2 m (λ is. omega arith))
 
-closed : AreClosed books shards (map shown_session session_pages)
+closed : AreClosed books shards sessions
 closed = record {
   shard_pages = shard_pages;
   session_pages = session_pages;
@@ -287,7 +287,7 @@ third_looks zero below = omega arith
 third_looks (suc b) below = absurd (let no : ⊥ = omega arith in no)
 
 served : AreServed pool 1 (map (λ (ran : SessionRun). ran.input) all) (map (λ (ran : SessionRun). ran.left) all)
-    (map (λ (ran : SessionRun). ran.run.end) all) (map shown_session session_pages) seats olds news
+    (map (λ (ran : SessionRun). ran.run.end) all) sessions seats olds news
 unfolding digits
 served = record {
   all = all;
@@ -347,6 +347,12 @@ is_last = record {
 }
 
 pub worked : WorkedRun
-worked =
-    (was_run books pool shards (map shown_session session_pages) (journal_of shards) store _ _ _ seats olds news closed
-    refl parts served last [] is_last).0
+worked = record {
+  closed = closed;
+  as_many = refl;
+  parts = parts;
+  served = served;
+  last_is = is_last;
+  run = (was_run books pool shards sessions (journal_of shards) store _ _ _ seats olds news closed refl parts served
+      last [] is_last).0;
+}

@@ -44,6 +44,8 @@ pub record IsCounted (z : Sizes) (sessions : List Session) (journal : List (List
   -- a buffer is held for each fragment of a final value
   pub held_small : end.small ≡ fragments_by_class Small (all_commands sessions) journal
   pub held_large : end.large ≡ fragments_by_class Large (all_commands sessions) journal
+  -- and no more than there are
+  pub few : (end.small ≤ z.small) × (end.large ≤ z.large)
   pub claims : (class : Class) → buffers_in z class end.seat.claims ≤ demand_of class (all_commands sessions)
   -- each write that is missing missed a buffer, of the one class or the other
   pub missed : Class → ℕ

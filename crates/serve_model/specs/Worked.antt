@@ -1,6 +1,6 @@
 -- A run of three sessions over one shard and a pool of one buffer: the first sets a key, the second gets it behind
 -- that, and the third sets another key and finds no buffer.
-use Rattle.std.specs.Prelude.{ℕ, List, [], ◌∷◌, Option, Some, None, false, map, codes}
+use Rattle.std.specs.Prelude.{◌≡◌, ℕ, List, [], ◌∷◌, Option, Some, None, false, length, map, codes}
 use Rattle.flake_base.specs.declared.session.End.TheVariants.{Clean}
 use Rattle.pin_core.specs.declared.sizes.Sizes as pool_sizes
 use Rattle.pinned_pool.specs.Ends.{end_of}
@@ -9,11 +9,12 @@ use Rattle.pinned_pool.specs.declared.view.View.{View}
 use Rattle.flake_model.specs.Command.{Command, set, get}
 use Rattle.flake_model.specs.Journal.{shard_of}
 use Rattle.flake_model.specs.Store as part
-use Rattle.order_book.specs.Closed.{journal_of}
-use Rattle.order_book.specs.Pages.{Ranked, Page, page, ShardList, shown_shard}
+use Rattle.order_book.specs.Closed.{AreClosed, journal_of}
+use Rattle.order_book.specs.Pages.{Ranked, Page, page, ShardList, SessionList, shown_shard, shown_session}
 use Rattle.order_book.specs.declared.rule.Sizes as book_sizes
 use Rattle.call_model.specs.Outcomes.{Done, Outcomes, entry_at, deed_of}
-use Rattle.serve_model.specs.Handed.{SessionRun}
+use Rattle.call_model.specs.Stock.{AreParts}
+use Rattle.serve_model.specs.Handed.{SessionRun, AreServed, IsLastSeat}
 use Rattle.serve_model.specs.Shown.{WasRun}
 
 abbrev pub pool : pool_sizes.Sizes
@@ -101,6 +102,9 @@ session_pages = page 0 (set_deed ∷ []) ∷ page 1 (get_deed ∷ []) ∷ page 2
 abbrev pub shards : List ShardList
 shards = map shown_shard shard_pages
 
+abbrev pub sessions : List SessionList
+sessions = map shown_session session_pages
+
 -- the pool: the shard's seat, those of the sessions, and all of them joined
 abbrev pub store : View
 store = view (record { buffer = 0; front = 120 ∷ []; exclusive = false; pinned = false } ∷ []) 1 [] [] 0 []
@@ -117,7 +121,13 @@ olds = Some [] ∷ Some [] ∷ Some [] ∷ []
 abbrev pub news : List (Option (List ℕ))
 news = Some (codes "+OK\r\n") ∷ Some (codes "$1\r\nx\r\n") ∷ Some (codes "-OOM no free buffer\r\n") ∷ []
 
-abbrev pub WorkedRun : Type 0
-WorkedRun =
-    WasRun pool (map (λ (ran : SessionRun). ran.input) all) (map (λ (ran : SessionRun). ran.left) all)
-    (map (λ (ran : SessionRun). ran.run.end) all) (journal_of shards) olds news (end_of pool last)
+-- The layers can hand all of this up together, and it is a whole run.
+pub record WorkedRun : Type 0 where
+  pub closed : AreClosed books shards sessions
+  pub as_many : length sessions ≡ books.sessions
+  pub parts : AreParts pool books.shards shards (journal_of shards) store
+  pub served : AreServed pool books.shards (map (λ (ran : SessionRun). ran.input) all)
+      (map (λ (ran : SessionRun). ran.left) all) (map (λ (ran : SessionRun). ran.run.end) all) sessions seats olds news
+  pub last_is : IsLastSeat store [] seats last
+  pub run : WasRun pool (map (λ (ran : SessionRun). ran.input) all) (map (λ (ran : SessionRun). ran.left) all)
+      (map (λ (ran : SessionRun). ran.run.end) all) (journal_of shards) olds news (end_of pool last)
