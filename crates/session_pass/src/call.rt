@@ -10,7 +10,7 @@ use crate::run::run;
 use crate::session::Session;
 use command_exec::{ExecError, Shop};
 use command_parts::Command;
-use flake_base::Segs;
+use flake_base::Seg;
 use order_book::BookName;
 use pinned_pool::PoolName;
 use std::sync::Wait;
@@ -33,8 +33,8 @@ impl<N: BookName, P: PoolName + Send> Session<N, P> {
         rt: &R,
         shop: &Shop<'_, N, P>,
         command: &Command,
-        sent: &mut Segs,
-        stored: &mut Segs,
+        sent: &mut Vec<Seg>,
+        stored: &mut Vec<Seg>,
     ) -> Result<Posted, CallError>
         requires few { length self.old.posted < 2 ^ 32 - 1 }
         ensures posted { IfOk result (λ posted. CallPosts P.sizes N.sizes.shards command.now self.old self.new
@@ -59,8 +59,8 @@ impl<N: BookName, P: PoolName + Send> Session<N, P> {
         rt: &R,
         shop: &Shop<'_, N, P>,
         command: &Command,
-        sent: &mut Segs,
-        stored: &mut Segs,
+        sent: &mut Vec<Seg>,
+        stored: &mut Vec<Seg>,
     ) -> Result<u32, ExecError>
         requires few { length self.old.posted < 2 ^ 32 - 1 }
         requires fits { Fits self.old.ring self.old.pass.stage (waiting self.old 0) (need_of command.now) }
