@@ -2,7 +2,7 @@
 ghost use Rattle.std.specs.Prelude.{◌≡◌, ◌-◌, ◌^◌, ◌<◌, true, length, Err, IfOk, IfErr, OnErr};
 ghost use Rattle.reply_layout.specs.Need.{need_of};
 ghost use Rattle.session_pass.specs.Calls.{CallPosts, CallRefused};
-ghost use Rattle.session_pass.specs.Refused.{WhyRefused};
+ghost use Rattle.session_pass.specs.Refused.{TellsNothing, WhyRefused};
 ghost use Rattle.session_pass.specs.Waiting.{waiting, Fits};
 
 use crate::error::CallError;
@@ -41,6 +41,8 @@ impl<N: BookName, P: PoolName + Send> Session<N, P> {
             posted.call posted.reaped sent.new.items stored.new.items) }
         ensures refused { IfErr result (λ error.
             WhyRefused P.sizes N.sizes.shards command.now self.old self.new error) }
+        ensures sent { IfErr result (λ error. TellsNothing error sent.old.items sent.new.items) }
+        ensures stored { IfErr result (λ error. TellsNothing error stored.old.items stored.new.items) }
         ensures stopped { self.old.stopped ≡ true → (result ≡ Err CallError.Memory) × (self.new ≡ self.old) }
     {
         if self.stopped {
