@@ -16,7 +16,7 @@ use crate::asking::Asking;
 use crate::happened::Happened;
 use crate::lane::Lane;
 use command_exec::Shop;
-use flake_base::{Segs, Source};
+use flake_base::{Seg, Source};
 use order_book::BookName;
 use pinned_pool::PoolName;
 use schedule_text::Line;
@@ -36,8 +36,8 @@ impl<N: BookName, P: PoolName + Send> Lane<N, P> {
         shop: &Shop<'_, N, P>,
         line: Line,
         asking: &mut Asking<S>,
-        sent: &mut Segs,
-        stored: &mut Segs,
+        sent: &mut Vec<Seg>,
+        stored: &mut Vec<Seg>,
         wire: W,
         put: &PUT,
         flush: &FLUSH,

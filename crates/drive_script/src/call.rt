@@ -17,7 +17,7 @@ use crate::asking::Asking;
 use crate::happened::Happened;
 use crate::lane::Lane;
 use command_exec::Shop;
-use flake_base::{Segs, Source};
+use flake_base::{Seg, Source};
 use order_book::BookName;
 use pinned_pool::PoolName;
 use session_pass::laws;
@@ -30,8 +30,8 @@ impl<N: BookName, P: PoolName + Send> Lane<N, P> {
         rt: &R,
         shop: &Shop<'_, N, P>,
         asking: &mut Asking<S>,
-        sent: &mut Segs,
-        stored: &mut Segs,
+        sent: &mut Vec<Seg>,
+        stored: &mut Vec<Seg>,
     ) -> Happened
         requires ring { device_ring self.old.device.end ≡ self.old.session.ring }
         requires small { Each (λ buffer. buffer < P.sizes.small) self.old.session.pass.stage }

@@ -15,7 +15,7 @@ use crate::asking::Asking;
 use crate::happened::Happened;
 use crate::lane::Lane;
 use command_exec::Shop;
-use flake_base::{Segs, Source};
+use flake_base::{Seg, Source};
 use order_book::BookName;
 use pinned_pool::{Pool, PoolName};
 use reply_planner::Parcel;
@@ -42,8 +42,8 @@ impl<N: BookName, P: PoolName + Send, S: Source, W: Drop> Driving<N, P, S, W> {
         rt: &R,
         shop: &Shop<'_, N, P>,
         line: Line,
-        sent: &mut Segs,
-        stored: &mut Segs,
+        sent: &mut Vec<Seg>,
+        stored: &mut Vec<Seg>,
         put: &PUT,
         flush: &FLUSH,
     ) -> Happened

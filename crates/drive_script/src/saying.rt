@@ -8,7 +8,7 @@ ghost use Rattle.drive_script.specs.Says.{Says, text_room};
 
 use crate::happened::Happened;
 use crate::telling::tell;
-use flake_base::{Host, Memory, Seg, Segs};
+use flake_base::{Host, Memory, Seg};
 use std::alloc::Global;
 use transcript_text as line;
 
@@ -23,8 +23,8 @@ const TEXT_ROOM: usize = 172_763;
 /// Room for one line.
 #[derive(Drop)]
 pub struct LineRoom {
-    pub sent: Segs,
-    pub stored: Segs,
+    pub sent: Vec<Seg>,
+    pub stored: Vec<Seg>,
     pub text: Vec<u8>,
 }
 
@@ -33,8 +33,8 @@ impl LineRoom {
         ensures { IfOk result (λ room. text_room ≤ vec_capacity room.text) }
     {
         Ok(LineRoom {
-            sent: Segs::new(alloc),
-            stored: Segs::new(alloc),
+            sent: Vec::new(alloc),
+            stored: Vec::new(alloc),
             text: Vec::with_capacity(alloc, TEXT_ROOM)?,
         })
     }

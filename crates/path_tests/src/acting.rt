@@ -5,7 +5,7 @@ use super::house::{House, close, open_house};
 use command_exec::Shop;
 use command_parts::Command;
 use device_model::{Device, Gathered};
-use flake_base::{Memory, MemoryWire, Segs, Sequence, Wire};
+use flake_base::{Memory, MemoryWire, Seg, Wire};
 use order_book::{BookBlank, BookName};
 use pinned_pool::{Pool, PoolBlank, PoolName};
 use reply_planner::Parcel;
@@ -42,15 +42,15 @@ fn flush(wire: MemoryWire) -> (MemoryWire, bool) {
 // Lists that a call tells of.
 #[derive(Drop)]
 struct Lists {
-    sent: Segs,
-    stored: Segs,
+    sent: Vec<Seg>,
+    stored: Vec<Seg>,
 }
 
 impl Lists {
     fn new(alloc: Global) -> Lists {
         Lists {
-            sent: Sequence::new(alloc),
-            stored: Sequence::new(alloc),
+            sent: Vec::new(alloc),
+            stored: Vec::new(alloc),
         }
     }
 }
@@ -86,8 +86,8 @@ fn reap_once<N: BookName, P: PoolName + Send>(
     }
 }
 
-fn tell_places(text: &mut String, places: &Segs) -> Result<(), Memory> {
-    for place in places.iter() {
+fn tell_places(text: &mut String, places: &[Seg]) -> Result<(), Memory> {
+    for place in places {
         write!(text, " {}:{}", place.address, place.len)?;
     }
     Ok(())
@@ -105,10 +105,10 @@ fn tell_call(
                 write!(text, "reaped {} ", posted.reaped)?;
             }
             text.push_str("send")?;
-            tell_places(text, &lists.sent)?;
+            tell_places(text, lists.sent.as_slice())?;
             if !lists.stored.is_empty() {
                 text.push_str(" store")?;
-                tell_places(text, &lists.stored)?;
+                tell_places(text, lists.stored.as_slice())?;
             }
         }
         Err(CallError::RingFull { need, room }) => write!(text, "ring {need} {room}")?,

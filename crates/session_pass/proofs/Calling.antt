@@ -1,5 +1,6 @@
 -- A call, behind the reaps that made room for it.
-use Rattle.std.proofs.Common.{◌≡◌, ℕ, ◌+◌, ◌≤◌, List, [], ◌∷◌, ◌++◌, length, true, sym, refl, ap, ◌∙◌, subst, append_assoc, append-nil, length-append, arith}
+use Rattle.std.proofs.Common.{◌≡◌, ℕ, ◌+◌, ◌≤◌, ⊎_elim, List, [], ◌∷◌, ◌++◌, length, true, sym, refl, ap, ◌∙◌, subst, append_assoc, append-nil, length-append, arith}
+use Rattle.std.proofs.lemmas.Bool.{cases_lt}
 use Rattle.flake_base.specs.declared.segment.Seg.{Seg}
 use Rattle.flake_model.specs.Command.{Command, parts}
 use Rattle.pin_core.specs.declared.class.Class.{Class}
@@ -19,7 +20,8 @@ use Rattle.call_model.specs.Outcomes.{Outcomes, call_deeds}
 use Rattle.session_pass.specs.Views.{SessionView}
 use Rattle.session_pass.specs.Waiting.{waiting, room_left, free_of, Fits}
 use Rattle.session_pass.specs.Calls.{CallPosts, CallRefused, KeepsAll}
-use Rattle.session_pass.specs.Refused.{HasReaped, MakesRoom}
+use Rattle.session_pass.specs.Refused.{HasReaped, MakesRoom, TellsNothing}
+use Rattle.session_pass.specs.declared.error.CallError.{CallError}
 use Rattle.session_pass.proofs.Nothing.{not_begun}
 use Rattle.session_pass.proofs.Rooms.{rest_same, rest_then, waits_behind}
 
@@ -113,6 +115,11 @@ module _ {z : Sizes} {shards : ℕ} {command : Command} where
         cut = cut_earlier old mid new refused.outcomes reaps.keeps refused.cut;
         gone = reaps.gone ++ refused.gone;
         reaped = refused.reaped ∙ ap (λ (l : List Sent). l ++ refused.gone) reaps.reaped ∙ append_assoc old.reaped reaps.gone refused.gone;
+        least = λ fewer less fits. ⊎_elim
+            (λ few. room.least fewer few fits)
+            (λ all. refused.least 0
+            (omega (arith, all, less, length-append reaps.gone refused.gone, reaps.freed_is)) room.fits)
+            (cases_lt fewer freed);
         posted = refused.posted ∙ reaps.keeps.posted;
         rest = rest_then reaps.keeps.rest refused.rest;
         misses = refused.misses ∙ reaps.misses;
@@ -126,8 +133,15 @@ refused_again z shards command s stopped = record {
   cut = not_begun z shards s.pass.list.number (length s.posted) command s.pass.list.told s.pass.seat;
   gone = [];
   reaped = sym (append-nil s.reaped);
+  least = λ fewer less fits. absurd (omega (arith, less));
   posted = refl;
   rest = rest_same s;
   misses = refl;
   stopped = stopped;
 }
+
+-- a call that found no room has told nothing
+pub tells_nothing : (error : CallError) (list : List Seg) → TellsNothing error list list
+tells_nothing (CallError.RingFull need room) list = refl
+tells_nothing (CallError.StageFull need free) list = refl
+tells_nothing CallError.Memory list = tt

@@ -1,13 +1,11 @@
 -- A seat whose stage was opened and given back.
-use Rattle.std.proofs.Common.{◌≡◌, ℕ, ◌+◌, List, [], ◌∷◌, sym, refl, ap, ◌∙◌, arith}
+use Rattle.std.proofs.Common.{◌≡◌, ℕ, ◌+◌, List, [], ◌∷◌, refl, ap, ◌∙◌, arith}
 use Rattle.view_sums.specs.Total.{total}
 use Rattle.view_sums.proofs.Sums.{total-map}
-use Rattle.pin_core.specs.Holding.{Holding, Key, fresh}
-use Rattle.pin_core.specs.declared.sizes.Sizes.{Sizes}
+use Rattle.pin_core.specs.Holding.{Holding, fresh}
 use Rattle.pinned_pool.specs.Claimed.{with_claimed}
-use Rattle.pinned_pool.specs.declared.view.View.{View}
 use Rattle.reply_planner.specs.Owned.{bare, bare_all, fresh_all, keys_for}
-use Rattle.session_pass.specs.Ended.{HadStage, EndsAsItBegan, EndsWithNone}
+use Rattle.session_pass.specs.Ended.{EndsAsItBegan, EndsWithNone}
 
 claimed_weight : (weight : Holding → ℕ) (stage : List ℕ) (hs : List Holding)
     → total weight (with_claimed (keys_for stage) hs) ≡ total weight (fresh_all stage) + total weight hs

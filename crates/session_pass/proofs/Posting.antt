@@ -215,6 +215,7 @@ module _ (z : Sizes) (shards call : ℕ) (command : Command) (pass pass' : PassV
         call_is short.cut;
     gone = [];
     reaped = sym (append-nil d.reaped);
+    least = λ fewer less fits. absurd (omega (arith, less));
     posted = refl;
     rest = record {
       number = short.number;

@@ -1,13 +1,9 @@
 -- Segments, one after another.
 use Rattle.std.proofs.Common.{◌≡◌, ℕ, zero, suc, ◌+◌, List, [], ◌∷◌, ◌++◌, take, true, false, ap, ◌∙◌, arith}
-use Rattle.std.specs.Prelude.{slice_get, Some, Result, Ok, Err, IsOk, OnOk}
+use Rattle.std.specs.Prelude.{slice_get, Some}
 
 pub no_way : false ≡ true → ⊥
 no_way e = cc
-
-pub holds_ok : {T E : Type 0} (r : Result T E) (P : Type 0) → IsOk r → OnOk r P → P
-holds_ok (Ok x) P ok on = on
-holds_ok (Err e) P ok on = absurd (no_way ok)
 
 pub taken_more : {A : Type 0} (xs : List A) (i k : ℕ) (x : A) → k ≡ i + 1 → slice_get xs i ≡ Some x
     → take k xs ≡ take i xs ++ x ∷ []

@@ -87,14 +87,16 @@ pub record FindsStageFull (command : Command) (old new : SessionView) (need free
   pub has : free ≡ length (free_of new.pass.stage (waiting new 0))
   pub less : free < need
 
--- Memory was wanting: some of the oldest replies were reaped and some of the first parts were run, and no reply was
--- made. Later calls do nothing.
+-- Memory was wanting: as few of the oldest replies were reaped as make room, or fewer, some of the first parts were
+-- run, and no reply was made. Later calls do nothing.
 pub record CallRefused (z : Sizes) (shards : ℕ) (command : Command) (old new : SessionView) : Type 0 where
   pub outcomes : Outcomes
   pub cut : IsCutShort z shards old.pass.list.number (length old.posted) command outcomes
       old.pass.list.told new.pass.list.told old.pass.seat new.pass.seat
   pub gone : List Sent
   pub reaped : new.reaped ≡ old.reaped ++ gone
+  pub least : (fewer : ℕ) → fewer < length gone
+      → Fits old.ring old.pass.stage (waiting old fewer) (need_of command) → ⊥
   pub posted : new.posted ≡ old.posted
   pub rest : KeepsRest old new
   pub misses : new.misses ≡ old.misses

@@ -1,6 +1,7 @@
 -- Why a call posts nothing, and what making room for it does.
 use Rattle.std.specs.Prelude.{◌≡◌, ℕ, ◌<◌, nat_lt, if◌then◌else◌, List, ◌++◌, length}
 use Rattle.pin_core.specs.declared.sizes.Sizes.{Sizes}
+use Rattle.flake_base.specs.declared.segment.Seg.{Seg}
 use Rattle.flake_model.specs.Command.{Command}
 use Rattle.reply_layout.specs.Need.{need_of}
 use Rattle.reply_layout.specs.declared.need.Need.{Need}
@@ -14,6 +15,12 @@ abbrev pub WhyRefused : Sizes → ℕ → Command → SessionView → SessionVie
 WhyRefused z shards command old new (CallError.RingFull need room) = FindsRingFull command old new need room
 WhyRefused z shards command old new (CallError.StageFull need free) = FindsStageFull command old new need free
 WhyRefused z shards command old new CallError.Memory = CallRefused z shards command old new
+
+-- a call that found no room leaves a list that it tells in
+abbrev pub TellsNothing : CallError → List Seg → List Seg → Type 0
+TellsNothing (CallError.RingFull need room) old new = new ≡ old
+TellsNothing (CallError.StageFull need free) old new = new ≡ old
+TellsNothing CallError.Memory old new = Unit {0}
 
 -- which of ring and stage has less than is needed
 abbrev pub full_of : Need → Need → CallError

@@ -2,7 +2,7 @@
 ghost use Rattle.std.specs.Prelude.{◌≡◌, ◌-◌, ◌^◌, ◌<◌, true, length, Err, IfOk, IfErr, OnErr};
 ghost use Rattle.reply_layout.specs.Need.{need_of};
 ghost use Rattle.session_pass.specs.Calls.{CallPosts, CallRefused};
-ghost use Rattle.session_pass.specs.Refused.{WhyRefused};
+ghost use Rattle.session_pass.specs.Refused.{TellsNothing, WhyRefused};
 ghost use Rattle.session_pass.specs.Waiting.{waiting, Fits};
 
 use crate::error::CallError;
@@ -10,7 +10,7 @@ use crate::run::run;
 use crate::session::Session;
 use command_exec::{ExecError, Shop};
 use command_parts::Command;
-use flake_base::Segs;
+use flake_base::Seg;
 use order_book::BookName;
 use pinned_pool::PoolName;
 use std::sync::Wait;
@@ -33,14 +33,16 @@ impl<N: BookName, P: PoolName + Send> Session<N, P> {
         rt: &R,
         shop: &Shop<'_, N, P>,
         command: &Command,
-        sent: &mut Segs,
-        stored: &mut Segs,
+        sent: &mut Vec<Seg>,
+        stored: &mut Vec<Seg>,
     ) -> Result<Posted, CallError>
         requires few { length self.old.posted < 2 ^ 32 - 1 }
         ensures posted { IfOk result (λ posted. CallPosts P.sizes N.sizes.shards command.now self.old self.new
             posted.call posted.reaped sent.new.items stored.new.items) }
         ensures refused { IfErr result (λ error.
             WhyRefused P.sizes N.sizes.shards command.now self.old self.new error) }
+        ensures sent { IfErr result (λ error. TellsNothing error sent.old.items sent.new.items) }
+        ensures stored { IfErr result (λ error. TellsNothing error stored.old.items stored.new.items) }
         ensures stopped { self.old.stopped ≡ true → (result ≡ Err CallError.Memory) × (self.new ≡ self.old) }
     {
         if self.stopped {
@@ -59,8 +61,8 @@ impl<N: BookName, P: PoolName + Send> Session<N, P> {
         rt: &R,
         shop: &Shop<'_, N, P>,
         command: &Command,
-        sent: &mut Segs,
-        stored: &mut Segs,
+        sent: &mut Vec<Seg>,
+        stored: &mut Vec<Seg>,
     ) -> Result<u32, ExecError>
         requires few { length self.old.posted < 2 ^ 32 - 1 }
         requires fits { Fits self.old.ring self.old.pass.stage (waiting self.old 0) (need_of command.now) }

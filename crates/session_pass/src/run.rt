@@ -1,13 +1,12 @@
 // A command's parts, run over a pass.
-ghost use Rattle.std.specs.Prelude.{◌≡◌, ◌+◌, ◌≤◌, [], length, IfOk, OnOk, OnErr};
-ghost use Rattle.frag_value.specs.Fragments.{frags_limit};
+ghost use Rattle.std.specs.Prelude.{◌≡◌, ◌+◌, ◌≤◌, [], length, vec_capacity, IfOk, OnErr};
 ghost use Rattle.reply_layout.specs.Need.{need_of};
 ghost use Rattle.command_exec.specs.Executed.{FallsShort};
 ghost use Rattle.session_pass.specs.Running.{Runs};
 
 use command_exec::{ExecError, Pass, Shop, execute};
 use command_parts::Command;
-use flake_base::{Memory, Segs};
+use flake_base::{Seg, Segs};
 use order_book::BookName;
 use pinned_pool::PoolName;
 use reply_planner::Parcel;
@@ -17,7 +16,7 @@ use std::sync::Wait;
 /// The most fragments of a value.
 const MOST_FRAGS: usize = 16;
 
-/// Runs a command's parts, with room in both lists for all that is told of them.
+/// Runs a command's parts. Memory for the reply's segments is taken only where their list has too little room.
 pub(crate) fn run<R: Wait, N: BookName, P: PoolName>(
     rt: &R,
     alloc: Global,
@@ -26,8 +25,8 @@ pub(crate) fn run<R: Wait, N: BookName, P: PoolName>(
     session: u16,
     call: u32,
     command: &Command,
-    sent: &mut Segs,
-    stored: &mut Segs,
+    sent: &mut Vec<Seg>,
+    stored: &mut Vec<Seg>,
 ) -> Result<Parcel<P>, ExecError>
     requires stage { (need_of command.now).stage ≤ length pass.old.free }
     requires credits { (need_of command.now).descriptors + 5 ≤ pass.old.seat.credits }
@@ -36,35 +35,27 @@ pub(crate) fn run<R: Wait, N: BookName, P: PoolName>(
         sent.new.items stored.new.items) }
     ensures memory { OnErr result (FallsShort P.sizes N.sizes.shards command.now call pass.old pass.new) }
 {
+    sent.clear();
     let need = command.need();
-    if take_room(alloc, sent, need.descriptors as usize).is_err() {
+    if sent.reserve(need.descriptors as usize).is_err() {
         return Err(ExecError::Memory);
     }
-    if take_room(alloc, stored, MOST_FRAGS).is_err() {
+    let Ok(mut fragments) = Segs::with_room(alloc, MOST_FRAGS) else {
         return Err(ExecError::Memory);
-    }
-    let parcel = execute(rt, shop, pass, session, call, command, stored)?;
+    };
+    let parcel = execute(rt, shop, pass, session, call, command, &mut fragments)?;
+    *stored = fragments.into_vec();
     tell(&parcel, sent);
     Ok(parcel)
 }
 
-// Empties a list, with room for so many segments.
-fn take_room(alloc: Global, list: &mut Segs, count: usize) -> Result<(), Memory>
-    ensures empty { OnOk result (list.new.items ≡ []) }
-    ensures room { OnOk result (count ≤ list.new.spare) }
-{
-    *list = Segs::with_room(alloc, count)?;
-    Ok(())
-}
-
 // Puts a reply's segments into an empty list.
-fn tell<P: PoolName>(parcel: &Parcel<P>, sent: &mut Segs)
+fn tell<P: PoolName>(parcel: &Parcel<P>, sent: &mut Vec<Seg>)
     requires none { sent.old.items ≡ [] }
-    requires room { length parcel.now.segments ≤ sent.old.spare }
+    requires room { length parcel.now.segments ≤ vec_capacity sent.old }
     ensures { sent.new.items ≡ parcel.now.segments }
 {
     for i in 0..parcel.count() {
-        // There is room, so it doesn't fail.
-        let _ = sent.push(parcel.seg(i));
+        sent.push_reserved(parcel.seg(i));
     }
 }

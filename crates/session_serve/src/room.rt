@@ -1,7 +1,7 @@
 // Room that is taken before anything is read.
-ghost use Rattle.std.specs.Prelude.{◌≤◌, IfOk};
+ghost use Rattle.std.specs.Prelude.{◌≤◌, vec_capacity, IfOk};
 
-use flake_base::{Memory, Segs};
+use flake_base::{Memory, Seg};
 use std::alloc::Global;
 
 /// No reply has more segments.
@@ -13,17 +13,18 @@ pub const MOST_FRAGMENTS: usize = 16;
 /// Room for what each call tells: the segments of its reply, and where what it stored lies.
 #[derive(Drop)]
 pub struct Room {
-    pub sent: Segs,
-    pub stored: Segs,
+    pub sent: Vec<Seg>,
+    pub stored: Vec<Seg>,
 }
 
 impl Room {
     pub fn new(alloc: Global) -> Result<Self, Memory>
-        ensures { IfOk result (λ room. (MOST_SEGMENTS ≤ room.sent.spare) × (MOST_FRAGMENTS ≤ room.stored.spare)) }
+        ensures { IfOk result (λ room. (MOST_SEGMENTS ≤ vec_capacity room.sent)
+            × (MOST_FRAGMENTS ≤ vec_capacity room.stored)) }
     {
         Ok(Room {
-            sent: Segs::with_room(alloc, MOST_SEGMENTS)?,
-            stored: Segs::with_room(alloc, MOST_FRAGMENTS)?,
+            sent: Vec::with_capacity(alloc, MOST_SEGMENTS)?,
+            stored: Vec::with_capacity(alloc, MOST_FRAGMENTS)?,
         })
     }
 }

@@ -5,6 +5,6 @@ pub returns-then-is_err-clause-memory : goal.returns-then-is_err-clause-memory
 returns-then-is_err-clause-memory g c =
     nothing_run g.P.PoolName.sizes g.N.BookName.sizes.shards c.args.call c.args.command.now c.args.pass.now
 
-pub returns-then-is_err-2-clause-memory : goal.returns-then-is_err-2-clause-memory
-returns-then-is_err-2-clause-memory g c =
+pub returns-in_default-clause-memory : goal.returns-in_default-clause-memory
+returns-in_default-clause-memory g c =
     nothing_run g.P.PoolName.sizes g.N.BookName.sizes.shards c.args.call c.args.command.now c.args.pass.now
