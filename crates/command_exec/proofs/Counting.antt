@@ -109,8 +109,8 @@ module _ (z : Sizes) (shards : ℕ) (entry : Entry) (operation : Operation) (sai
         plan = ran.plan ∙ (λ i. planned p.base (taken_is i) (sym none i));
       }
 
-  pub count_stays : length segs ≡ length segs_before
-  count_stays = omega (arith, ap (λ (l : List Seg). length l) ran.told.segs_are, ap (λ (l : List Seg). length l) counted.segs, length-append segs_before (segs_told operation ran.told.outcome))
+  pub count_stays : segs ≡ segs_before
+  count_stays = ran.told.segs_are ∙ ap (λ (l : List Seg). segs_before ++ l) counted.segs ∙ append-nil segs_before
 
 -- so many keys were looked at
 pub record CountSoFar (z : Sizes) (shards call : ℕ) (command : Command) (j there : ℕ) (old new : PassView) (segs_before segs : List Seg) (p q : Planned) : Type 0 where

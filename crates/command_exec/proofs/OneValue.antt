@@ -116,11 +116,11 @@ module _ (z : Sizes) (shards : ℕ) (entry : Entry) (operation : Operation) (sai
       λ i. planned mid.base (same i) (none i)
 
   -- a GET leaves the stored segments
-  pub segs_stay : (key : List ℕ) → operation ≡ part.get key → length segs ≡ length segs_before
+  pub segs_stay : (key : List ℕ) → operation ≡ part.get key → segs ≡ segs_before
   segs_stay key is =
       let none : segs_told operation ran.told.outcome ≡ [] =
       ap (λ o. segs_told o ran.told.outcome) is ∙ got_nothing key ran.told.outcome (subst (λ o. Answered o ran.told.outcome) is ran.told.answered) in
-      omega (arith, ap (λ (l : List Seg). length l) ran.told.segs_are, ap (λ (l : List Seg). length l) none, length-append segs_before (segs_told operation ran.told.outcome))
+      ran.told.segs_are ∙ ap (λ (l : List Seg). segs_before ++ l) none ∙ append-nil segs_before
 
   -- null fits where there was room for a value
   pub null_fits : (said ≡ say.Bulk → ⊥) → 0 < room_of p → is_ranged operation ≡ false → 521 ≤ left_of mid

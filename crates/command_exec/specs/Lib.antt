@@ -5,3 +5,4 @@ pub mod Lines
 pub mod Alike
 pub mod Running
 pub mod Parted
+pub mod Lending

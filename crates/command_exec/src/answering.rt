@@ -41,6 +41,7 @@ pub(crate) fn answer<R: Wait, N: BookName, P: PoolName>(
     ensures reply { OnOk result (HasReply P.sizes N.sizes.shards at.call command.now pass.old pass.new
         stored.old.items stored.new.items plan.new) }
     ensures stopped { OnErr result (HasStopped P.sizes N.sizes.shards at.call command.now pass.old pass.new) }
+    ensures untold { OnErr result (stored.new.items ≡ stored.old.items) }
     ensures base { plan.new.base ≡ plan.old.base }
 {
     match command.op() {
@@ -90,6 +91,7 @@ fn answer_one<R: Wait, N: BookName, P: PoolName>(
     ensures reply { OnOk result (HasReply P.sizes N.sizes.shards at.call command.now pass.old pass.new
         stored.old.items stored.new.items plan.new) }
     ensures stopped { OnErr result (HasStopped P.sizes N.sizes.shards at.call command.now pass.old pass.new) }
+    ensures untold { OnErr result (stored.new.items ≡ stored.old.items) }
     ensures base { plan.new.base ≡ plan.old.base }
 {
     let answer = run_part(rt, shop, pass, at, command, plan, stored)?;
@@ -118,6 +120,7 @@ fn answer_value<R: Wait, N: BookName, P: PoolName>(
     ensures value { OnOk result (AddsValue P.sizes N.sizes.shards at (part_at command.now at.part) pass.old pass.new
         stored.old.items stored.new.items plan.old plan.new) }
     ensures missed { OnErr result (MissesPart P.sizes (part_at command.now at.part) pass.old pass.new) }
+    ensures segs { stored.new.items ≡ stored.old.items }
     ensures base { plan.new.base ≡ plan.old.base }
     ensures spare { OnOk result (stored.old.spare ≤ stored.new.spare) }
 {
@@ -146,6 +149,7 @@ fn answer_values<R: Wait, N: BookName, P: PoolName>(
     ensures reply { OnOk result (HasReply P.sizes N.sizes.shards at.call command.now pass.old pass.new
         stored.old.items stored.new.items plan.new) }
     ensures stopped { OnErr result (HasStopped P.sizes N.sizes.shards at.call command.now pass.old pass.new) }
+    ensures untold { OnErr result (stored.new.items ≡ stored.old.items) }
     ensures base { plan.new.base ≡ plan.old.base }
 {
     let count = command.count();
@@ -188,6 +192,7 @@ fn count_key<R: Wait, N: BookName, P: PoolName>(
     ensures counted { IfOk result (λ n. CountsKey P.sizes N.sizes.shards at (part_at command.now at.part) n
         pass.old pass.new stored.old.items stored.new.items plan.old plan.new) }
     ensures missed { OnErr result (MissesPart P.sizes (part_at command.now at.part) pass.old pass.new) }
+    ensures segs { stored.new.items ≡ stored.old.items }
     ensures base { plan.new.base ≡ plan.old.base }
     ensures spare { OnOk result (stored.old.spare ≤ stored.new.spare) }
 {
@@ -215,6 +220,7 @@ fn answer_count<R: Wait, N: BookName, P: PoolName>(
     ensures reply { OnOk result (HasReply P.sizes N.sizes.shards at.call command.now pass.old pass.new
         stored.old.items stored.new.items plan.new) }
     ensures stopped { OnErr result (HasStopped P.sizes N.sizes.shards at.call command.now pass.old pass.new) }
+    ensures untold { OnErr result (stored.new.items ≡ stored.old.items) }
     ensures base { plan.new.base ≡ plan.old.base }
 {
     let mut there = 0;

@@ -20,7 +20,7 @@ pub enum ExecError {
 }
 
 /// Runs the parts of a command in order, and makes one reply of what they answered. What they stored is added to
-/// `stored`.
+/// `stored`, which has what it had where memory was wanting.
 pub fn execute<R: Wait, N: BookName, P: PoolName>(
     rt: &R,
     shop: &Shop<'_, N, P>,
@@ -37,6 +37,7 @@ pub fn execute<R: Wait, N: BookName, P: PoolName>(
     ensures reply { IfOk result (λ parcel. Executes P.sizes N.sizes.shards command.now call pass.old pass.new parcel
         stored.old.items stored.new.items) }
     ensures memory { OnErr result (FallsShort P.sizes N.sizes.shards command.now call pass.old pass.new) }
+    ensures untold { OnErr result (stored.new.items ≡ stored.old.items) }
 {
     let _ = pass.stage.free();
     let Ok(mut plan) = Plan::start(

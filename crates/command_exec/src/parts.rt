@@ -37,6 +37,7 @@ pub(crate) fn run_part<R: Wait, N: BookName, P: PoolName>(
     ensures ran { IfOk result (λ said. RunsPart P.sizes N.sizes.shards at (part_at command.now at.part) said
         pass.old pass.new stored.old.items stored.new.items plan.old plan.new) }
     ensures missed { OnErr result (MissesPart P.sizes (part_at command.now at.part) pass.old pass.new) }
+    ensures untold { OnErr result (stored.new.items ≡ stored.old.items) }
     ensures base { plan.new.base ≡ plan.old.base }
     ensures spare { stored.old.spare + length stored.old.items ≤ stored.new.spare + length stored.new.items }
 {

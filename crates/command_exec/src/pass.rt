@@ -36,6 +36,9 @@ impl<N: BookName, P: PoolName> Model for Pass<N, P> {
 }
 
 impl<N: BookName, P: PoolName> Pass<N, P> {
+    ghost use Rattle.std.specs.Borrow.{sem};
+    ghost use Rattle.command_exec.specs.Lending.{lends_list};
+
     /// Opens a stage. A run of a stored fragment that has at least `threshold` bytes will stay where it lies.
     pub fn open(
         alloc: Global,
@@ -81,6 +84,14 @@ impl<N: BookName, P: PoolName> Pass<N, P> {
         ensures { result ≡ self.now.list.number }
     {
         self.mine.session()
+    }
+
+    /// The session's seat of the book. The pass will have the list that is left there, and all else of it stays.
+    pub fn mine(&mut self) -> &mut SessionSeat<N>
+        ensures* writes_back { sem 𝓛 (lends_list N.row P.row N.BookName P.PoolName self.entry result) }
+        ensures list { result.now ≡ self.old.list }
+    {
+        &mut self.mine
     }
 
     /// Does nothing, and tells a proof what is true of every pass.

@@ -1,5 +1,6 @@
 mod asking;
 mod house;
+mod looks;
 mod passes;
 mod replies;
 mod rows;

@@ -102,7 +102,7 @@ pub fn run_one<R: Wait, N: BookName, P: PoolName>(
     })
 }
 
-fn run_all<R: Wait, N: BookName, P: PoolName>(
+pub fn run_all<R: Wait, N: BookName, P: PoolName>(
     rt: &R,
     alloc: Global,
     shop: &Shop<'_, N, P>,

@@ -1,4 +1,4 @@
-use Rattle.std.proofs.Common.{refl, subst, arith}
+use Rattle.std.proofs.Common.{refl, subst, ◌∙◌, arith}
 use Rattle.flake_base.specs.declared.journal.Entry.{Entry}
 use Rattle.call_model.specs.Outcomes.{entry_at}
 use Rattle.command_exec.specs.Kinds.{part_at}
@@ -11,6 +11,7 @@ use Rattle.command_exec.proofs.answering.answer_count.Goals as goal
 pub loop-j-init : goal.loop-j-init
 loop-j-init g c = record {
   so_far = no_keys g.P.PoolName.sizes g.N.BookName.sizes.shards c.args.at.call c.args.command.now c.args.pass.now c.args.stored.now.items c.args.plan.now;
+  segs = refl;
   spare = c.requires.spare;
 }
 
@@ -20,6 +21,9 @@ returns-in_err-there-clause-stopped g c =
     on_err c.from_residual.result
     (next_missed g.P.PoolName.sizes g.N.BookName.sizes.shards c.args.command.now c.loop-j.j so.outcomes c.args.at c.entry_of-next.result c.args.pass.now c.loop-j.pass c.count_key.new.pass c.args.stored.now.items c.loop-j.stored.items so.count
     (omega (arith, c.loop-j-test.true, c.count-j-end.ensures.parts)) c.entry_of-next.ensures so.ran c.in_err-there.ensures.missed)
+
+pub returns-in_err-there-clause-untold : goal.returns-in_err-there-clause-untold
+returns-in_err-there-clause-untold g c = on_err c.from_residual.result (c.in_err-there.ensures.segs ∙ c.loop-j.invariant.segs)
 
 pub loop-j-preserved : goal.loop-j-preserved
 loop-j-preserved g c =
@@ -36,6 +40,7 @@ loop-j-preserved g c =
     record {
       so_far = key_more z shards command j c.loop-j.there n at c.args.pass.now c.loop-j.pass c.count_key.new.pass c.args.stored.now.items c.loop-j.stored.items c.count_key.new.stored.items c.args.plan.now q r
           (omega (arith, c.loop-j-test.true, c.count-j-end.ensures.parts)) refl c.requires.session c.loop-j.invariant.so_far counts;
+      segs = c.in_ok-there.ensures.segs ∙ c.loop-j.invariant.segs;
       spare = omega (arith, c.loop-j.invariant.spare, c.in_ok-there.ensures.spare);
     }
 

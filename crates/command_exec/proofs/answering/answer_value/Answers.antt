@@ -1,4 +1,5 @@
 use Rattle.std.proofs.Common.{◌≡◌, ◌++◌, [], List, None, false, length, sym, ap, ◌∙◌, arith}
+use Rattle.flake_base.specs.declared.segment.Seg.{Seg}
 use Rattle.shard_core.specs.Done.{is_ranged}
 use Rattle.frag_value.specs.Taken as taken
 use Rattle.reply_planner.specs.Planned.{Planned, planned}
@@ -30,7 +31,7 @@ returns-in-Bulk-clause-spare g c =
     let operation = part_at c.args.command.now c.args.at.part in
     let stay = segs_stay g.P.PoolName.sizes g.N.BookName.sizes.shards c.args.at operation c.in_ok-run_part.field-0 c.args.pass.now c.run_part.new.pass c.args.stored.now.items c.run_part.new.stored.items c.args.plan.now c.run_part.new.plan
     c.in_ok-run_part.ensures.ran (get_or (keys_of c.args.command.now) c.args.at.part []) (value_part c.args.command.now c.requires.kind c.args.at.part) in
-    omega (arith, stay, c.in_ok-run_part.ensures.spare)
+    omega (arith, ap (λ (l : List Seg). length l) stay, c.in_ok-run_part.ensures.spare)
 
 pub copy-requires : goal.copy-requires
 copy-requires g c =
@@ -58,4 +59,14 @@ returns-in_default-clause-spare g c =
     let operation = part_at c.args.command.now c.args.at.part in
     let stay = segs_stay g.P.PoolName.sizes g.N.BookName.sizes.shards c.args.at operation c.in_ok-run_part.field-0 c.args.pass.now c.run_part.new.pass c.args.stored.now.items c.run_part.new.stored.items c.args.plan.now c.run_part.new.plan
     c.in_ok-run_part.ensures.ran (get_or (keys_of c.args.command.now) c.args.at.part []) (value_part c.args.command.now c.requires.kind c.args.at.part) in
-    omega (arith, stay, c.in_ok-run_part.ensures.spare)
+    omega (arith, ap (λ (l : List Seg). length l) stay, c.in_ok-run_part.ensures.spare)
+
+pub returns-in-Bulk-clause-segs : goal.returns-in-Bulk-clause-segs
+returns-in-Bulk-clause-segs g c =
+    segs_stay g.P.PoolName.sizes g.N.BookName.sizes.shards c.args.at (part_at c.args.command.now c.args.at.part) c.in_ok-run_part.field-0 c.args.pass.now c.run_part.new.pass c.args.stored.now.items c.run_part.new.stored.items c.args.plan.now c.run_part.new.plan
+    c.in_ok-run_part.ensures.ran (get_or (keys_of c.args.command.now) c.args.at.part []) (value_part c.args.command.now c.requires.kind c.args.at.part)
+
+pub returns-in_default-clause-segs : goal.returns-in_default-clause-segs
+returns-in_default-clause-segs g c =
+    segs_stay g.P.PoolName.sizes g.N.BookName.sizes.shards c.args.at (part_at c.args.command.now c.args.at.part) c.in_ok-run_part.field-0 c.args.pass.now c.run_part.new.pass c.args.stored.now.items c.run_part.new.stored.items c.args.plan.now c.run_part.new.plan
+    c.in_ok-run_part.ensures.ran (get_or (keys_of c.args.command.now) c.args.at.part []) (value_part c.args.command.now c.requires.kind c.args.at.part)

@@ -21,6 +21,7 @@ loop-j-init g c =
       so_far = no_values g.P.PoolName.sizes g.N.BookName.sizes.shards c.args.at.call command c.args.pass.now c.args.stored.now.items p q c.requires.started.taken
           (c.copy_line.ensures.plan ∙ ap (λ m. planned p.base (p.taken ++ copied (number_line 42 m) ∷ []) None) n)
           (head_room command p q c.requires.kind c.requires.started (c.copy_line.ensures.left ∙ ap (λ m. left_of q + length (number_line 42 m)) n) c.copy_line.ensures.slots);
+      segs = refl;
       spare = c.requires.spare;
     }
 
@@ -30,6 +31,9 @@ returns-in_err-answer_value-clause-stopped g c =
     on_err c.from_residual.result
     (next_missed g.P.PoolName.sizes g.N.BookName.sizes.shards c.args.command.now c.loop-j.j so.outcomes c.args.at c.entry_of-next.result c.args.pass.now c.loop-j.pass c.answer_value.new.pass c.args.stored.now.items c.loop-j.stored.items so.count
     (omega (arith, c.loop-j-test.true, c.count-count.ensures.parts)) c.entry_of-next.ensures so.ran c.in_err-answer_value.ensures.missed)
+
+pub returns-in_err-answer_value-clause-untold : goal.returns-in_err-answer_value-clause-untold
+returns-in_err-answer_value-clause-untold g c = on_err c.from_residual.result (c.in_err-answer_value.ensures.segs ∙ c.loop-j.invariant.segs)
 
 pub loop-j-preserved : goal.loop-j-preserved
 loop-j-preserved g c =
@@ -45,6 +49,7 @@ loop-j-preserved g c =
     record {
       so_far = value_more z shards command j at c.args.pass.now c.loop-j.pass c.answer_value.new.pass c.args.stored.now.items c.loop-j.stored.items c.answer_value.new.stored.items c.args.plan.now q r
           (omega (arith, c.loop-j-test.true, c.count-count.ensures.parts)) refl c.requires.session c.in_ok-answer_value.ensures.base c.loop-j.invariant.so_far adds;
+      segs = c.in_ok-answer_value.ensures.segs ∙ c.loop-j.invariant.segs;
       spare = omega (arith, c.loop-j.invariant.spare, c.in_ok-answer_value.ensures.spare);
     }
 

@@ -1,4 +1,5 @@
-use Rattle.std.proofs.Common.{arith}
+use Rattle.std.proofs.Common.{List, length, ap, arith}
+use Rattle.flake_base.specs.declared.segment.Seg.{Seg}
 use Rattle.command_exec.specs.Kinds.{part_at}
 use Rattle.command_exec.proofs.Asked.{count_part}
 use Rattle.command_exec.proofs.Counting.{counting_untaken, counting_plain, no_yes, counts_key, count_stays}
@@ -26,4 +27,9 @@ returns-in_default-clause-spare g c =
     let operation = part_at c.args.command.now c.args.at.part in
     let stay = count_stays g.P.PoolName.sizes g.N.BookName.sizes.shards c.args.at operation c.in_ok-happened.field-0 c.args.pass.now c.run_part.new.pass c.args.stored.now.items c.run_part.new.stored.items c.args.plan.now c.run_part.new.plan
     (count_part c.args.command.now c.requires.kind c.args.at.part c.requires.part) c.in_ok-happened.ensures.ran in
-    omega (arith, stay, c.in_ok-happened.ensures.spare)
+    omega (arith, ap (λ (l : List Seg). length l) stay, c.in_ok-happened.ensures.spare)
+
+pub returns-in_default-clause-segs : goal.returns-in_default-clause-segs
+returns-in_default-clause-segs g c =
+    count_stays g.P.PoolName.sizes g.N.BookName.sizes.shards c.args.at (part_at c.args.command.now c.args.at.part) c.in_ok-happened.field-0 c.args.pass.now c.run_part.new.pass c.args.stored.now.items c.run_part.new.stored.items c.args.plan.now c.run_part.new.plan
+    (count_part c.args.command.now c.requires.kind c.args.at.part c.requires.part) c.in_ok-happened.ensures.ran
