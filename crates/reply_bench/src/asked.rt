@@ -1,10 +1,10 @@
-/// What a reply is made of.
+/// What replies are made of.
 #[derive(Clone, Copy)]
 pub struct Asked<'a> {
-    /// The line of an array that stands before the values; nothing before a single one.
+    /// The line of an array, which stands before more than one value.
     pub head: &'a [u8],
     /// How often the value is handed. With none the reply is the line of a PING.
     pub values: usize,
-    /// Whether the reply is sent too.
-    pub sends: bool,
+    /// How many replies there are.
+    pub replies: u32,
 }

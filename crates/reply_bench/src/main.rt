@@ -11,7 +11,7 @@ mod work;
 
 use anyhow::{Context, Result, bail};
 use asked::Asked;
-use flake_base::Memory;
+use flake_base::{CountWire, Memory, Wire};
 use frag_value::VALUE_LIMIT;
 use std::env;
 use work::work_in_a_pool;
@@ -31,9 +31,9 @@ fn main(rt: HostRuntime) -> Result<()> {
     if values > 64 {
         bail!("at most 64 values");
     }
-    let sends = match way.as_str() {
-        "plan" => false,
-        "send" => true,
+    let wire: Option<Box<dyn Wire>> = match way.as_str() {
+        "plan" => None,
+        "send" => Some(Box::new(rt.alloc(), CountWire::new())?),
         _ => bail!("plan or send?"),
     };
     let head = format!(in rt.alloc(); "*{values}\r\n")?;
@@ -42,10 +42,10 @@ fn main(rt: HostRuntime) -> Result<()> {
     let asked = Asked {
         head,
         values: values as usize,
-        sends,
+        replies,
     };
     let bytes = &BYTES[..(length as usize).min(VALUE_LIMIT)];
-    match work_in_a_pool(rt.alloc(), bytes, asked, replies) {
+    match work_in_a_pool(rt.alloc(), bytes, asked, wire) {
         Ok(done) => {
             let (bytes, sent) = (done.bytes, done.sent);
             println!(rt; "{replies} replies of {bytes} bytes, of which the wire got {sent}")?;

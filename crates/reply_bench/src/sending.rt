@@ -1,42 +1,49 @@
-//! Replies on their way: posted, gathered and reaped.
-ghost use Rattle.std.specs.Prelude.{◌≡◌, IfOk, OnOk};
-ghost use Rattle.tx_ring.specs.Shown.{posted, reaped};
+//! Replies on their way, posted and gathered.
+ghost use Rattle.std.specs.Prelude.{OnOk};
+ghost use Rattle.tx_ring.specs.Changes.{IsPosted};
+ghost use Rattle.tx_ring.specs.Shown.{driver_view};
 
-use device_model::Device;
-use flake_base::Memory;
+use device_model::{Device, Gathered};
+use flake_base::{Memory, Wire};
 use pinned_pool::{Pool, PoolName};
 use reply_planner::Parcel;
 use tx_ring::Driver;
 
-// A wire is the count of its bytes.
-fn put(count: u64, piece: &[u8]) -> (u64, bool) {
-    (count.saturating_add(piece.len() as u64), false)
+fn put(mut wire: Box<dyn Wire>, piece: &[u8]) -> (Box<dyn Wire>, bool) {
+    if piece.is_empty() {
+        return (wire, false);
+    }
+    let failed = wire.put(piece).is_err();
+    (wire, failed)
 }
 
-fn flush(count: u64) -> (u64, bool) {
-    (count, false)
+fn flush(mut wire: Box<dyn Wire>) -> (Box<dyn Wire>, bool) {
+    let failed = wire.flush().is_err();
+    (wire, failed)
 }
 
-/// Sends a reply, and takes it back behind the device.
+/// Posts a reply, and lets the device put it on the wire. The answer is the wire, and how many bytes were sent.
 pub fn send<N: PoolName + Send>(
     pool: &Pool<N>,
     driver: &mut Driver<Parcel<N>>,
     device: &mut Device<N>,
     reply: Parcel<N>,
-    wire: &mut u64,
-) -> Result<Parcel<N>, Memory>
-    requires none { posted driver.old ≡ reaped driver.old }
-    ensures none { OnOk result (posted driver.new ≡ reaped driver.new) }
-    ensures same { IfOk result (λ back. back ≡ reply) }
+    wire: Box<dyn Wire>,
+) -> Result<(Box<dyn Wire>, u64), Memory>
+    ensures { OnOk result (IsPosted reply (driver_view driver.old) (driver_view driver.new)) }
 {
     reply.is_parcel();
     let Ok(()) = driver.post(reply) else {
         return Err(Memory);
     };
-    let (count, _) = device.gather(pool, *wire, &put, &flush);
-    *wire = count;
-    let Some(back) = driver.reap() else {
-        return Err(Memory);
-    };
-    Ok(back)
+    let (wire, found) = device.gather(
+        pool,
+        wire,
+        &|wire: Box<dyn Wire>, piece: &[u8]| put(wire, piece),
+        &|wire: Box<dyn Wire>| flush(wire),
+    );
+    match found {
+        Gathered::Sent { bytes, .. } => Ok((wire, bytes)),
+        _ => Ok((wire, 0)),
+    }
 }

@@ -8,7 +8,7 @@ use crate::asked::Asked;
 use crate::planning::plan_reply;
 use crate::sending::send;
 use device_model::Device;
-use flake_base::Memory;
+use flake_base::{Memory, Wire};
 use frag_value::{Value, write};
 use pinned_pool::{Pool, PoolBlank, PoolName, PoolSeat};
 use reply_planner::{Parcel, Stage, give_back};
@@ -58,7 +58,7 @@ fn length_of<N: PoolName>(
     Ok(bytes)
 }
 
-// Plans so many replies, one after another, and gives each back.
+// Plans replies, one after another, and gives each back.
 fn plan_often<N: PoolName>(
     pool: &Pool<N>,
     seat: &mut PoolSeat<N>,
@@ -66,14 +66,13 @@ fn plan_often<N: PoolName>(
     owner: &mut PoolSeat<N>,
     value: &Value<N>,
     asked: Asked<'_>,
-    times: u32,
 ) -> Result<(), Memory>
     requires desk { IsDesk stage.old seat.old }
     requires value { HasValue owner.old.holds value.now }
     requires head { length asked.head.now ≤ 23 }
     requires values { asked.values ≤ 64 }
 {
-    for _ in 0..times {
+    for _ in 0..asked.replies {
         let reply = plan_reply(pool, seat, stage, owner, value, asked)?;
         take_back(reply, pool, seat, stage);
     }
@@ -89,7 +88,7 @@ fn send_often<N: PoolName + Send>(
     owner: &mut PoolSeat<N>,
     value: &Value<N>,
     asked: Asked<'_>,
-    times: u32,
+    wire: Box<dyn Wire>,
 ) -> Result<u64, Memory>
     requires desk { IsDesk stage.old seat.old }
     requires value { HasValue owner.old.holds value.now }
@@ -100,13 +99,19 @@ fn send_often<N: PoolName + Send>(
         return Err(Memory);
     };
     let mut device = Device::open(end);
-    let mut wire = 0;
-    for _ in 0..times {
+    let mut wire = wire;
+    let mut sent = 0u64;
+    for _ in 0..asked.replies {
         let reply = plan_reply(pool, seat, stage, owner, value, asked)?;
-        let back = send(pool, &mut driver, &mut device, reply, &mut wire)?;
+        let (after, bytes) = send(pool, &mut driver, &mut device, reply, wire)?;
+        wire = after;
+        sent = sent.saturating_add(bytes);
+        let Some(back) = driver.reap() else {
+            return Err(Memory);
+        };
         take_back(back, pool, seat, stage);
     }
-    Ok(wire)
+    Ok(sent)
 }
 
 fn work_named<N: PoolName + Send>(
@@ -114,7 +119,7 @@ fn work_named<N: PoolName + Send>(
     blank: PoolBlank,
     bytes: &[u8],
     asked: Asked<'_>,
-    times: u32,
+    wire: Option<Box<dyn Wire>>,
 ) -> Result<Done, Memory>
     requires name { (blank.table ≡ N.table) × (blank.sizes ≡ N.sizes) }
     requires credits { most_credits + 1 ≤ blank.sizes.credits }
@@ -131,25 +136,23 @@ fn work_named<N: PoolName + Send>(
         return Err(Memory);
     };
     let bytes = length_of(&pool, &mut seat, &mut stage, &mut owner, &value, asked)?;
-    let sent = if asked.sends {
-        send_often(
-            alloc, &pool, &mut seat, &mut stage, &mut owner, &value, asked, times,
-        )?
-    } else {
-        plan_often(
-            &pool, &mut seat, &mut stage, &mut owner, &value, asked, times,
-        )?;
-        0
+    let Some(wire) = wire else {
+        plan_often(&pool, &mut seat, &mut stage, &mut owner, &value, asked)?;
+        return Ok(Done { bytes, sent: 0 });
     };
+    let sent = send_often(
+        alloc, &pool, &mut seat, &mut stage, &mut owner, &value, asked, wire,
+    )?;
     Ok(Done { bytes, sent })
 }
 
-/// Plans so many replies, of values with these bytes, in a pool that has room for one value and a stage.
+/// Plans replies of values with these bytes, in a pool that has room for one value and a stage, and sends them where
+/// there is a wire.
 pub fn work_in_a_pool(
     alloc: Global,
     bytes: &[u8],
     asked: Asked<'_>,
-    times: u32,
+    wire: Option<Box<dyn Wire>>,
 ) -> Result<Done, Memory>
     requires few { length bytes.now ≤ 65536 }
     requires head { length asked.head.now ≤ 23 }
@@ -158,5 +161,5 @@ pub fn work_in_a_pool(
     let Ok(blank) = PoolBlank::open(alloc, 129, 16, 1300) else {
         return Err(Memory);
     };
-    work_named::<Brand>(alloc, blank, bytes, asked, times)
+    work_named::<Brand>(alloc, blank, bytes, asked, wire)
 }
