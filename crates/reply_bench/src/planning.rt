@@ -95,8 +95,7 @@ fn plan_values<N: PoolName>(
 ) -> Result<Parcel<N>, Memory>
     requires desk { IsDesk stage.old seat.old }
     requires value { HasValue owner.old.holds value.now }
-    requires head { length asked.head.now ≤ 23 }
-    requires values { (0 < asked.values) × (asked.values ≤ 64) }
+    requires values { 0 < asked.values }
     ensures lent { IfOk result (λ reply. HasLent reply stage.new seat.new) }
     ensures value { IfOk result (λ _. HasValue owner.new.holds value.now) }
 {
@@ -118,8 +117,6 @@ pub fn plan_reply<N: PoolName>(
 ) -> Result<Parcel<N>, Memory>
     requires desk { IsDesk stage.old seat.old }
     requires value { HasValue owner.old.holds value.now }
-    requires head { length asked.head.now ≤ 23 }
-    requires values { asked.values ≤ 64 }
     ensures lent { IfOk result (λ reply. HasLent reply stage.new seat.new) }
     ensures value { IfOk result (λ _. HasValue owner.new.holds value.now) }
 {

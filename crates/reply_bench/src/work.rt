@@ -1,7 +1,7 @@
 //! Replies over and over, each planned and given back.
 ghost use Rattle.std.specs.Prelude.{◌≡◌, ◌+◌, ◌≤◌, length, IfOk, OnOk};
+ghost use Rattle.frag_value.specs.Fragments.{value_limit};
 ghost use Rattle.frag_value.specs.Values.{HasValue};
-ghost use Rattle.tx_ring.specs.Shown.{posted, reaped};
 ghost use Rattle.reply_bench.specs.Desks.{IsDesk, HasLent, most_credits};
 
 use crate::asked::Asked;
@@ -16,7 +16,7 @@ use std::alloc::Global;
 use std::marker::Brand;
 use tx_ring::{Driver, ring};
 
-/// How long a reply is, and how many bytes of all replies the wire got.
+/// How long each reply is, and how many bytes of all were sent.
 #[derive(Clone, Copy)]
 pub struct Done {
     pub bytes: u64,
@@ -36,7 +36,7 @@ fn take_back<N: PoolName>(
     give_back(reply, pool, seat, stage);
 }
 
-// How long a reply is.
+// How long one reply is.
 fn length_of<N: PoolName>(
     pool: &Pool<N>,
     seat: &mut PoolSeat<N>,
@@ -47,8 +47,6 @@ fn length_of<N: PoolName>(
 ) -> Result<u64, Memory>
     requires desk { IsDesk stage.old seat.old }
     requires value { HasValue owner.old.holds value.now }
-    requires head { length asked.head.now ≤ 23 }
-    requires values { asked.values ≤ 64 }
     ensures desk { OnOk result (IsDesk stage.new seat.new) }
     ensures value { OnOk result (HasValue owner.new.holds value.now) }
 {
@@ -69,8 +67,6 @@ fn plan_often<N: PoolName>(
 ) -> Result<(), Memory>
     requires desk { IsDesk stage.old seat.old }
     requires value { HasValue owner.old.holds value.now }
-    requires head { length asked.head.now ≤ 23 }
-    requires values { asked.values ≤ 64 }
 {
     for _ in 0..asked.replies {
         let reply = plan_reply(pool, seat, stage, owner, value, asked)?;
@@ -79,7 +75,7 @@ fn plan_often<N: PoolName>(
     Ok(())
 }
 
-// Sends each too. The answer is how many bytes the wire got.
+// Sends each too. The answer is how many bytes were sent.
 fn send_often<N: PoolName + Send>(
     alloc: Global,
     pool: &Pool<N>,
@@ -92,8 +88,6 @@ fn send_often<N: PoolName + Send>(
 ) -> Result<u64, Memory>
     requires desk { IsDesk stage.old seat.old }
     requires value { HasValue owner.old.holds value.now }
-    requires head { length asked.head.now ≤ 23 }
-    requires values { asked.values ≤ 64 }
 {
     let Ok((mut driver, end)) = ring::<Parcel<N>>(alloc, 1160) else {
         return Err(Memory);
@@ -123,9 +117,7 @@ fn work_named<N: PoolName + Send>(
 ) -> Result<Done, Memory>
     requires name { (blank.table ≡ N.table) × (blank.sizes ≡ N.sizes) }
     requires credits { most_credits + 1 ≤ blank.sizes.credits }
-    requires few { length bytes.now ≤ 65536 }
-    requires head { length asked.head.now ≤ 23 }
-    requires values { asked.values ≤ 64 }
+    requires few { length bytes.now ≤ value_limit }
 {
     let (pool, mut seat) = blank.name::<N>();
     let mut owner = pool.split(&mut seat, (), 1);
@@ -154,9 +146,7 @@ pub fn work_in_a_pool(
     asked: Asked<'_>,
     wire: Option<Box<dyn Wire>>,
 ) -> Result<Done, Memory>
-    requires few { length bytes.now ≤ 65536 }
-    requires head { length asked.head.now ≤ 23 }
-    requires values { asked.values ≤ 64 }
+    requires few { length bytes.now ≤ value_limit }
 {
     let Ok(blank) = PoolBlank::open(alloc, 129, 16, 1300) else {
         return Err(Memory);

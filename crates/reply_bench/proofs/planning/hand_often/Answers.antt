@@ -1,4 +1,4 @@
-use Rattle.std.proofs.Common.{◌≡◌, ◌∙◌, arith}
+use Rattle.std.proofs.Common.{◌∙◌, arith}
 use Rattle.frag_value.proofs.Unmarked.{has_unmarked}
 use Rattle.reply_planner.proofs.Grown.{text_whole}
 use Rattle.reply_bench.proofs.planning.hand_often.Goals as goal

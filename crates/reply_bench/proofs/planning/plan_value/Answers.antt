@@ -1,4 +1,4 @@
-use Rattle.std.proofs.Common.{◌≡◌, ◌++◌, drop, sym, ap, ◌∙◌, subst}
+use Rattle.std.proofs.Common.{◌++◌, drop, sym, ap, ◌∙◌, subst}
 use Rattle.pinned_pool.specs.declared.view.View.{View}
 use Rattle.frag_value.proofs.Unmarked.{has_unmarked}
 use Rattle.reply_planner.specs.Owned.{AreOwn}

@@ -1,4 +1,4 @@
-use Rattle.std.proofs.Common.{◌≡◌, ℕ, List, length, drop, ap, arith}
+use Rattle.std.proofs.Common.{ℕ, List, length, drop, ap, arith}
 use Rattle.std.proofs.lemmas.List.{length-take, length-drop}
 use Rattle.reply_planner.specs.Sealed.{used_of}
 use Rattle.reply_planner.proofs.Merged.{length-merged}

@@ -1,4 +1,3 @@
-use Rattle.std.proofs.Common.{◌≡◌}
 use Rattle.frag_value.specs.Values.{HasValue}
 use Rattle.reply_bench.specs.Desks.{IsDesk}
 use Rattle.reply_bench.proofs.work.plan_often.Given as goal

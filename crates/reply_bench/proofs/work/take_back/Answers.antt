@@ -1,4 +1,4 @@
-use Rattle.std.proofs.Common.{◌≡◌, ℕ, List, length, ap, arith}
+use Rattle.std.proofs.Common.{ℕ, List, length, ap, arith}
 use Rattle.reply_planner.proofs.Merged.{length-merged}
 use Rattle.reply_bench.proofs.work.take_back.Goals as goal
 
