@@ -1,8 +1,8 @@
 -- What a source has given, and what that says of all its bytes.
-use Rattle.std.proofs.Common.{◌≡◌, ◌<◌, ◌≤◌, ℕ, List, [], ◌++◌, Option, Some, None, IfSome, length, take, drop, arith, refl, ap, sym, ◌∙◌, append_assoc, append-nil, length-append}
+use Rattle.std.proofs.Common.{◌≡◌, ◌<◌, ℕ, List, [], ◌++◌, Option, Some, None, IfSome, length, take, drop, arith, refl, ap, sym, ◌∙◌, append_assoc, append-nil, length-append}
 use Rattle.std.proofs.lemmas.List.{take-append-drop}
 use Rattle.flake_base.specs.Reads.{Reads}
-use Rattle.check_files.specs.Whole.{IsPast}
+use Rattle.check_files.specs.Whole.{IsPast, emptied}
 
 -- the bytes in front of what is left, where that is told
 abbrev pub Gave : Option (List ℕ) → Option (List ℕ) → List ℕ → Type 0
@@ -34,3 +34,10 @@ all_given (Some all) (Some l) new bytes room n gave reads none =
 pub past_limit : (input left : Option (List ℕ)) (bytes : List ℕ) (limit : ℕ) → Gave input left bytes → limit < length bytes → IsPast limit input
 past_limit None left bytes limit gave above = tt
 past_limit (Some all) left bytes limit gave above = omega (arith, above, ap length gave.2, length-append bytes gave.0)
+
+-- and has nothing left
+pub none_left : (input left new : Option (List ℕ)) (bytes room : List ℕ) (n : ℕ) → Gave input left bytes → Reads left new n room → n ≡ 0 → new ≡ emptied input
+none_left None None new bytes room n gave reads none = reads
+none_left None (Some l) new bytes room n gave reads none = absurd (cc gave)
+none_left (Some all) None new bytes room n gave reads none = absurd (cc (gave.1))
+none_left (Some all) (Some l) new bytes room n gave reads none = reads.rest ∙ ap (λ k. Some (drop k l)) none ∙ ap (λ rest. Some (drop 0 rest)) (reads.end none)

@@ -1,7 +1,6 @@
 -- Files that are opened one after another.
 use Rattle.std.proofs.Common.{◌≡◌, ◌≢◌, ◌<◌, ◌≤◌, ℕ, ◌+◌, suc, Bor, Bool, List, [], ◌∷◌, ◌++◌, Option, Some, None, length, map, take, slice_get, get_or, is_some, arith, refl, sym, ap, ap₂, ◌∙◌, subst, append-nil, length-append}
-use Rattle.std.proofs.lemmas.List.{length-map, map-append, length-take-le, take-map, take_more}
-use Rattle.std.proofs.lemmas.Option.{slice_get-get_or}
+use Rattle.std.proofs.lemmas.List.{map-append, take-map, take_more}
 use Rattle.flake_base.specs.Calls.{counted}
 use Rattle.flake_base.specs.Told.{HostTold}
 use Rattle.check_files.specs.File.{are_there, faults_in, faults_of, is_there, left_in, lefts_of}
@@ -120,11 +119,10 @@ pub front_is : (names : List (Option (Bor (List ℕ)))) (k n : ℕ) → k ≤ le
 front_is names k n within is = ap (λ m. take m (map named names)) is ∙ take-map named k names
 
 fails_at : (words front : List Named) (place : ℕ) (word : Named) (old mid new : HostTold) (lefts : List (Option (List ℕ)))
-    → take place words ≡ front → slice_get words place ≡ Some word → FilesOpened front old mid lefts → FailsOne word mid new → FileFails words place old new
+    → take place words ≡ front → slice_get words place ≡ Some word → FilesOpened front old mid lefts → FailsOne word mid new → FileFails words place old new lefts
 fails_at words front place None old mid new lefts is there o fails = absurd fails
 fails_at words front place (Some name) old mid new lefts is there o fails = record {
   between = mid;
-  lefts = lefts;
   opened = subst (λ ws. FilesOpened ws old mid lefts) (sym is) o;
   name = name;
   name_is = there;
@@ -133,7 +131,7 @@ fails_at words front place (Some name) old mid new lefts is there o fails = reco
 
 -- the file that did not open
 pub file_fails : (names : List (Option (Bor (List ℕ)))) (k n : ℕ) (d : Option (Bor (List ℕ))) (old mid new : HostTold) (lefts : List (Option (List ℕ))) → k < length names → n ≡ k
-    → FilesOpened (map named (take k names)) old mid lefts → FailsOne (named (get_or names k d)) mid new → FileFails (map named names) n old new
+    → FilesOpened (map named (take k names)) old mid lefts → FailsOne (named (get_or names k d)) mid new → FileFails (map named names) n old new lefts
 file_fails names k n d old mid new lefts within is opened fails =
     fails_at (map named names) (map named (take k names)) n (named (get_or names k d)) old mid new lefts (front_is names k n (omega (arith, within)) is)
     (ap (slice_get (map named names)) is ∙ shown_at named names k d within) opened fails

@@ -1,11 +1,13 @@
 -- Inputs and replies that are read in turn.
-use Rattle.std.proofs.Common.{◌≡◌, ◌≢◌, ◌<◌, ◌≤◌, ℕ, ◌+◌, ◌*◌, zero, suc, List, [], ◌∷◌, ◌++◌, Option, Some, None, IfSome, IsSomeAnd, length, map, slice_get, arith, refl, sym, ap, ◌∙◌, subst, length-append, ⊎_elim, inl, inr, ◌⊎◌}
+use Rattle.std.proofs.Common.{◌≡◌, ◌≢◌, ◌<◌, ◌≤◌, ℕ, ◌+◌, ◌*◌, zero, suc, List, [], ◌∷◌, ◌++◌, Option, Some, IfSome, IsSomeAnd, length, map, slice_get, arith, refl, sym, ap, ◌∙◌, subst, ⊎_elim, inl, inr, ◌⊎◌, option_map}
 use Rattle.std.proofs.lemmas.List.{length-map, map-append}
+use Rattle.std.proofs.lemmas.Option.{slice_get-map, slice_get_past}
 use Rattle.flake_base.specs.Roomy.{Roomy}
 use Rattle.replay_check.specs.Inputs.{contents}
-use Rattle.check_files.specs.Whole.{IsWhole, IsPast}
-use Rattle.check_files.specs.Files.{limit_of, IsTextOf, AreWithin, AreContents}
-use Rattle.check_files.specs.Stopped.{IsStopped, IsStoppedAt}
+use Rattle.replay_check.proofs.Lists.{same_lists}
+use Rattle.check_files.specs.Whole.{IsWhole, IsPast, emptied}
+use Rattle.check_files.specs.Files.{limit_of, IsTextOf, AreWithin}
+use Rattle.check_files.specs.Stopped.{IsStopped, IsStoppedAt, LeftsBy}
 use Rattle.check_files.specs.declared.error.CheckError.{CheckError}
 use Rattle.check_files.specs.declared.error.CheckError.TheVariants.{OpenFault, ReadFault, TooLarge, BadLine, Memory}
 
@@ -67,6 +69,11 @@ below_or_at (suc k) zero below = absurd (omega (arith, below))
 below_or_at (suc k) (suc place) below =
     elim (below_or_at k place (omega (arith, below))) [ inl earlier ↦ inl (omega (arith, earlier)) | inr here ↦ inr (ap suc here) ]
 
+below_or_above : (k n : ℕ) → (k < n) ⊎ (n ≤ k)
+below_or_above k zero = inr (omega arith)
+below_or_above zero (suc n) = inl (omega arith)
+below_or_above (suc k) (suc n) = elim (below_or_above k n) [ inl below ↦ inl (omega (arith, below)) | inr above ↦ inr (omega (arith, above)) ]
+
 -- a file more that was read whole
 pub within_more : (lefts : List (Option (List ℕ))) (place : ℕ) (bytes : List ℕ) → AreWithin lefts place → IsTextOf lefts place bytes → AreWithin lefts (place + 1)
 within_more lefts place bytes within text k told below is =
@@ -88,3 +95,45 @@ stopped_there olds nows place (TooLarge file) same within before is = (
 )
 stopped_there olds nows place (BadLine line) same within before is = absurd is
 stopped_there olds nows place Memory same within before is = tt
+
+-- what is left in front of a place and behind it
+abbrev pub AreFront : ℕ → List (Option (List ℕ)) → List (Option (List ℕ)) → Type 0
+AreFront place olds news = (k : ℕ) → k < place → slice_get news k ≡ option_map emptied (slice_get olds k)
+
+abbrev pub AreBehind : ℕ → List (Option (List ℕ)) → List (Option (List ℕ)) → Type 0
+AreBehind place olds news = (k : ℕ) → place ≤ k → slice_get news k ≡ slice_get olds k
+
+-- one more was read to its end
+pub front_more : (olds mids news : List (Option (List ℕ))) (place : ℕ) → AreFront place olds mids → slice_get mids place ≡ slice_get olds place
+    → slice_get news place ≡ option_map emptied (slice_get mids place) → ((k : ℕ) → k ≢ place → slice_get news k ≡ slice_get mids k) → AreFront (place + 1) olds news
+front_more olds mids news place front same here others k below =
+    ⊎_elim
+    (λ earlier. others k (λ is. omega (arith, is, earlier)) ∙ front k earlier)
+    (λ at. ap (slice_get news) at ∙ here ∙ ap (option_map emptied) (same ∙ ap (slice_get olds) (sym at)))
+    (below_or_at k place below)
+
+-- an error at a place, in front of which all were read to their ends
+pub lefts_there : (olds mids news tests : List (Option (List ℕ))) (place : ℕ) (e : CheckError) → IsStoppedAt tests place e → AreFront place olds mids → AreBehind place olds mids
+    → ((k : ℕ) → k ≢ place → slice_get news k ≡ slice_get mids k) → LeftsBy e olds news
+lefts_there olds mids news tests place (OpenFault file) is front behind others = absurd is
+lefts_there olds mids news tests place (ReadFault file) is front behind others = record {
+  front = λ k below. others k (λ at. omega (arith, at, below, is)) ∙ front k (omega (arith, below, is));
+  behind = λ k above. others k (λ at. omega (arith, at, above, is)) ∙ behind k (omega (arith, above, is));
+}
+lefts_there olds mids news tests place (TooLarge file) is front behind others = record {
+  front = λ k below. others k (λ at. omega (arith, at, below, is.0)) ∙ front k (omega (arith, below, is.0));
+  behind = λ k above. others k (λ at. omega (arith, at, above, is.0)) ∙ behind k (omega (arith, above, is.0));
+}
+lefts_there olds mids news tests place (BadLine line) is front behind others = absurd is
+lefts_there olds mids news tests place Memory is front behind others = tt
+
+-- once all were read, all are empty
+pub all_emptied : (olds news : List (Option (List ℕ))) (n : ℕ) → length olds ≤ n → AreFront n olds news → AreBehind n olds news → news ≡ map emptied olds
+all_emptied olds news n all front behind =
+    same_lists news (map emptied olds)
+    (λ k. ⊎_elim
+    (λ below. front k below ∙ sym (slice_get-map emptied olds k))
+    (λ above.
+    let past = slice_get_past olds k (omega (arith, all, above)) in
+    behind k above ∙ past ∙ sym (slice_get-map emptied olds k ∙ ap (option_map emptied) past))
+    (below_or_above k n))

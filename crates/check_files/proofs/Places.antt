@@ -1,5 +1,5 @@
 -- Lists of which one item was replaced, as a map of them shows.
-use Rattle.std.proofs.Common.{◌≡◌, ◌≢◌, ◌<◌, ℕ, zero, suc, List, [], ◌∷◌, Option, Some, length, map, slice_get, slice_set, get_or, arith, refl, sym, ap, ◌∙◌}
+use Rattle.std.proofs.Common.{◌≡◌, ◌≢◌, ◌<◌, ℕ, zero, suc, List, [], ◌∷◌, Some, length, map, slice_get, slice_set, get_or, arith, refl, ap}
 
 module _ {A B : Type 0} (f : A → B) where
   pub other_places : (xs : List A) (k : ℕ) (y : A) (j : ℕ) → j ≢ k → slice_get (map f (slice_set xs k y)) j ≡ slice_get (map f xs) j

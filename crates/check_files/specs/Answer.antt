@@ -1,11 +1,12 @@
 -- What the files of a host come to.
-use Rattle.std.specs.Prelude.{◌≡◌, ◌≢◌, ℕ, Bool, List, Option, Some, Result, Ok, Err, take, slice_get}
+use Rattle.std.specs.Prelude.{◌≡◌, ◌≢◌, ℕ, Bool, List, Option, Some, map, take, slice_get}
 use Rattle.flake_base.specs.Causes.{Rose}
 use Rattle.flake_base.specs.Told.{HostTold}
 use Rattle.replay_check.specs.declared.verdict.Verdict.{Verdict}
 use Rattle.check_files.specs.Judged.{IsJudged}
 use Rattle.check_files.specs.Named.{Named, FilesOpened, FileFails, NoneFailed, are_named}
-use Rattle.check_files.specs.Stopped.{IsStopped}
+use Rattle.check_files.specs.Stopped.{IsStopped, LeftsBy}
+use Rattle.check_files.specs.Whole.{emptied}
 use Rattle.check_files.specs.declared.error.CheckError.{CheckError}
 use Rattle.check_files.specs.declared.error.CheckError.TheVariants.{OpenFault, ReadFault, TooLarge, BadLine, Memory}
 
@@ -24,28 +25,34 @@ FailedBy (TooLarge file) faults = NoneFailed faults
 FailedBy (BadLine line) faults = NoneFailed faults
 FailedBy Memory faults = NoneFailed faults
 
--- all files were opened, and what they had left is judged so
-pub record WereJudged (words : List Named) (old new : HostTold) (there : List Bool) (verdict : Verdict) : Type 0 where
+-- all files were opened, what they had left is judged so, and they were read to their ends
+pub record WereJudged (words : List Named) (old new : HostTold) (there : List Bool) (rests : List (Option (List ℕ)))
+    (verdict : Verdict) : Type 0 where
   pub lefts : List (Option (List ℕ))
   pub opened : FilesOpened words old new lefts
   pub there_is : there ≡ are_named words
   pub judged : IsJudged lefts verdict
+  pub rests_are : rests ≡ map emptied lefts
 
 -- all files were opened, and what they had left gives no verdict
-pub record WereStopped (words : List Named) (old new : HostTold) (there : List Bool) (error : CheckError) : Type 0 where
+pub record WereStopped (words : List Named) (old new : HostTold) (there : List Bool) (rests : List (Option (List ℕ)))
+    (error : CheckError) : Type 0 where
   pub lefts : List (Option (List ℕ))
   pub opened : FilesOpened words old new lefts
   pub there_is : there ≡ are_named words
   pub stopped : IsStopped lefts error
+  pub rests_are : LeftsBy error lefts rests
 
--- those in front of one that did not open were
-pub record WasUnopened (words : List Named) (old new : HostTold) (there : List Bool) (file : ℕ) : Type 0 where
-  pub fails : FileFails words file old new
+-- those in front of one that did not open were, and have what they had when they were opened
+pub record WasUnopened (words : List Named) (old new : HostTold) (there : List Bool) (rests : List (Option (List ℕ)))
+    (file : ℕ) : Type 0 where
+  pub fails : FileFails words file old new rests
   pub there_is : there ≡ are_named (take file words)
 
-abbrev pub HasCauseIn : List Named → HostTold → HostTold → List Bool → CheckError → Type 0
-HasCauseIn words old new there (OpenFault file) = WasUnopened words old new there file
-HasCauseIn words old new there (ReadFault file) = WereStopped words old new there (ReadFault file)
-HasCauseIn words old new there (TooLarge file) = WereStopped words old new there (TooLarge file)
-HasCauseIn words old new there (BadLine line) = WereStopped words old new there (BadLine line)
-HasCauseIn words old new there Memory = WereStopped words old new there Memory
+-- these are there, and have this left
+abbrev pub HasCauseIn : List Named → HostTold → HostTold → List Bool → List (Option (List ℕ)) → CheckError → Type 0
+HasCauseIn words old new there rests (OpenFault file) = WasUnopened words old new there rests file
+HasCauseIn words old new there rests (ReadFault file) = WereStopped words old new there rests (ReadFault file)
+HasCauseIn words old new there rests (TooLarge file) = WereStopped words old new there rests (TooLarge file)
+HasCauseIn words old new there rests (BadLine line) = WereStopped words old new there rests (BadLine line)
+HasCauseIn words old new there rests Memory = WereStopped words old new there rests Memory

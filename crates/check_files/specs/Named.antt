@@ -81,10 +81,10 @@ pub record FilesOpened (words : List Named) (old new : HostTold) (lefts : List (
   pub opens : new.opens ≡ counted_times (length (names_in words)) old.opens
   pub open_faults : (name : List ℕ) → new.open_faults name ≡ old.open_faults name
 
--- the files in front of the one at this place were opened, and its open failed
-pub record FileFails (words : List Named) (place : ℕ) (old new : HostTold) : Type 0 where
+-- The files in front of the one at this place were opened, and its open failed. These are what they have left.
+pub record FileFails (words : List Named) (place : ℕ) (old new : HostTold) (lefts : List (Option (List ℕ))) :
+    Type 0 where
   pub between : HostTold
-  pub lefts : List (Option (List ℕ))
   pub opened : FilesOpened (take place words) old between lefts
   pub name : List ℕ
   pub name_is : slice_get words place ≡ Some (Some name)

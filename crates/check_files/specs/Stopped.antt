@@ -1,11 +1,11 @@
 -- Why files give no verdict.
-use Rattle.std.specs.Prelude.{◌≡◌, ◌≢◌, ℕ, ◌<◌, List, Option, Some, length, slice_get, IsSomeAnd}
+use Rattle.std.specs.Prelude.{◌≡◌, ◌≢◌, ℕ, ◌<◌, List, Option, Some, length, map, option_map, slice_get, IsSomeAnd}
 use Rattle.flake_base.specs.Causes.{Rose}
 use Rattle.journal_text.specs.Lines.{lines_of}
 use Rattle.journal_text.specs.Reading.{IsBadLine}
 use Rattle.journal_text.specs.declared.error.JournalError.{JournalError}
 use Rattle.journal_text.specs.declared.error.JournalError.TheVariants as journal
-use Rattle.check_files.specs.Whole.{IsPast}
+use Rattle.check_files.specs.Whole.{IsPast, emptied}
 use Rattle.check_files.specs.Files.{limit_of, IsTextOf, AreWithin}
 use Rattle.check_files.specs.declared.error.CheckError.{CheckError}
 use Rattle.check_files.specs.declared.error.CheckError.TheVariants.{OpenFault, ReadFault, TooLarge, BadLine, Memory}
@@ -54,3 +54,16 @@ FaultsBy (ReadFault file) olds news = RoseAt file olds news
 FaultsBy (TooLarge file) olds news = news ≡ olds
 FaultsBy (BadLine line) olds news = news ≡ olds
 FaultsBy Memory olds news = news ≡ olds
+
+-- the files in front of this place were read to their ends, and those behind it have what they had
+pub record AreReadTo (place : ℕ) (olds news : List (Option (List ℕ))) : Type 0 where
+  pub front : (k : ℕ) → k < place → slice_get news k ≡ option_map emptied (slice_get olds k)
+  pub behind : (k : ℕ) → place < k → slice_get news k ≡ slice_get olds k
+
+-- What the files have left. A bad line is found once all were read, and where memory was wanting it is free.
+abbrev pub LeftsBy : CheckError → List (Option (List ℕ)) → List (Option (List ℕ)) → Type 0
+LeftsBy (OpenFault file) olds news = news ≡ olds
+LeftsBy (ReadFault file) olds news = AreReadTo file olds news
+LeftsBy (TooLarge file) olds news = AreReadTo file olds news
+LeftsBy (BadLine line) olds news = news ≡ map emptied olds
+LeftsBy Memory olds news = Unit {0}

@@ -1,5 +1,5 @@
 -- What reading a source whole gives.
-use Rattle.std.specs.Prelude.{◌≡◌, ℕ, ◌<◌, ◌≤◌, List, Option, length, IfSome}
+use Rattle.std.specs.Prelude.{◌≡◌, ℕ, ◌<◌, ◌≤◌, List, [], Option, length, option_map, IfSome}
 use Rattle.flake_base.specs.Causes.{Rose}
 use Rattle.check_files.specs.declared.error.Unread.{Unread}
 use Rattle.check_files.specs.declared.error.Unread.TheVariants.{Fault, TooLarge, Memory}
@@ -8,6 +8,10 @@ use Rattle.check_files.specs.declared.error.Unread.TheVariants.{Fault, TooLarge,
 pub record IsWhole (limit : ℕ) (left : Option (List ℕ)) (bytes : List ℕ) : Type 0 where
   pub all : IfSome left (λ told. told ≡ bytes)
   pub within : length bytes ≤ limit
+
+-- what is left of a source that was read to its end: nothing, where that is told
+abbrev pub emptied : Option (List ℕ) → Option (List ℕ)
+emptied left = option_map (λ told. []) left
 
 -- what is left is more than the limit, where it is told
 abbrev pub IsPast : ℕ → Option (List ℕ) → Type 0

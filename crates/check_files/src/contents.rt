@@ -1,10 +1,11 @@
 // The files of a check, which are read whole in their order.
-ghost use Rattle.std.specs.Prelude.{◌≡◌, ◌<◌, ◌≤◌, ◌+◌, ◌*◌, ◌%◌, ◌++◌, ◌∷◌, [], ℕ};
-ghost use Rattle.std.specs.Prelude.{length, slice_get, IfOk, IfErr, OnOk};
+ghost use Rattle.std.specs.Prelude.{◌≡◌, ◌≢◌, ◌<◌, ◌≤◌, ◌+◌, ◌*◌, ◌%◌, ◌++◌, ◌∷◌, [], ℕ};
+ghost use Rattle.std.specs.Prelude.{length, map, option_map, slice_get, IfOk, IfErr, OnOk};
 ghost use Rattle.replay_check.specs.Inputs.{contents};
 ghost use Rattle.check_files.specs.File.{are_there, faults_of, lefts_of};
 ghost use Rattle.check_files.specs.Files.{limit_of, AreContents, AreWithin, IsTextOf};
-ghost use Rattle.check_files.specs.Stopped.{FaultsBy, IsStopped, IsStoppedAt};
+ghost use Rattle.check_files.specs.Stopped.{FaultsBy, IsStopped, IsStoppedAt, LeftsBy};
+ghost use Rattle.check_files.specs.Whole.{emptied};
 
 use crate::file::read_file;
 use crate::{CheckError, File, Unread};
@@ -32,8 +33,10 @@ pub fn read_at<S: Source>(
     requires within { place < length files.old }
     requires few { length files.old ≤ 33 }
     ensures text { IfOk result (λ bytes. IsTextOf (lefts_of S.left files.old) place bytes.items) }
+    ensures left { OnOk result (slice_get (lefts_of S.left files.new) place
+        ≡ option_map emptied (slice_get (lefts_of S.left files.old) place)) }
     ensures faults { OnOk result (faults_of S.read_faults files.new ≡ faults_of S.read_faults files.old) }
-    ensures others { (k : ℕ) → place < k
+    ensures others { (k : ℕ) → k ≢ place
         → slice_get (lefts_of S.left files.new) k ≡ slice_get (lefts_of S.left files.old) k }
     ensures err { IfErr result (λ e. IsStoppedAt (lefts_of S.left files.old) place e) }
     ensures counts { IfErr result (λ e. FaultsBy e (faults_of S.read_faults files.old)
@@ -72,8 +75,10 @@ pub fn read_all<S: Source>(alloc: Global, files: &mut [File<S>]) -> Result<Conte
     ensures contents { IfOk result (λ texts. AreContents (lefts_of S.left files.old) texts.journal.items
         (contents texts.inputs.items) (contents texts.replies.items)) }
     ensures within { OnOk result (AreWithin (lefts_of S.left files.old) (length files.old)) }
+    ensures emptied { OnOk result (lefts_of S.left files.new ≡ map emptied (lefts_of S.left files.old)) }
     ensures faults { OnOk result (faults_of S.read_faults files.new ≡ faults_of S.read_faults files.old) }
     ensures err { IfErr result (λ e. IsStopped (lefts_of S.left files.old) e) }
+    ensures lefts { IfErr result (λ e. LeftsBy e (lefts_of S.left files.old) (lefts_of S.left files.new)) }
     ensures counts { IfErr result (λ e. FaultsBy e (faults_of S.read_faults files.old)
         (faults_of S.read_faults files.new)) }
     ensures there { are_there files.new ≡ are_there files.old }

@@ -35,7 +35,7 @@ pub fn open_named<H: Host>(
     ensures there { IfOk result (λ files. are_there files.items ≡ are_named (map named names.entry.now)) }
     ensures fresh { IfOk result (λ files. NoneFailed (faults_of H.In.read_faults files.items)) }
     ensures failed { IfErr result (λ files. FileFails (map named names.entry.now) (length files.items)
-        (H.host_told host.old) (H.host_told host.new)) }
+        (H.host_told host.old) (H.host_told host.new) (lefts_of H.In.left files.items)) }
     ensures failed_there { IfErr result (λ files. are_there files.items
         ≡ are_named (take (length files.items) (map named names.entry.now))) }
     ensures failed_fresh { IfErr result (λ files. NoneFailed (faults_of H.In.read_faults files.items)) }

@@ -1,8 +1,9 @@
 // The verdict on files.
-ghost use Rattle.std.specs.Prelude.{◌≡◌, ◌≤◌, ◌%◌, length, IfOk, IfErr, OnOk};
+ghost use Rattle.std.specs.Prelude.{◌≡◌, ◌≤◌, ◌%◌, length, map, IfOk, IfErr, OnOk};
 ghost use Rattle.check_files.specs.File.{are_there, faults_of, lefts_of};
 ghost use Rattle.check_files.specs.Judged.{IsJudged};
-ghost use Rattle.check_files.specs.Stopped.{FaultsBy, IsStopped};
+ghost use Rattle.check_files.specs.Stopped.{FaultsBy, IsStopped, LeftsBy};
+ghost use Rattle.check_files.specs.Whole.{emptied};
 
 use crate::contents::read_all;
 use crate::{CheckError, File};
@@ -17,10 +18,12 @@ pub fn check_files<S: Source>(alloc: Global, files: &mut [File<S>]) -> Result<Ve
     requires pairs { length files.old % 2 ≡ 1 }
     requires few { length files.old ≤ 33 }
     ensures verdict { IfOk result (IsJudged (lefts_of S.left files.old)) }
+    ensures emptied { OnOk result (lefts_of S.left files.new ≡ map emptied (lefts_of S.left files.old)) }
     ensures faults { OnOk result (faults_of S.read_faults files.new ≡ faults_of S.read_faults files.old) }
 
     // Each error has its cause.
     ensures err { IfErr result (IsStopped (lefts_of S.left files.old)) }
+    ensures lefts { IfErr result (λ e. LeftsBy e (lefts_of S.left files.old) (lefts_of S.left files.new)) }
     ensures counts { IfErr result (λ e. FaultsBy e (faults_of S.read_faults files.old)
         (faults_of S.read_faults files.new)) }
 

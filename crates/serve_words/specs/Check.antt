@@ -4,6 +4,7 @@ use Rattle.std.specs.Prelude.{List, [], ◌∷◌, Option, Some, None, codes, le
 use Rattle.std.specs.Option.{option_and_then, option_map}
 use Rattle.std.specs.Str.{bytes_eq}
 use Rattle.serve_words.specs.Command.{check_command, rows_by}
+use Rattle.serve_words.specs.Named.{begins_with}
 use Rattle.serve_words.specs.Task.{files_in}
 use Rattle.serve_words.specs.declared.check.CheckTask.{CheckTask}
 
@@ -26,9 +27,12 @@ are_pairs count = nat_le 3 count && (nat_le count 33 && count % 2 == 1)
 abbrev pub check_for : List (List ℕ) → Option (List (Option (List ℕ)))
 check_for words = if are_pairs (length words) then Some (files_from 0 words) else None
 
--- the files that the words ask to be checked, by their places; none where they are bad words
+-- the files that the words ask to be checked, by their places; none where they are bad words, as where the first isn't
+-- `check`
 abbrev pub check_of : List (List ℕ) → Option (List (Option (List ℕ)))
-check_of words = option_and_then (λ rows. check_for (files_in rows)) (rows_by check_command words)
+check_of words =
+    if begins_with (codes "check") words
+    then option_and_then (λ rows. check_for (files_in rows)) (rows_by check_command words) else None
 
 -- the files, as the code holds them
 abbrev pub shown_check : CheckTask → List (Option (List ℕ))

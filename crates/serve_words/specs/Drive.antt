@@ -1,9 +1,10 @@
 -- What the words of the command line ask `drive` for.
 use Rattle.std.specs.Prelude.{ℕ, ◌-◌, ◌*◌, ◌≤◌, ◌&&◌, Bool, nat_le, if◌then◌else◌}
-use Rattle.std.specs.Prelude.{List, Option, Some, None, length, map}
+use Rattle.std.specs.Prelude.{List, Option, Some, None, codes, length, map}
 use Rattle.std.specs.Option.{option_and_then}
 use Rattle.clap.specs.Walk.{Row}
 use Rattle.serve_words.specs.Command.{drive_command, rows_by}
+use Rattle.serve_words.specs.Named.{begins_with}
 use Rattle.serve_words.specs.Sizes.{AreAllowed, sizes_in}
 use Rattle.serve_words.specs.Task.{files_in}
 use Rattle.serve_words.specs.declared.drive.DriveTask.{DriveTask}
@@ -25,9 +26,10 @@ drive_for files sizes = if is_drive_of files sizes then Some (record { files = f
 abbrev pub drive_in : List Row → Option Drive
 drive_in rows = option_and_then (drive_for (files_in rows)) (sizes_in rows)
 
--- the task that the words ask for; none where they are bad words
+-- the task that the words ask for, of which the first is `drive`; none where they are bad words
 abbrev pub drive_of : List (List ℕ) → Option Drive
-drive_of words = option_and_then drive_in (rows_by drive_command words)
+drive_of words =
+    if begins_with (codes "drive") words then option_and_then drive_in (rows_by drive_command words) else None
 
 -- the task, as the code holds it
 abbrev pub shown_drive : DriveTask → Drive

@@ -1,8 +1,13 @@
 -- The command that the first word names.
-use Rattle.std.specs.Prelude.{ℕ, List, [], ◌∷◌, codes, if◌then◌else◌}
+use Rattle.std.specs.Prelude.{ℕ, Bool, false, List, [], ◌∷◌, codes, if◌then◌else◌}
 use Rattle.std.specs.Str.{bytes_eq}
 use Rattle.serve_words.specs.declared.named.CommandName.{CommandName}
 use Rattle.serve_words.specs.declared.named.CommandName.TheVariants.{Serve, Check, Gen, Drive}
+
+-- the first word is this one
+abbrev pub begins_with : List ℕ → List (List ℕ) → Bool
+begins_with name [] = false
+begins_with name (command ∷ words) = bytes_eq command name
 
 -- words that name no command are bad words of `serve`
 abbrev pub name_of : List (List ℕ) → CommandName

@@ -1,11 +1,12 @@
 -- What the words of the command line ask for.
-use Rattle.std.specs.Prelude.{ℕ, Bool, List, [], ◌∷◌, Option, None, codes, if◌then◌else◌, map, length, unwrap_or}
+use Rattle.std.specs.Prelude.{ℕ, Bool, List, [], Option, None, codes, if◌then◌else◌, map, length, unwrap_or}
 use Rattle.std.specs.Prelude.{◌≤◌, ◌*◌, ◌&&◌, false, nat_le, String, string_bytes}
 use Rattle.std.specs.Global.{Global}
 use Rattle.std.specs.Option.{option_and_then, option_map, option_map_or}
 use Rattle.std.specs.Str.{bytes_eq}
 use Rattle.clap.specs.Walk.{Row, all_of, first_of}
 use Rattle.serve_words.specs.Command.{rows_by, serve_command}
+use Rattle.serve_words.specs.Named.{begins_with}
 use Rattle.serve_words.specs.Sizes.{AreAllowed, size_in, sizes_in, workers_limits}
 use Rattle.serve_words.specs.declared.sizes.Sizes.{Sizes}
 use Rattle.serve_words.specs.declared.task.ServeTask.{ServeTask}
@@ -43,14 +44,10 @@ files_in rows = unwrap_or (all_of (codes "file") rows) []
 abbrev pub task_in : List Row → Option Task
 task_in rows = option_and_then (task_for (files_in rows) rows) (sizes_in rows)
 
--- the first word is `serve`
-abbrev pub is_serve : List (List ℕ) → Bool
-is_serve [] = false
-is_serve (command ∷ words) = bytes_eq command (codes "serve")
-
--- the task that the words ask for; none where they are bad words
+-- the task that the words ask for, of which the first is `serve`; none where they are bad words
 abbrev pub task_of : List (List ℕ) → Option Task
-task_of words = if is_serve words then option_and_then task_in (rows_by serve_command words) else None
+task_of words =
+    if begins_with (codes "serve") words then option_and_then task_in (rows_by serve_command words) else None
 
 abbrev pub texts_of : List (String Global) → List (List ℕ)
 texts_of words = map (λ word. string_bytes word) words

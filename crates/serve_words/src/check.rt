@@ -3,6 +3,7 @@ ghost use Rattle.serve_words.specs.Check.{are_pairs, check_of, file_at, files_fr
 ghost use Rattle.serve_words.specs.Task.{texts_of};
 
 use crate::command::check_matches;
+use crate::named::begins_with;
 use crate::task::files_in;
 use flake_base::Memory;
 use std::alloc::{AllocError, Global};
@@ -22,6 +23,9 @@ pub fn check_task<'a>(alloc: Global, words: &'a [String]) -> Result<Option<Check
     ensures few { IfOk result (λ task. IfSome task (λ t. length t.files.items ≤ 33)) }
     ensures pairs { IfOk result (λ task. IfSome task (λ t. length t.files.items % 2 ≡ 1)) }
 {
+    if !begins_with(words, "check") {
+        return Ok(None);
+    }
     let Some(matches) = check_matches(alloc, words)? else {
         return Ok(None);
     };

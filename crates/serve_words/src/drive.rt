@@ -5,6 +5,7 @@ ghost use Rattle.serve_words.specs.Drive.{IsDrivable, drive_in, drive_of, is_dri
 ghost use Rattle.serve_words.specs.Task.{texts_of};
 
 use crate::command::drive_matches;
+use crate::named::begins_with;
 use crate::sizes::{Sizes, sizes_in};
 use crate::task::files_in;
 use clap::ArgMatches;
@@ -25,6 +26,9 @@ pub fn drive_task<'a>(alloc: Global, words: &'a [String]) -> Result<Option<Drive
     ensures value { IfOk result (λ task. option_map shown_drive task ≡ drive_of (texts_of words.entry.now)) }
     ensures allowed { IfOk result (λ task. IfSome task (λ t. IsDrivable (shown_drive t))) }
 {
+    if !begins_with(words, "drive") {
+        return Ok(None);
+    }
     match drive_matches(alloc, words)? {
         Some(matches) => drive_in(alloc, &matches),
         None => Ok(None),

@@ -1,5 +1,5 @@
 ghost use Rattle.std.specs.Prelude.{◌≡◌};
-ghost use Rattle.serve_words.specs.Named.{name_of};
+ghost use Rattle.serve_words.specs.Named.{begins_with, name_of};
 ghost use Rattle.serve_words.specs.Task.{texts_of};
 
 /// What the first word of a command line asks for.
@@ -21,5 +21,15 @@ pub fn command_name(words: &[String]) -> CommandName
         [command, ..] if command.as_str() == "gen" => CommandName::Gen,
         [command, ..] if command.as_str() == "drive" => CommandName::Drive,
         _ => CommandName::Serve,
+    }
+}
+
+/// Whether the first word is this one.
+pub(crate) fn begins_with(words: &[String], name: &str) -> bool
+    ensures { result ≡ begins_with name.now (texts_of words.now) }
+{
+    match words {
+        [command, ..] => command.as_str() == name,
+        [] => false,
     }
 }

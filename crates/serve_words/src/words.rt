@@ -1,7 +1,8 @@
 ghost use Rattle.std.specs.Prelude.{◌≡◌, IfOk, IfSome, option_map};
-ghost use Rattle.serve_words.specs.Task.{IsAllowed, is_serve, shown, task_of, texts_of};
+ghost use Rattle.serve_words.specs.Task.{IsAllowed, shown, task_of, texts_of};
 
 use crate::command::serve_matches;
+use crate::named::begins_with;
 use crate::task::{ServeTask, task_in};
 use flake_base::Memory;
 use std::alloc::Global;
@@ -12,20 +13,11 @@ pub fn serve_task<'a>(alloc: Global, words: &'a [String]) -> Result<Option<Serve
     ensures value { IfOk result (λ task. option_map shown task ≡ task_of (texts_of words.entry.now)) }
     ensures allowed { IfOk result (λ task. IfSome task (λ t. IsAllowed (shown t))) }
 {
-    if !is_serve(words) {
+    if !begins_with(words, "serve") {
         return Ok(None);
     }
     match serve_matches(alloc, words)? {
         Some(matches) => task_in(alloc, &matches),
         None => Ok(None),
-    }
-}
-
-fn is_serve(words: &[String]) -> bool
-    ensures { result ≡ is_serve (texts_of words.now) }
-{
-    match words {
-        [command, ..] => command.as_str() == "serve",
-        [] => false,
     }
 }

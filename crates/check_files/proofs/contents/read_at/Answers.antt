@@ -1,8 +1,8 @@
-use Rattle.std.proofs.Common.{◌≡◌, ◌≢◌, ◌<◌, ℕ, List, Option, Some, IsSomeAnd, MatchOption, IfSome, length, map, slice_get, slice_set, slice_index, get_or, arith, refl, sym, ap, ap₂, ◌∙◌, subst}
+use Rattle.std.proofs.Common.{◌≡◌, ◌<◌, ℕ, List, Option, Some, IsSomeAnd, length, map, slice_get, slice_set, get_or, refl, sym, ap, ◌∙◌, subst, option_map}
 use Rattle.flake_base.specs.Causes.{Rose}
 use Rattle.check_files.specs.File.{faults_in, is_there, left_in}
 use Rattle.check_files.specs.Files.{limit_of}
-use Rattle.check_files.specs.Whole.{IsPast}
+use Rattle.check_files.specs.Whole.{IsPast, emptied}
 use Rattle.check_files.specs.Stopped.{RoseAt}
 use Rattle.std.proofs.Math.Seq.{map-set_same}
 use Rattle.check_files.specs.Whole.{IsUnread}
@@ -26,21 +26,29 @@ past_at : {S : Type 0} (f : S → Option (List ℕ)) (xs : List S) (k limit : �
 past_at f xs k limit d within limit_is past =
     subst (λ o. IsSomeAnd o (λ left. IsPast (limit_of k) left)) (sym (shown_at f xs k d within)) (subst (λ n. IsPast n (f (get_or xs k d))) limit_is past)
 
+-- a source that was read to its end
+emptied_at : {S : Type 0} (f : S → Option (List ℕ)) (xs : List S) (k : ℕ) (y d : S) → k < length xs → f y ≡ emptied (f (get_or xs k d)) → slice_get (map f (slice_set xs k y)) k ≡ option_map emptied (slice_get (map f xs) k)
+emptied_at f xs k y d within is = shown_new f xs k y within ∙ ap Some is ∙ sym (ap (option_map emptied) (shown_at f xs k d within))
+
+pub returns-in-Ok-clause-left : goal.returns-in-Ok-clause-left
+returns-in-Ok-clause-left g c =
+    emptied_at (λ f. left_in g.S.Source.left f) c.args.files.now c.args.place c.read_file.new.file c.index-files-place.result c.requires.within c.in-Ok.ensures.left
+
 pub returns-in-Ok-clause-faults : goal.returns-in-Ok-clause-faults
 returns-in-Ok-clause-faults g c =
     map-set_same (λ f. faults_in g.S.Source.read_faults f) c.args.files.now c.args.place c.read_file.new.file c.index-files-place.result c.in-Ok.ensures.faults
 
 pub returns-in-Ok-clause-others : goal.returns-in-Ok-clause-others
-returns-in-Ok-clause-others g c k above = other_places (λ f. left_in g.S.Source.left f) c.args.files.now c.args.place c.read_file.new.file k (λ is. omega (arith, is, above))
+returns-in-Ok-clause-others g c k other = other_places (λ f. left_in g.S.Source.left f) c.args.files.now c.args.place c.read_file.new.file k other
 
 pub returns-in-Err-Fault-clause-others : goal.returns-in-Err-Fault-clause-others
-returns-in-Err-Fault-clause-others g c k above = other_places (λ f. left_in g.S.Source.left f) c.args.files.now c.args.place c.read_file.new.file k (λ is. omega (arith, is, above))
+returns-in-Err-Fault-clause-others g c k other = other_places (λ f. left_in g.S.Source.left f) c.args.files.now c.args.place c.read_file.new.file k other
 
 pub returns-in-Err-TooLarge-clause-others : goal.returns-in-Err-TooLarge-clause-others
-returns-in-Err-TooLarge-clause-others g c k above = other_places (λ f. left_in g.S.Source.left f) c.args.files.now c.args.place c.read_file.new.file k (λ is. omega (arith, is, above))
+returns-in-Err-TooLarge-clause-others g c k other = other_places (λ f. left_in g.S.Source.left f) c.args.files.now c.args.place c.read_file.new.file k other
 
 pub returns-in-Err-Memory-clause-others : goal.returns-in-Err-Memory-clause-others
-returns-in-Err-Memory-clause-others g c k above = other_places (λ f. left_in g.S.Source.left f) c.args.files.now c.args.place c.read_file.new.file k (λ is. omega (arith, is, above))
+returns-in-Err-Memory-clause-others g c k other = other_places (λ f. left_in g.S.Source.left f) c.args.files.now c.args.place c.read_file.new.file k other
 
 pub returns-in-Err-Fault-clause-counts : goal.returns-in-Err-Fault-clause-counts
 returns-in-Err-Fault-clause-counts g c =

@@ -1,4 +1,4 @@
-use Rattle.std.proofs.Common.{◌≡◌, ◌++◌, List, ℕ, Option, IfErr, length, map, take, drop, vec_len, arith, sym, ap, ◌∙◌, subst}
+use Rattle.std.proofs.Common.{◌≡◌, IfErr, length, map, drop, arith, sym, ap, ◌∙◌, subst}
 use Rattle.check_files.specs.Answer.{FailedBy, HasCauseIn}
 use Rattle.check_files.specs.File.{are_there, faults_of, lefts_of}
 use Rattle.check_files.specs.Named.{named, FilesOpened, NoneFailed}
@@ -13,9 +13,9 @@ returns-in-Ok-clause-err g c =
     let back = written_back files (drop (length files) c.in-Ok.files.items) c.in-Ok.files.len many in
     let words = map named c.args.names.now in
     let opened = subst (λ fs. FilesOpened words (g.H.Host.host_told c.args.host.now) (g.H.Host.host_told c.open_named.new.host) (lefts_of (λ s. g.H.In.Source.left s) fs)) (sym c.as_mut_slice.ensures.value) c.in-Ok.ensures.opened in
-    subst (λ fs. IfErr c.check_files-answer.result (HasCauseIn words (g.H.Host.host_told c.args.host.now) (g.H.Host.host_told c.open_named.new.host) (are_there fs))) (sym back)
-    (cause_in c.check_files-answer.result words _ _ (are_there files) (lefts_of (λ s. g.H.In.Source.left s) held) opened
-    (c.check_files-answer.ensures.there ∙ ap (λ fs. are_there fs) c.as_mut_slice.ensures.value ∙ c.in-Ok.ensures.there) c.check_files-answer.ensures.err)
+    subst (λ fs. IfErr c.check_files-answer.result (HasCauseIn words (g.H.Host.host_told c.args.host.now) (g.H.Host.host_told c.open_named.new.host) (are_there fs) (lefts_of (λ s. g.H.In.Source.left s) fs))) (sym back)
+    (cause_in c.check_files-answer.result words _ _ (are_there files) (lefts_of (λ s. g.H.In.Source.left s) held) (lefts_of (λ s. g.H.In.Source.left s) files) opened
+    (c.check_files-answer.ensures.there ∙ ap (λ fs. are_there fs) c.as_mut_slice.ensures.value ∙ c.in-Ok.ensures.there) c.check_files-answer.ensures.err c.check_files-answer.ensures.lefts)
 
 pub returns-in-Ok-clause-failed : goal.returns-in-Ok-clause-failed
 returns-in-Ok-clause-failed g c =

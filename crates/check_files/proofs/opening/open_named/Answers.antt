@@ -1,6 +1,6 @@
-use Rattle.std.proofs.Common.{◌≡◌, ◌<◌, ◌++◌, ◌∷◌, [], Option, None, length, map, take, vec_len, vec_capacity, arith, sym, ap, ◌∙◌, length-append}
+use Rattle.std.proofs.Common.{◌≡◌, ◌<◌, ◌++◌, ◌∷◌, [], None, length, vec_len, vec_capacity, arith, sym, ap, ◌∙◌, length-append}
 use Rattle.std.proofs.lemmas.Grind.{common_steps}
-use Rattle.check_files.specs.Named.{named, are_named}
+use Rattle.check_files.specs.Named.{are_named}
 use Rattle.check_files.proofs.OpenedFiles.{file_more, file_fails, front_is}
 use Rattle.check_files.proofs.opening.open_named.Goals as goal
 
