@@ -1,17 +1,17 @@
 -- The calls that bring both ends to one seat and part them again.
 use Rattle.std.proofs.Common.{◌≡◌, ℕ, List, [], ◌∷◌, ◌++◌, length, true, sym, refl, ap, ◌∙◌, subst, Option, length-append, append-nil, arith}
 use mathlib.Core.Option.{none}
-use Rattle.atomic_table.specs.Table.{Me, step, Allows, Enters, Splits, Joins}
+use Rattle.atomic_table.specs.Table.{Me, step, Allows, Enters, Joins}
 use Rattle.flake_base.specs.declared.segment.Seg.{Seg}
-use Rattle.tx_ring.specs.Ends.{steering, gathering}
+use Rattle.tx_ring.specs.Ends.{steering, gathering, IsBoth}
 use Rattle.tx_ring.specs.Rule.{nobody}
-use Rattle.tx_ring.specs.Plays.{Keeps, compared, InOrder, both_parts, driver_part, device_part}
+use Rattle.tx_ring.specs.Plays.{Keeps, compared, InOrder, both_parts}
 use Rattle.tx_ring.specs.declared.view.View.{View}
 use Rattle.tx_ring.specs.declared.view.DriverView.{DriverView}
 use Rattle.tx_ring.specs.declared.view.DeviceView.{DeviceView}
 use Rattle.tx_ring.specs.declared.view.DriverStage.TheVariants.{Closed}
 use Rattle.tx_ring.proofs.Seats.{enters}
-use Rattle.tx_ring.proofs.Steps.{compares, splits, joins-seats}
+use Rattle.tx_ring.proofs.Steps.{compares, joins-seats}
 
 -- what one seat has of both
 abbrev pub together : {P : Type 0} → DriverView P → DeviceView P → View P
@@ -27,12 +27,11 @@ module _ {P : Type 0} (segs : P → List Seg) (n slots : ℕ) where
   pub after-join : (m m' : Me (Option P) (View P)) (w : View P) (d : DriverView P) (e : DeviceView P) → m ≡ (steering d, []) → w ≡ gathering e → m' ≡ (both_parts m.0 w, m.1) → m' ≡ (together d e, [])
   after-join m m' w d e a b o = o ∙ ap (λ (z : Me (Option P) (View P)). (both_parts z.0 w, z.1)) a ∙ ap (λ (z : View P). (both_parts (steering d) z, [])) b
 
-  pub compare-call : (seat : ℕ) (m : Me (Option P) (View P)) (d : DriverView P) (e : DeviceView P) → slots ≡ n → m ≡ (together d e, []) → Allows (Keeps segs n) slots seat m 0 (λ x. x) (compared segs (step slots 0 0 0 none) m)
-  compare-call seat m d e same a = subst (λ (s : ℕ). Allows (Keeps segs n) s seat m 0 (λ x. x) (compared segs (step s 0 0 0 none) m)) (sym same)
-      (compares segs n seat m (ap (λ (z : Me (Option P) (View P)). z.0.drives) a) (ap (λ (z : Me (Option P) (View P)). z.0.gathers) a))
+  pub has-both : (m : Me (Option P) (View P)) (d : DriverView P) (e : DeviceView P) → m ≡ (together d e, []) → IsBoth m.0
+  has-both m d e a = (ap (λ (z : Me (Option P) (View P)). z.0.drives) a, ap (λ (z : Me (Option P) (View P)). z.0.gathers) a)
 
-  pub split-call : (seat : ℕ) (m : Me (Option P) (View P)) (d : DriverView P) (e : DeviceView P) → m ≡ (together d e, []) → Splits (Keeps segs n) seat m.0 (driver_part m.0) (device_part m.0)
-  split-call seat m d e a = splits segs n seat m (ap (λ (z : Me (Option P) (View P)). z.0.drives) a) (ap (λ (z : Me (Option P) (View P)). z.0.gathers) a)
+  pub compare-call : (seat : ℕ) (m : Me (Option P) (View P)) → slots ≡ n → IsBoth m.0 → Allows (Keeps segs n) slots seat m 0 (λ x. x) (compared segs (step slots 0 0 0 none) m)
+  compare-call seat m same b = subst (λ (s : ℕ). Allows (Keeps segs n) s seat m 0 (λ x. x) (compared segs (step s 0 0 0 none) m)) (sym same) (compares segs n seat m b.0 b.1)
 
   pub learned : (m : Me (Option P) (View P)) (d : DriverView P) (e : DeviceView P) → m ≡ (together d e, []) → InOrder m.0.driver m.0.device × (m.0.device.ended ≡ true → m.0.driver.stage ≡ Closed) → InOrder d e × (e.ended ≡ true → d.stage ≡ Closed)
   learned m d e a told = subst (λ (z : Me (Option P) (View P)). InOrder z.0.driver z.0.device × (z.0.device.ended ≡ true → z.0.driver.stage ≡ Closed)) a told

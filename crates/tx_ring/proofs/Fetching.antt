@@ -8,23 +8,30 @@ use lib.Seq.{take_all}
 use Rattle.tx_ring.specs.Rows.{frame_rows}
 use Rattle.tx_ring.specs.declared.job.Row.{Row}
 use Rattle.tx_ring.proofs.Words.{take-get}
-use Rattle.tx_ring.specs.Ends.{gathering, IsFetching, Fetched}
+use Rattle.tx_ring.specs.Ends.{gathering, IsFetching, IsAtWord, Fetched}
 use Rattle.tx_ring.specs.Moves.{fetching, holding}
 use Rattle.tx_ring.specs.Plays.{Keeps, fetched, Fetches, with_device}
 use Rattle.tx_ring.specs.declared.view.View.{View}
+use Rattle.std.proofs.lemmas.Nat.{mod_below}
 use Rattle.tx_ring.proofs.Posting.{word-at}
 use Rattle.tx_ring.proofs.Steps.{fetches-word}
 
+module _ {P : Type 0} (segs : P → List Seg) (n : ℕ) where
+  pub fetch-below : (m : Me (Option P) (View P)) (k : ℕ) → 0 < n → IsAtWord segs n m k → k < 3 + 2 * n
+  fetch-below m k some_place w = let h = mod_below (2 * extent segs m.0.device.completed + w.1) (2 * n) (omega arith) in omega (arith, w.4)
+
+  pub fetch-call : (slots seat : ℕ) (m : Me (Option P) (View P)) (k : ℕ) → slots ≡ n → IsAtWord segs n m k → Allows (Keeps segs n) slots seat m k (λ x. x) (fetched segs (step slots k 0 0 none) m)
+  fetch-call slots seat m k same w = subst (λ (p : ℕ × ℕ). Allows (Keeps segs n) p.0 seat m p.1 (λ x. x) (fetched segs (step p.0 p.1 0 0 none) m)) (λ j. (sym same j, sym w.4 j))
+      (fetches-word segs n seat m w.2 w.0 w.1 w.3)
+
 module _ {P : Type 0} (segs : P → List Seg) (n : ℕ) (f : P) where
   -- the first word is one of the frame, and not its last
-  pub low-call : (slots seat : ℕ) (m : Me (Option P) (View P)) (place at : ℕ) → slots ≡ n → 0 < n → IsFetching segs n m place at f
-      → Allows (Keeps segs n) slots seat m (3 + 2 * place) (λ x. x) (fetched segs (step slots (3 + 2 * place) 0 0 none) m)
-  low-call slots seat m place at same some_place i =
+  pub at-low : (m : Me (Option P) (View P)) (place at : ℕ) → 0 < n → IsFetching segs n m place at f → IsAtWord segs n m (3 + 2 * place)
+  at-low m place at some_place i =
       let e : 2 * extent segs m.0.device.completed + 2 * at ≡ 2 * (extent segs m.0.device.completed + at) + 0 = omega arith in
       let word : 3 + (2 * extent segs m.0.device.completed + 2 * at) % (2 * n) ≡ 3 + 2 * place =
       (let w = ap (λ t. t % (2 * n)) e ∙ word-at (extent segs m.0.device.completed + at) n 0 some_place (omega arith) in omega (arith, i.4)) in
-      subst (λ (p : ℕ × ℕ). Allows (Keeps segs n) p.0 seat m p.1 (λ x. x) (fetched segs (step p.0 p.1 0 0 none) m)) (λ k. (sym same k, word k))
-      (fetches-word segs n seat m (ap (λ (z : Me (Option P) (View P)). z.0.gathers) i.0) f (2 * at) i.1)
+      (f, 2 * at, ap (λ (z : Me (Option P) (View P)). z.0.gathers) i.0, i.1, sym word)
 
   pub after-low : (slots r : ℕ) (m m' : Me (Option P) (View P)) (place at : ℕ) → IsFetching segs n m place at f → Fetches segs slots m r m' m.0.device.stage
       → (r ≡ get_or (frame_words false (segs f)) (2 * at) 0) × (m' ≡ (gathering (fetching f (2 * at + 1) m.0.device), []))
@@ -33,15 +40,13 @@ module _ {P : Type 0} (segs : P → List Seg) (n : ℕ) (f : P) where
       let short = i.2 in
       (t.0, t.1 (omega arith) ∙ ap (λ (z : Me (Option P) (View P)). (with_device (fetching f (2 * at + 1) m.0.device) z.0, z.1)) i.0)
 
-  pub high-call : (slots seat : ℕ) (m m' : Me (Option P) (View P)) (place at : ℕ) → slots ≡ n → 0 < n → IsFetching segs n m place at f → m' ≡ (gathering (fetching f (2 * at + 1) m.0.device), [])
-      → Allows (Keeps segs n) slots seat m' (3 + 2 * place + 1) (λ x. x) (fetched segs (step slots (3 + 2 * place + 1) 0 0 none) m')
-  high-call slots seat m m' place at same some_place i was =
+  pub at-high : (m m' : Me (Option P) (View P)) (place at : ℕ) → 0 < n → IsFetching segs n m place at f → m' ≡ (gathering (fetching f (2 * at + 1) m.0.device), []) → IsAtWord segs n m' (3 + 2 * place + 1)
+  at-high m m' place at some_place i was =
       let done = ap (λ (z : Me (Option P) (View P)). extent segs z.0.device.completed) was in
       let e : 2 * extent segs m'.0.device.completed + (2 * at + 1) ≡ 2 * (extent segs m.0.device.completed + at) + 1 = omega arith in
       let word : 3 + (2 * extent segs m'.0.device.completed + (2 * at + 1)) % (2 * n) ≡ 3 + 2 * place + 1 =
       (let w = ap (λ t. t % (2 * n)) e ∙ word-at (extent segs m.0.device.completed + at) n 1 some_place (omega arith) in omega (arith, i.4)) in
-      subst (λ (p : ℕ × ℕ). Allows (Keeps segs n) p.0 seat m' p.1 (λ x. x) (fetched segs (step p.0 p.1 0 0 none) m')) (λ k. (sym same k, word k))
-      (fetches-word segs n seat m' (ap (λ (z : Me (Option P) (View P)). z.0.gathers) was) f (2 * at + 1) (ap (λ (z : Me (Option P) (View P)). z.0.device.stage) was))
+      (f, 2 * at + 1, ap (λ (z : Me (Option P) (View P)). z.0.gathers) was, ap (λ (z : Me (Option P) (View P)). z.0.device.stage) was, sym word)
 
   pub after-high : (slots low r : ℕ) (m m' m'' : Me (Option P) (View P)) (place at : ℕ) → slots ≡ n → IsFetching segs n m place at f → low ≡ get_or (frame_words false (segs f)) (2 * at) 0 → m' ≡ (gathering (fetching f (2 * at + 1) m.0.device), [])
       → Fetches segs slots m' r m'' m'.0.device.stage → Fetched segs m m'' place at low r f

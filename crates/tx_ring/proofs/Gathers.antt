@@ -115,6 +115,7 @@ module _ {P : Type 0} (segs : P → List Seg) (n : ℕ) (words : List ℕ) (home
             fetches = (rest, w);
             closed = s.closed;
             ended = s.ended;
+            shut = s.shut;
             driver_told = s.driver_told;
             device_told = s.device_told;
           },
@@ -183,6 +184,7 @@ module _ {P : Type 0} (segs : P → List Seg) (n : ℕ) (words : List ℕ) (home
           fetches = (e.completed, refl);
           closed = λ ne. let c = s.closed (subst (λ t. t ≢ 0) closed_word ne) in c;
           ended = λ t. subst (λ t. t ≢ 0) (sym closed_word) (s.ended t);
+          shut = λ t. subst (λ t. t ≢ 0) (sym closed_word) (s.shut t);
           driver_told = omega (arith, s.driver_told, length-append e.completed (f ∷ []));
           device_told = s.device_told;
         }
@@ -208,6 +210,7 @@ module _ {P : Type 0} (segs : P → List Seg) (n : ℕ) (words : List ℕ) (home
         fetches = tt;
         closed = λ ne. s.closed (subst (λ t. t ≢ 0) closed_word ne);
         ended = λ t. subst (λ t. t ≢ 0) (sym closed_word) (s.ended t);
+        shut = λ t. subst (λ t. t ≢ 0) (sym closed_word) (s.shut t);
         driver_told = s.driver_told;
         device_told = s.device_told;
       }

@@ -101,6 +101,18 @@ module _ {P : Type 0} (segs : P → List Seg) where
         let last : get_or words (3 + 2 * (a % n) + 1) 0 ≡ high v = ap (λ t. get_or words t 0) top ∙ word (2 * j + 1) two.0 ∙ two.2 in
         (λ i. to_le_bytes w64 (first i) ++ to_le_bytes w64 (last i)) ∙ bytes-are v fit
 
+  no-frame : (fs : List P) → length fs ≡ 0 → fs ≡ []
+  no-frame [] e = refl
+  no-frame (f ∷ fs) e = absurd (omega (arith, e))
+
+  -- where all was reaped, nothing stands
+  none-left : (reaped finished waiting : List P) → reaped ≡ (reaped ++ finished) ++ waiting → (finished ≡ []) × (waiting ≡ [])
+  none-left reaped finished waiting e =
+      let long = ap length e in
+      let more = length-append (reaped ++ finished) waiting in
+      let some = length-append reaped finished in
+      (no-frame finished (omega (arith, long, more, some)), no-frame waiting (omega (arith, long, more, some)))
+
   pub words-are-descriptors : WordsAreDescriptors segs
   words-are-descriptors n words homes views ring =
       let s = ring.stands in
@@ -111,4 +123,5 @@ module _ {P : Type 0} (segs : P → List Seg) where
         posted_is = s.posted_is;
         fits = (let fits = s.fits in omega arith);
         each = stand-at n words homes ring.driver ring.device s;
+        ended = λ t. none-left ring.driver.reaped s.finished s.waiting (sym (s.closed (s.ended t)).1 ∙ s.posted_is ∙ ap (λ fs. fs ++ s.waiting) s.completed_is);
       }

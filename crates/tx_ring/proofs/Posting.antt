@@ -5,7 +5,7 @@ use Rattle.std.proofs.lemmas.Nat.{mod-mul-add, div-add-mod', mod_below}
 use Rattle.atomic_table.specs.Table.{Me, step, Allows, rest}
 use Rattle.flake_base.specs.declared.segment.Seg.{Seg}
 use Rattle.tx_ring.specs.Words.{second, frame_words, pairs, IsFrame, size, extent}
-use Rattle.tx_ring.specs.Ends.{IsDrafting, with_draft}
+use Rattle.tx_ring.specs.Ends.{IsDrafting, IsPut, with_draft}
 use native.Mathlib.Nat.{mul-add-mod_self_right}
 use Rattle.std.proofs.lemmas.List.{length-take-le}
 use lib.Seq.{take_all}
@@ -72,7 +72,7 @@ module _ {P : Type 0} (segs : P → List Seg) (n slots seat : ℕ) (m : Me (Opti
 
   pub move-tail : (last after : ℕ) (f : P) (s : Seg) → m ≡ (with_driver (drafted (second s.len true false) (drafting s.address v.driver)) v, (place, Some f) ∷ []) → IsFrame (segs f)
       → v.driver.draft ≡ pairs (take last (segs f)) → slice_get (segs f) last ≡ Some s → last + 1 ≡ size segs f → after ≡ (place + 1) % n
-      → Allows (Keeps segs n) slots seat m 0 (λ _. after) (λ _. moved_tail segs (step slots 0 after 0 none) m after)
+      → IsPut segs n m after
   move-tail last after f s was frame draft at whole next =
       let q : i.drafted ≡ last = omega (arith, i.whole, ap length draft ∙ pairs-length (take last (segs f)) ∙ ap (λ t. 2 * t) (length-take-le last (segs f) (omega arith))) in
       let posted : m.0.driver.posted ≡ v.driver.posted = ap (λ (z : Me (Option P) (View P)). z.0.driver.posted) was in
@@ -84,8 +84,11 @@ module _ {P : Type 0} (segs : P → List Seg) (n slots seat : ℕ) (m : Me (Opti
       ap (λ (z : Me (Option P) (View P)). z.1) was ∙ (λ k. (i.is_place k, Some f) ∷ []) ∙ (λ k. (sym here k % n, Some f) ∷ []) in
       let tail : (extent segs m.0.driver.posted + size segs f) % n ≡ after =
       sym (next-place (extent segs v.driver.posted + i.drafted) place n after some_place i.is_place next ∙ ap (λ t. t % n) (let z : extent segs v.driver.posted + i.drafted + 1 ≡ extent segs m.0.driver.posted + size segs f = omega (arith, ap (extent segs) posted) in z)) in
-      subst (λ (p : ℕ × ℕ). Allows (Keeps segs n) p.0 seat m 0 (λ _. p.1) (λ _. moved_tail segs (step p.0 0 p.1 0 none) m p.1)) (λ k. (sym same k, tail k))
-      (moves-the-tail segs n seat m (ap (λ (z : Me (Option P) (View P)). z.0.drives) was ∙ i.drives) f (ap (λ (z : Me (Option P) (View P)). z.0.driver.stage) was) ws frame carried)
+      (f, ap (λ (z : Me (Option P) (View P)). z.0.drives) was ∙ i.drives, ap (λ (z : Me (Option P) (View P)). z.0.driver.stage) was, ws, frame, carried, sym tail)
+
+pub put-call : {P : Type 0} (segs : P → List Seg) (n slots seat : ℕ) (m : Me (Option P) (View P)) (tail : ℕ) → slots ≡ n → IsPut segs n m tail → Allows (Keeps segs n) slots seat m 0 (λ _. tail) (λ _. moved_tail segs (step slots 0 tail 0 none) m tail)
+put-call {P} segs n slots seat m tail same p = subst (λ (q : ℕ × ℕ). Allows (Keeps segs n) q.0 seat m 0 (λ _. q.1) (λ _. moved_tail segs (step q.0 0 q.1 0 none) m q.1)) (λ k. (sym same k, sym p.6 k))
+    (moves-the-tail segs n seat m p.1 p.0 p.2 p.3 p.4 p.5)
 
 -- the draft after the first segments of a frame
 pub drafts : {P : Type 0} (segs : P → List Seg) (n : ℕ) (v w : View P) (start place i : ℕ) (ss : List Seg) → IsDrafting segs n v start → v.driver.draft ≡ [] → i ≤ length ss

@@ -104,6 +104,7 @@ module _ {P : Type 0} (segs : P → List Seg) where
           fetches = s.fetches;
           closed = λ ne. s.closed (subst (λ t. t ≢ 0) closed_word ne);
           ended = λ t. subst (λ t. t ≢ 0) (sym closed_word) (s.ended t);
+          shut = λ t. subst (λ t. t ≢ 0) (sym closed_word) (s.shut t);
           driver_told = s.driver_told;
           device_told = s.device_told;
         }
@@ -139,6 +140,7 @@ module _ {P : Type 0} (segs : P → List Seg) where
             fetches = s.fetches;
             closed = λ ne. let c = s.closed (subst (λ t. t ≢ 0) closed_word ne) in absurd (let f = sym idle ∙ c.0 in cc);
             ended = λ t. subst (λ t. t ≢ 0) (sym closed_word) (s.ended t);
+            shut = λ t. absurd (let z : Putting ≡ Closed = t in cc);
             driver_told = s.driver_told;
             device_told = s.device_told;
           },
@@ -189,6 +191,7 @@ module _ {P : Type 0} (segs : P → List Seg) where
           fetches = device-more s.waiting e.completed e.stage f s.fetches;
           closed = λ ne. let c = s.closed (subst (λ t. t ≢ 0) closed_word ne) in absurd (let g = sym putting ∙ c.0 in cc);
           ended = λ t. subst (λ t. t ≢ 0) (sym closed_word) (s.ended t);
+          shut = λ t. absurd (let z : Idle ≡ Closed = t in cc);
           driver_told = s.driver_told;
           device_told = omega (arith, s.device_told, length-append d.posted (f ∷ []));
         }

@@ -6,7 +6,7 @@ use mathlib.Core.Option.{none}
 use Rattle.atomic_table.specs.Table.{Me, step, Allows, rest}
 use Rattle.flake_base.specs.declared.segment.Seg.{Seg}
 use Rattle.tx_ring.specs.Words.{size, extent}
-use Rattle.tx_ring.specs.Ends.{driving}
+use Rattle.tx_ring.specs.Ends.{driving, HasTaken}
 use Rattle.tx_ring.specs.Moves.{reaping, missed}
 use Rattle.tx_ring.specs.Plays.{Keeps, saw_status, gave_back, shut, with_driver}
 use Rattle.tx_ring.specs.declared.view.View.{View}
@@ -37,14 +37,17 @@ module _ {P : Type 0} (segs : P → List Seg) (n : ℕ) where
       → m'' ≡ (with_driver (reaping f (driving m.0.driver).driver) (driving m.0.driver), (last, None) ∷ [])
   after-hit f k last m m' m'' posed e o = o ∙ ap (λ (z : Me (Option P) (View P)). (z.0, (last, None) ∷ rest z.1)) e ∙ ap (λ (z : Me (Option P) (View P)). (with_driver (reaping f z.0.driver) z.0, (last, None) ∷ z.1)) posed
 
-  pub give-call : (slots seat : ℕ) (m : Me (Option P) (View P)) (d : DriverView P) (f : P) (last k : ℕ) → slots ≡ n → 0 < n → 0 < size segs f → last ≡ (extent segs d.reaped + (size segs f - 1)) % n
-      → m ≡ (with_driver (reaping f (driving d).driver) (driving d), (last, None) ∷ []) → Allows (Keeps segs n) slots seat m k (λ x. x) (gave_back segs (step slots k 0 0 none) m)
-  give-call slots seat m d f last k same some_place some_seg at e =
+  pub taken : (m : Me (Option P) (View P)) (d : DriverView P) (f : P) (last : ℕ) → 0 < n → 0 < size segs f → last ≡ (extent segs d.reaped + (size segs f - 1)) % n
+      → m ≡ (with_driver (reaping f (driving d).driver) (driving d), (last, None) ∷ []) → HasTaken segs n m last
+  taken m d f last some_place some_seg at e =
       let grown : extent segs m.0.driver.reaped ≡ extent segs d.reaped + size segs f = ap (λ (z : Me (Option P) (View P)). extent segs z.0.driver.reaped) e ∙ extent-append segs d.reaped (f ∷ []) ∙ (let z : extent segs d.reaped + extent segs (f ∷ []) ≡ extent segs d.reaped + size segs f = omega arith in z) in
       let place : last ≡ (extent segs m.0.driver.reaped + (n - 1)) % n =
       at ∙ sym (add-mod_right (extent segs d.reaped + (size segs f - 1)) n) ∙ ap (λ t. t % n) (let z : extent segs d.reaped + (size segs f - 1) + n ≡ extent segs m.0.driver.reaped + (n - 1) = omega arith in z) in
-      subst (λ (s : ℕ). Allows (Keeps segs n) s seat m k (λ x. x) (gave_back segs (step s k 0 0 none) m)) (sym same)
-      (gives-slot-back segs n seat m (ap (λ (z : Me (Option P) (View P)). z.0.drives) e) (ap (λ (z : Me (Option P) (View P)). z.0.driver.stage) e) (ap (λ (z : Me (Option P) (View P)). z.1) e ∙ (λ j. (place j, None) ∷ [])) k)
+      (last-below _ last some_place at, ap (λ (z : Me (Option P) (View P)). z.0.drives) e, ap (λ (z : Me (Option P) (View P)). z.0.driver.stage) e, ap (λ (z : Me (Option P) (View P)). z.1) e ∙ (λ j. (place j, None) ∷ []))
+
+  pub give-call : (slots seat : ℕ) (m : Me (Option P) (View P)) (last k : ℕ) → slots ≡ n → HasTaken segs n m last → Allows (Keeps segs n) slots seat m k (λ x. x) (gave_back segs (step slots k 0 0 none) m)
+  give-call slots seat m last k same h = subst (λ (s : ℕ). Allows (Keeps segs n) s seat m k (λ x. x) (gave_back segs (step s k 0 0 none) m)) (sym same)
+      (gives-slot-back segs n seat m h.1 h.2 h.3 k)
 
 -- what was in the slot
 pub slot_value : {P : Type 0} → Option P → List (ℕ × Option P) → Option P

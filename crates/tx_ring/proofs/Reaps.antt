@@ -14,7 +14,7 @@ use Rattle.tx_ring.specs.Rule.{Round, Stands, DriverHas, DeviceHas}
 use Rattle.tx_ring.specs.Moves.{missed, reaping, idle, closing}
 use Rattle.tx_ring.specs.declared.view.DriverView.{DriverView}
 use Rattle.tx_ring.specs.declared.view.DeviceView.{DeviceView}
-use Rattle.tx_ring.specs.declared.view.DriverStage.TheVariants.{Idle, Reaping}
+use Rattle.tx_ring.specs.declared.view.DriverStage.TheVariants.{Idle, Reaping, Closed}
 use Rattle.tx_ring.proofs.Rounds.{later, slot_here, slot_else, else_where}
 use Rattle.tx_ring.proofs.Words.{each-right, front-length, frame-length, Frame, extent-append, stops-length}
 use Rattle.tx_ring.proofs.Posts.{sums, device-from}
@@ -122,6 +122,7 @@ module _ {P : Type 0} (segs : P → List Seg) where
               fetches = s.fetches;
               closed = λ ne. let c = s.closed ne in absurd (let z = sym is_idle ∙ c.0 in cc);
               ended = s.ended;
+              shut = λ t. absurd (let z : Reaping ≡ Closed = t in cc);
               driver_told = s.driver_told;
               device_told = s.device_told;
             },
@@ -156,6 +157,7 @@ module _ {P : Type 0} (segs : P → List Seg) where
           fetches = s.fetches;
           closed = λ ne. let c = s.closed ne in absurd (let z = sym reaping_stage ∙ c.0 in cc);
           ended = s.ended;
+          shut = λ t. absurd (let z : Idle ≡ Closed = t in cc);
           driver_told = s.driver_told;
           device_told = s.device_told;
         }
@@ -180,6 +182,7 @@ module _ {P : Type 0} (segs : P → List Seg) where
           fetches = s.fetches;
           closed = λ _. (refl, all);
           ended = λ _. (λ z. absurd (omega (arith, closed_word)));
+          shut = λ _. (λ z. absurd (omega (arith, closed_word)));
           driver_told = s.driver_told;
           device_told = s.device_told;
         }

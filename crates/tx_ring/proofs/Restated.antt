@@ -30,6 +30,7 @@ module _ {P : Type 0} {segs : P → List Seg} {n : ℕ} {words : List ℕ} {home
     fetches = fetches;
     closed = s.closed;
     ended = shut;
+    shut = s.shut;
     driver_told = driver_short;
     device_told = device_short;
   }

@@ -12,7 +12,7 @@ use Rattle.tx_ring.specs.Plays.{with_driver, with_device, driver_part, device_pa
 use Rattle.tx_ring.specs.declared.view.View.{View}
 use Rattle.tx_ring.specs.declared.view.DriverView.{DriverView}
 use Rattle.tx_ring.specs.declared.view.DeviceView.{DeviceView}
-use Rattle.tx_ring.specs.declared.view.DriverStage.TheVariants.{Closed}
+use Rattle.tx_ring.specs.declared.view.DriverStage.TheVariants.{Idle, Closed}
 use Rattle.tx_ring.proofs.Restated.{restated}
 
 -- in a list with one item more an item was there before, or is the new one at its end
@@ -176,6 +176,7 @@ module _ {P : Type 0} (segs : P → List Seg) (n : ℕ) where
       fetches = tt;
       closed = λ ne. absurd (ne (zero_word words fresh 2 (omega arith)));
       ended = λ t. absurd (let y : false ≡ true = t in cc);
+      shut = λ t. absurd (let z : Idle ≡ Closed = t in cc);
       driver_told = omega arith;
       device_told = omega arith;
     };

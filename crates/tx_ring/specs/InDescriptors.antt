@@ -35,6 +35,8 @@ module _ {P : Type 0} (segs : P → List Seg) where
     pub each : (j : ℕ) (v : Legacy)
         → slice_get (descriptors_of true finished ++ descriptors_of false waiting) j ≡ Some v
         → place_bytes words ((extent segs d.reaped + j) % n) ≡ descriptor_bytes v
+    -- none is left where the device found the ring closed
+    pub ended : e.ended ≡ true → (finished ≡ []) × (waiting ≡ [])
 
   abbrev pub WordsAreDescriptors : Type 0
   WordsAreDescriptors =

@@ -87,6 +87,8 @@ module _ {P : Type 0} (segs : P → List Seg) where
     -- the closed word is set only where the driver was closed, and then all was reaped
     pub closed : slice_index words 2 ≢ 0 → (d.stage ≡ Closed) × (d.posted ≡ d.reaped)
     pub ended : e.ended ≡ true → slice_index words 2 ≢ 0
+    -- and it is set once the driver was closed
+    pub shut : d.stage ≡ Closed → slice_index words 2 ≢ 0
     pub driver_told : d.told ≤ length e.completed
     pub device_told : e.told ≤ length d.posted
 

@@ -21,11 +21,7 @@ pub fn both_ends<P: Framed>(driver: &mut Driver<P>, end: &mut DeviceEnd<P>)
     ensures device { device_view end.new ≡ record (device_view end.old) { told = length (posted driver.old) } }
     ensures rest { IsResting end.new }
 {
-    compare(
-        &driver.table.shared,
-        &mut driver.cursor.seat,
-        &mut end.cursor.seat,
-    );
+    compare(&driver.table, &mut driver.cursor.seat, &mut end.cursor.seat);
 }
 
 /// What stands in a ring's words between any two steps: the descriptors of the posted frames that were not reaped,

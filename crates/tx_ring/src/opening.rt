@@ -6,12 +6,12 @@ ghost use Rattle.tx_ring.specs.Shown.{ring_size, driver_ring, driver_view, devic
 ghost use Rattle.tx_ring.specs.declared.error.RingError.TheVariants.{BadSize};
 ghost use Rattle.tx_ring.specs.Rule.{blank_driver, blank_device};
 
+use crate::atomic::split_ends;
 use crate::device::DeviceEnd;
 use crate::device_cursor::DeviceCursor;
 use crate::driver::Driver;
 use crate::driver_cursor::DriverCursor;
 use crate::error::RingError;
-use crate::plays::Parts;
 use crate::rule::RingTable;
 use atomic_table::Table;
 use std::alloc::{AllocError, Global};
@@ -36,7 +36,7 @@ fn open_ends<P: Framed>(
         count,
         &count,
     )?;
-    let device_seat = ring.shared.split_seat::<Parts>(&mut seat);
+    let device_seat = split_ends(&ring, &mut seat);
     let table = Arc::new(alloc, ring)?;
     let other = Arc::try_clone(&table)?;
     let sizes = VecDeque::with_capacity(alloc, count)?;

@@ -5,21 +5,21 @@ ghost use Rattle.tx_ring.specs.Moves.{drafting, posting};
 ghost use Rattle.tx_ring.specs.Plays.{with_driver};
 ghost use Rattle.tx_ring.specs.Words.{second, pairs, IsFrame, size, extent};
 
-use crate::plays::{MoveTail, Write, WriteLast};
-use crate::rule::{FIRST_ROW, Ring, RingSeat, TAIL};
+use crate::atomic::{exchange, move_tail, write_address, write_command, write_last};
+use crate::rule::{RingSeat, RingTable};
 use crate::status::status_word;
 use flake_base::Seg;
 use tx_descriptor::Framed;
 
 // The descriptor of a segment that is not a frame's last one.
 pub(crate) fn write_segment<P: Framed>(
-    ring: &Ring<P>,
+    ring: &RingTable<P>,
     seat: &mut RingSeat<P>,
     place: usize,
     seg: Seg,
 )
-    requires table { (seat.old.table_id ≡ ring.now.table_id) × IsSized ring.now.key ring.now.table_id }
-    requires ready { IsDrafting P.segs ring.now.key seat.old.me.0 place }
+    requires table { (seat.old.table_id ≡ ring.now.shared.table_id) × IsSized ring.now.shared.key ring.now.shared.table_id }
+    requires ready { IsDrafting P.segs ring.now.shared.key seat.old.me.0 place }
     requires seg { seg.len ≤ 4096 }
     ensures seat { (seat.new.table_id ≡ seat.old.table_id) × (seat.new.id ≡ seat.old.id) }
     ensures view { seat.new.me ≡ (
@@ -28,9 +28,9 @@ pub(crate) fn write_segment<P: Framed>(
       seat.old.me.1,
     ) }
 {
-    ring.store::<Write>(seat, FIRST_ROW + 2 * place, seg.address);
+    write_address(ring, seat, place, seg.address);
     let word = status_word(seg.len, false, false);
-    ring.store::<Write>(seat, FIRST_ROW + 2 * place + 1, word);
+    write_command(ring, seat, place, word);
 }
 
 pub(crate) fn next_place(place: usize, count: usize) -> usize
@@ -43,19 +43,19 @@ pub(crate) fn next_place(place: usize, count: usize) -> usize
 
 // All descriptors of a frame but the last one. Gives the place of that one.
 pub(crate) fn write_front<P: Framed>(
-    ring: &Ring<P>,
+    ring: &RingTable<P>,
     seat: &mut RingSeat<P>,
     start: usize,
     count: usize,
     frame: &P,
     last: usize,
 ) -> usize
-    requires table { (seat.old.table_id ≡ ring.now.table_id)
-        × (count ≡ ring.now.key)
-        × IsSized ring.now.key ring.now.table_id }
-    requires ready { IsDrafting P.segs ring.now.key seat.old.me.0 start × (seat.old.me.0.driver.draft ≡ []) }
+    requires table { (seat.old.table_id ≡ ring.now.shared.table_id)
+        × (count ≡ ring.now.shared.key)
+        × IsSized ring.now.shared.key ring.now.shared.table_id }
+    requires ready { IsDrafting P.segs ring.now.shared.key seat.old.me.0 start × (seat.old.me.0.driver.draft ≡ []) }
     requires room { extent P.segs seat.old.me.0.driver.posted + size P.segs frame.now + 1
-        ≤ extent P.segs seat.old.me.0.driver.reaped + ring.now.key }
+        ≤ extent P.segs seat.old.me.0.driver.reaped + ring.now.shared.key }
     requires frame { IsFrame (P.segs frame.now) × (last + 1 ≡ size P.segs frame.now) }
     ensures seat { (seat.new.table_id ≡ seat.old.table_id) × (seat.new.id ≡ seat.old.id) }
     ensures view { seat.new.me ≡ (with_draft (pairs (take last (P.segs frame.now))) seat.old.me.0, seat.old.me.1) }
@@ -71,26 +71,26 @@ pub(crate) fn write_front<P: Framed>(
 
 // The last descriptor of a frame, whose slot gets the frame, and then the tail.
 pub(crate) fn hand_over<P: Framed>(
-    ring: &Ring<P>,
+    ring: &RingTable<P>,
     seat: &mut RingSeat<P>,
     place: usize,
     after: usize,
     last: usize,
     frame: P,
 )
-    requires table { (seat.old.table_id ≡ ring.now.table_id) × IsSized ring.now.key ring.now.table_id }
-    requires ready { IsDrafting P.segs ring.now.key seat.old.me.0 place × (seat.old.me.1 ≡ []) }
+    requires table { (seat.old.table_id ≡ ring.now.shared.table_id) × IsSized ring.now.shared.key ring.now.shared.table_id }
+    requires ready { IsDrafting P.segs ring.now.shared.key seat.old.me.0 place × (seat.old.me.1 ≡ []) }
     requires frame { IsFrame (P.segs frame)
         × (last + 1 ≡ size P.segs frame)
         × (seat.old.me.0.driver.draft ≡ pairs (take last (P.segs frame))) }
-    requires after { after ≡ (place + 1) % ring.now.key }
+    requires after { after ≡ (place + 1) % ring.now.shared.key }
     ensures seat { (seat.new.table_id ≡ seat.old.table_id) × (seat.new.id ≡ seat.old.id) }
     ensures view { seat.new.me ≡ (with_driver (posting frame seat.old.me.0.driver) seat.old.me.0, []) }
 {
     let seg = frame.seg(last);
-    ring.store::<Write>(seat, FIRST_ROW + 2 * place, seg.address);
+    write_address(ring, seat, place, seg.address);
     let word = status_word(seg.len, true, false);
-    ring.store::<WriteLast>(seat, FIRST_ROW + 2 * place + 1, word);
-    ring.exchange(seat, place, Some(frame));
-    ring.store::<MoveTail>(seat, TAIL, after as u64);
+    write_last(ring, seat, place, word);
+    exchange(ring, seat, place, Some(frame));
+    move_tail(ring, seat, after);
 }
