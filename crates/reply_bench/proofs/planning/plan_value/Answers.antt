@@ -19,4 +19,5 @@ seal-requires-clause-own g c =
     (subst (λ l. AreOwn hs (drop n s ++ l)) (sym base) (lent_own hs s n c.requires.desk.own)))
 
 pub returns-clause-value : goal.returns-clause-value
-returns-clause-value g c = has_unmarked c.args.value.now c.args.owner.now c.hand.new.owner c.hand.ensures.owner c.requires.value
+returns-clause-value g c =
+    has_unmarked c.args.value.now c.args.owner.now c.hand.new.owner c.hand.ensures.owner c.requires.value
