@@ -1,5 +1,5 @@
 -- Each kind of step keeps the rule, and tells what it is.
-use Rattle.std.proofs.Common.{◌≡◌, ◌≢◌, ℕ, ◌+◌, ◌-◌, ◌*◌, ◌/◌, ◌%◌, ◌^◌, ◌<◌, ◌⊎◌, List, [], ◌∷◌, ◌++◌, length, set, get_or, replicate, true, false, sym, refl, ap, ◌∙◌, subst, ⊎_elim, arith, Option, Some, None}
+use Rattle.std.proofs.Common.{◌≡◌, ℕ, ◌+◌, ◌-◌, ◌*◌, ◌/◌, ◌%◌, ◌^◌, List, [], ◌∷◌, ◌++◌, length, set, replicate, true, false, sym, refl, ap, ◌∙◌, subst, ⊎_elim, arith, Option}
 use mathlib.Core.Option.{some, none}
 use mathlib.Core.Option as maybe
 use lib.ListN.{get_elem?}
@@ -12,7 +12,7 @@ use Rattle.tx_ring.specs.Moves.{drafting, drafted, posting, missed, reaping, idl
 use Rattle.tx_ring.specs.Plays.{Keeps, with_driver, with_device, driver_part, device_part, both_parts}
 use Rattle.tx_ring.specs.StepKinds as step
 use Rattle.tx_ring.specs.StepKinds.{Kind, Makes, table, StepsKeepRings}
-use Rattle.tx_ring.specs.Runs.{Tally, nothing_told, tell, tells, DriverTells, DeviceTells, opened, Runs, AreTold, RunsAreTold}
+use Rattle.tx_ring.specs.Runs.{Tally, nothing_told, tell, tells, DriverTells, DeviceTells, opened, Runs, RunsAreTold}
 use Rattle.tx_ring.specs.declared.view.View.{View}
 use Rattle.tx_ring.specs.declared.view.DriverView.{DriverView}
 use Rattle.tx_ring.specs.declared.view.DeviceView.{DeviceView}

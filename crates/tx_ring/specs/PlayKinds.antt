@@ -8,10 +8,10 @@ use Rattle.atomic_table.specs.Table.{State, Me, step}
 use Rattle.flake_base.specs.declared.segment.Seg.{Seg}
 use Rattle.tx_ring.specs.Words.{second, last_len, frame_words, IsFrame, size, extent}
 use Rattle.tx_ring.specs.Plays.{wrote, wrote_last, moved_tail, looked, fetched, wrote_back, moved_head, saw_status}
-use Rattle.tx_ring.specs.Plays.{gave_back, shut, saw_closed, compared}
-use Rattle.tx_ring.specs.StepKinds.{writes, writes_last, posts, blanks, fetches, fetches_last, completes, moves_head}
-use Rattle.tx_ring.specs.StepKinds.{misses, reaps, gives_back, closes, ends, peeks, table, draft_word, last_place}
-use Rattle.tx_ring.specs.StepKinds.{status_word, IsOldest, Makes}
+use Rattle.tx_ring.specs.Plays.{Keeps, gave_back, shut, saw_closed, compared}
+use Rattle.tx_ring.specs.StepKinds.{writes, writes_last, posts, blanks, finds, fetches, fetches_last, completes}
+use Rattle.tx_ring.specs.StepKinds.{moves_head, misses, reaps, gives_back, closes, ends, peeks, table, draft_word}
+use Rattle.tx_ring.specs.StepKinds.{last_place, status_word, IsOldest, Makes}
 use Rattle.tx_ring.specs.declared.view.View.{View}
 use Rattle.tx_ring.specs.declared.view.DriverStage.TheVariants.{Idle, Putting, Reaping}
 use Rattle.tx_ring.specs.declared.view.DeviceStage.TheVariants.{Resting, Fetching, Holding, Behind}
@@ -30,6 +30,10 @@ module _ {P : Type 0} (segs : P → List Seg) (n : ℕ) (t : State (Option P) (V
 
   abbrev pub stored : ℕ → ℕ → List (maybe.Option (Option P)) → State (Option P) (View P)
   stored k x homes = table (slice_set t.words k x) homes (slice_set t.views seat m'.0)
+
+  -- another seat is the driver's
+  abbrev pub HasDriver : Type 0
+  HasDriver = (other : ℕ) × (w : View P) × (other ≢ seat) × (get_elem? t.views other ≡ some w) × (w.drives ≡ true)
 
   -- a look at the status is a miss or a reap, one at the tail a blank or none, one at the closed word the ring's end or
   -- none, and every other play is of its kind too: so no other adds a miss, a blank or the end
@@ -63,9 +67,11 @@ module _ {P : Type 0} (segs : P → List Seg) (n : ℕ) (t : State (Option P) (V
         → looked segs (step n 0 0 0 none) m (slice_index t.words 0) m'
         → Makes segs n t seat m.0 blanks (loaded t.homes)
     pub find :
-        slice_index t.words 0 ≢ extent segs m.0.device.completed % n
+        m.0.gathers ≡ true → m.0.device.stage ≡ Resting
+        → slice_index t.words 0 ≢ extent segs m.0.device.completed % n
         → looked segs (step n 0 0 0 none) m (slice_index t.words 0) m'
-        → (f : P) × (m'.0.device.stage ≡ Fetching f 0) × KeepsLooks m.0 m'.0
+        → KeepsLooks m.0 m'.0
+        × ((f : P) × (HasDriver → Keeps segs n (loaded t.homes) → Makes segs n t seat m.0 (finds f) (loaded t.homes)))
     pub fetch :
         (f : P) (j : ℕ) → m.0.gathers ≡ true → m.0.device.stage ≡ Fetching f j → j + 1 < 2 * size segs f
         → (k x : ℕ) → fetched segs (step n k 0 0 none) m x m'

@@ -1,5 +1,6 @@
 -- Any steps by both ends, from the opening on.
-use Rattle.std.specs.Prelude.{◌≡◌, ℕ, ◌+◌, ◌*◌, ◌<◌, List, [], ◌∷◌, ◌++◌, Bool, true, false, length, replicate, Option, None}
+use Rattle.std.specs.Prelude.{◌≡◌, ℕ, ◌+◌, ◌*◌, ◌<◌, List, [], ◌∷◌, ◌++◌, Bool, true, false, length}
+use Rattle.std.specs.Prelude.{replicate, Option, None}
 use mathlib.Core.Option.{some}
 use lib.ListN.{get_elem?}
 use Rattle.atomic_table.specs.Table.{State, opening}
@@ -83,8 +84,10 @@ module _ {P : Type 0} (segs : P → List Seg) (n : ℕ) where
   -- the rule holds, and each end's seat tells what the steps told
   pub record AreTold (y : Tally P) (end : State (Option P) (View P)) : Type 0 where
     pub keeps : Keeps segs n end
-    pub drivers : (seat : ℕ) (v : View P) → get_elem? end.views seat ≡ some v → v.drives ≡ true → DriverTells y v.driver
-    pub devices : (seat : ℕ) (v : View P) → get_elem? end.views seat ≡ some v → v.gathers ≡ true → DeviceTells y v.device
+    pub drivers :
+        (seat : ℕ) (v : View P) → get_elem? end.views seat ≡ some v → v.drives ≡ true → DriverTells y v.driver
+    pub devices :
+        (seat : ℕ) (v : View P) → get_elem? end.views seat ≡ some v → v.gathers ≡ true → DeviceTells y v.device
 
 -- after any steps from the opening on, misses are the looks that found no DD, blanks those that found the tail at the
 -- head, and a device's end knows the ring closed exactly where a look found the closed word set
