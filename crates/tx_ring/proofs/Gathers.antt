@@ -41,19 +41,23 @@ module _ {P : Type 0} (segs : P → List Seg) (n : ℕ) (words : List ℕ) (home
         let none : s.waiting ≡ [] = extent-zero segs s.waiting (each-right (Frame segs) s.finished s.waiting s.frames) (omega (arith, u.high)) in
         (restaged e.stage free (ap (lag segs) rests) (ap (lag segs) rests) s.fetches (e.blanks ++ length e.completed ∷ []) e.ended s.ended, s.posted_is ∙ ap (λ t. e.completed ++ t) none ∙ append-nil e.completed)
 
+    -- the next frame's words may be loaded
+    pub finds-next : (f : P) (fs : List P) → s.waiting ≡ f ∷ fs → Stands segs n words homes d (fetching f 0 e) × IsFrame (segs f) × (size segs f < n)
+    finds-next f fs w =
+        let u = sums segs n words homes d e s in
+        let fits = s.fits in
+        let more = ap (extent segs) w in
+        let a = subst (Each (Frame segs)) w (each-right (Frame segs) s.finished s.waiting s.frames) in
+        let some_seg = a.0.0 in
+        (restaged (Fetching f 0) free (ap (lag segs) rests) refl ((fs, w), omega arith) e.blanks e.ended s.ended, a.0, omega (arith, u.here))
+
     -- the tail is elsewhere, so there is a frame
     pub finds-frame : get_or words 0 0 ≢ extent segs e.completed % n → (f : P) × Stands segs n words homes d (fetching f 0 e) × IsFrame (segs f) × (size segs f < n)
     finds-frame differs = some_frame s.waiting refl
       where
         some_frame : (waiting : List P) → s.waiting ≡ waiting → (f : P) × Stands segs n words homes d (fetching f 0 e) × IsFrame (segs f) × (size segs f < n)
         some_frame [] w = absurd (differs (s.tail ∙ ap (λ t. extent segs t % n) (s.posted_is ∙ ap (λ t. e.completed ++ t) w ∙ append-nil e.completed)))
-        some_frame (f ∷ fs) w =
-            let u = sums segs n words homes d e s in
-            let fits = s.fits in
-            let more = ap (extent segs) w in
-            let a = subst (Each (Frame segs)) w (each-right (Frame segs) s.finished s.waiting s.frames) in
-            let some_seg = a.0.0 in
-            (f, restaged (Fetching f 0) free (ap (lag segs) rests) refl ((fs, w), omega arith) e.blanks e.ended s.ended, a.0, omega (arith, u.here))
+        some_frame (f ∷ fs) w = let next = finds-next f fs w in (f, next.0, next.1, next.2)
 
     pub finds-closed : get_or words 2 0 ≢ 0 → Stands segs n words homes d (ending e)
     finds-closed ne = restaged e.stage free (ap (lag segs) rests) (ap (lag segs) rests) s.fetches e.blanks true (λ _. ne)

@@ -1,5 +1,5 @@
 -- Each descriptor stands in its place.
-use Rattle.std.proofs.Common.{◌≡◌, ℕ, zero, suc, ◌+◌, ◌*◌, ◌%◌, ◌<◌, ◌≤◌, List, [], ◌∷◌, ◌++◌, length, get_or, Bool, true, false, sym, refl, ap, ◌∙◌, subst, length-append, append_assoc, arith, Option, Some, None, slice_get}
+use Rattle.std.proofs.Common.{◌≡◌, ℕ, zero, suc, ◌+◌, ◌*◌, ◌%◌, ◌<◌, ◌≤◌, List, [], ◌∷◌, ◌++◌, length, get_or, Bool, true, false, sym, refl, ap, ◌∙◌, subst, length-append, append_assoc, arith, Option, Some, slice_get}
 use Rattle.std.specs.Int.{w64, to_le_bytes}
 use Rattle.std.proofs.lemmas.List.{get_or_append_left}
 use mathlib.Core.Option as maybe
@@ -7,10 +7,9 @@ use Rattle.flake_base.specs.declared.segment.Seg.{Seg}
 use Rattle.tx_descriptor.specs.declared.legacy.Legacy.{Legacy}
 use Rattle.tx_descriptor.specs.Bytes.{descriptor_bytes}
 use Rattle.tx_ring.specs.Words.{IsShort, second, frame_words, Each, IsFrame, extent, lay}
-use Rattle.tx_ring.specs.Rule.{Stands, IsRing}
+use Rattle.tx_ring.specs.Rule.{Stands}
 use Rattle.tx_ring.specs.Rows.{frame_descriptors}
-use Rattle.tx_ring.specs.InDescriptors.{place_bytes, descriptors_of, HasDescriptors, WordsAreDescriptors}
-use Rattle.tx_ring.specs.declared.view.View.{View}
+use Rattle.tx_ring.specs.InDescriptors.{place_bytes, descriptors_of, WordsAreDescriptors}
 use Rattle.tx_ring.specs.declared.view.DriverView.{DriverView}
 use Rattle.tx_ring.specs.declared.view.DeviceView.{DeviceView}
 use Rattle.tx_ring.proofs.Words.{each-append, each-left, each-right}

@@ -44,6 +44,11 @@ module _ {P : Type 0} (segs : P → List Seg) (n : ℕ) (words : List ℕ) (home
     stands = stands;
   }
 
+  pub drives-on-has : (drives : v.drives ≡ true) (new_words : List ℕ) (new_homes : List (maybe.Option (Option P))) (d : DriverView P) (stands : Stands segs n new_words new_homes d r.device)
+      → ((drives-on drives new_words new_homes d stands).driver ≡ d) × ((drives-on drives new_words new_homes d stands).device ≡ r.device)
+  unfolding drives-on
+  drives-on-has drives new_words new_homes d stands = (refl, refl)
+
   pub gathers-on : v.gathers ≡ true → (new_words : List ℕ) (new_homes : List (maybe.Option (Option P))) (e : DeviceView P) → Stands segs n new_words new_homes r.driver e
       → IsRing segs n new_words new_homes (set views seat (with_device e v))
   gathers-on gathers new_words new_homes e stands = let mine = r.gathers seat v me gathers in record {
@@ -58,6 +63,11 @@ module _ {P : Type 0} (segs : P → List Seg) (n : ℕ) (words : List ℕ) (home
         (λ (p : (j ≢ seat) × (get_elem? views j ≡ some u)). absurd (p.0 ((r.gathers j u p.1 t).0 ∙ sym mine.0))) (at_set views seat j (with_device e v) u at);
     stands = stands;
   }
+
+  pub gathers-on-has : (gathers : v.gathers ≡ true) (new_words : List ℕ) (new_homes : List (maybe.Option (Option P))) (e : DeviceView P) (stands : Stands segs n new_words new_homes r.driver e)
+      → ((gathers-on gathers new_words new_homes e stands).driver ≡ r.driver) × ((gathers-on gathers new_words new_homes e stands).device ≡ e)
+  unfolding gathers-on
+  gathers-on-has gathers new_words new_homes e stands = (refl, refl)
 
   -- a seat that is both tells how the lists stand to each other
   pub ordered : v.drives ≡ true → v.gathers ≡ true → InOrder v.driver v.device × (v.device.ended ≡ true → v.driver.stage ≡ Closed)
@@ -90,6 +100,10 @@ module _ {P : Type 0} (segs : P → List Seg) (n : ℕ) (words : List ℕ) (home
         stands = restated s v.driver.misses (driver_part v).driver.told v.device.blanks v.device.ended (device_part v).device.told v.device.stage (λ done at had. had) refl s.fetches s.ended (omega arith) (omega arith);
       }
 
+  pub parts-has : (drives : v.drives ≡ true) (gathers : v.gathers ≡ true) → ((parts drives gathers).driver ≡ (driver_part v).driver) × ((parts drives gathers).device ≡ (device_part v).device)
+  unfolding parts
+  parts-has drives gathers = (refl, refl)
+
   -- the parts of two seats come to one, and the other is spent
   pub joins : v.drives ≡ true → (other : ℕ) (w : View P) → ¬ (other ≡ seat) → get_elem? (set views seat (both_parts v w)) other ≡ some w → w.gathers ≡ true
       → IsRing segs n words homes (set (set views seat (both_parts v w)) other nobody)
@@ -117,6 +131,11 @@ module _ {P : Type 0} (segs : P → List Seg) (n : ℕ) (words : List ℕ) (home
         stands = r.stands;
       }
 
+  pub joins-has : (drives : v.drives ≡ true) (other : ℕ) (w : View P) (elsewhere : ¬ (other ≡ seat)) (there : get_elem? (set views seat (both_parts v w)) other ≡ some w) (gathers : w.gathers ≡ true)
+      → ((joins drives other w elsewhere there gathers).driver ≡ r.driver) × ((joins drives other w elsewhere there gathers).device ≡ r.device)
+  unfolding joins
+  joins-has drives other w elsewhere there gathers = (refl, refl)
+
 -- a seat more, which has nothing
 pub enters : {P : Type 0} (segs : P → List Seg) (n : ℕ) (words : List ℕ) (homes : List (maybe.Option (Option P))) (views : List (View P)) → IsRing segs n words homes views → IsRing segs n words homes (views ++ nobody ∷ [])
 enters segs n words homes views r = record {
@@ -128,6 +147,11 @@ enters segs n words homes views r = record {
   gathers = λ j u at t. ⊎_elim (λ (was : get_elem? views j ≡ some u). r.gathers j u was t) (λ (new : (j ≡ length views) × (nobody ≡ u)). absurd (let z = ap (λ x. x.gathers) new.1 in let y : false ≡ true = z ∙ t in cc)) (last_or_before views nobody u j at);
   stands = r.stands;
 }
+
+pub enters-has : {P : Type 0} (segs : P → List Seg) (n : ℕ) (words : List ℕ) (homes : List (maybe.Option (Option P))) (views : List (View P)) (r : IsRing segs n words homes views)
+    → ((enters segs n words homes views r).driver ≡ r.driver) × ((enters segs n words homes views r).device ≡ r.device)
+unfolding enters
+enters-has segs n words homes views r = (refl, refl)
 
 abbrev nothing : (P : Type 0) → Option P
 nothing P = None
@@ -181,3 +205,7 @@ module _ {P : Type 0} (segs : P → List Seg) (n : ℕ) where
       device_told = omega arith;
     };
   }
+
+  pub opens-has : (words : List ℕ) (some_place : 0 < n) (fresh : words ≡ replicate (3 + 2 * n) 0) → ((opens words some_place fresh).driver ≡ blank_driver) × ((opens words some_place fresh).device ≡ blank_device)
+  unfolding opens
+  opens-has words some_place fresh = (refl, refl)

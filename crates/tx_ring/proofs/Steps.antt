@@ -30,11 +30,11 @@ held_frame f [] = f
 held_frame f ((k, Some g) ∷ xs) = g
 held_frame f ((k, None) ∷ xs) = f
 
-abbrev first_of : {P : Type 0} → P → List P → P
+abbrev pub first_of : {P : Type 0} → P → List P → P
 first_of f [] = f
 first_of f (g ∷ gs) = g
 
-no_or_some : {P : Type 0} (xs : List P) → (xs ≡ []) ⊎ ((x : P) × (rest : List P) × (xs ≡ x ∷ rest))
+pub no_or_some : {P : Type 0} (xs : List P) → (xs ≡ []) ⊎ ((x : P) × (rest : List P) × (xs ≡ x ∷ rest))
 no_or_some [] = inl refl
 no_or_some (x ∷ xs) = inr (x, xs, refl)
 

@@ -1,6 +1,6 @@
 -- What a clause says of a ring's table and of its two ends.
-use Rattle.std.specs.Prelude.{◌≡◌, ℕ, ◌+◌, ◌-◌, ◌*◌, ◌%◌, ◌<◌, ◌≤◌, List, [], ◌∷◌, true, false, length, slice_index, Option}
-use Rattle.std.specs.Prelude.{Some, None}
+use Rattle.std.specs.Prelude.{◌≡◌, ℕ, ◌+◌, ◌-◌, ◌*◌, ◌%◌, ◌<◌, ◌≤◌, List, [], ◌∷◌, true, false, length}
+use Rattle.std.specs.Prelude.{slice_index, Option, Some, None}
 use Rattle.atomic_table.specs.Seated.{TableId}
 use Rattle.flake_base.specs.declared.segment.Seg.{Seg}
 use Rattle.tx_ring.specs.Words.{second, last_len, frame_words, IsFrame, size, extent}

@@ -1,9 +1,12 @@
 //! What is known of both ends of a ring when both are at hand.
 ghost use Rattle.std.specs.Prelude.{◌≡◌, length, false};
 ghost use Rattle.tx_ring.specs.InDescriptors.{WordsAreDescriptors};
+ghost use Rattle.tx_ring.specs.PlayKinds.{PlaysAreKinds};
 ghost use Rattle.tx_ring.specs.Plays.{InOrder};
+ghost use Rattle.tx_ring.specs.Runs.{RunsAreTold};
 ghost use Rattle.tx_ring.specs.Shown.{driver_ring, driver_view, posted, device_ring, device_view, completed, ended};
 ghost use Rattle.tx_ring.specs.Shown.{IsResting};
+ghost use Rattle.tx_ring.specs.StepKinds.{StepsKeepRings};
 
 use crate::compare::compare;
 use crate::device::DeviceEnd;
@@ -28,4 +31,21 @@ pub fn both_ends<P: Framed>(driver: &mut Driver<P>, end: &mut DeviceEnd<P>)
 /// each in its place, with DD in the last one of each frame that is completed and in no other.
 pub fn words_are_descriptors<P: Framed>()
     ensures { WordsAreDescriptors P.segs }
+{}
+
+/// Each play is of its kind: only a look at the oldest frame's status without DD is a miss, only one that finds the
+/// tail at the head is a blank, and only one that finds the closed word set tells of the ring's end.
+pub fn plays_are_kinds<P: Framed>()
+    ensures { PlaysAreKinds P.segs }
+{}
+
+/// Each kind of step keeps the rule.
+pub fn steps_keep_rings<P: Framed>()
+    ensures { StepsKeepRings P.segs }
+{}
+
+/// After any steps from the opening on, a driver's misses are the looks that found no DD, a device's blanks those that
+/// found the tail at the head, and the device knows of the closing exactly where a look found the closed word set.
+pub fn runs_are_told<P: Framed>()
+    ensures { RunsAreTold P.segs }
 {}

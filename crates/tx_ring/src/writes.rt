@@ -18,7 +18,8 @@ pub(crate) fn write_segment<P: Framed>(
     place: usize,
     seg: Seg,
 )
-    requires table { (seat.old.table_id ≡ ring.now.shared.table_id) × IsSized ring.now.shared.key ring.now.shared.table_id }
+    requires table { (seat.old.table_id ≡ ring.now.shared.table_id)
+        × IsSized ring.now.shared.key ring.now.shared.table_id }
     requires ready { IsDrafting P.segs ring.now.shared.key seat.old.me.0 place }
     requires seg { seg.len ≤ 4096 }
     ensures seat { (seat.new.table_id ≡ seat.old.table_id) × (seat.new.id ≡ seat.old.id) }
@@ -78,7 +79,8 @@ pub(crate) fn hand_over<P: Framed>(
     last: usize,
     frame: P,
 )
-    requires table { (seat.old.table_id ≡ ring.now.shared.table_id) × IsSized ring.now.shared.key ring.now.shared.table_id }
+    requires table { (seat.old.table_id ≡ ring.now.shared.table_id)
+        × IsSized ring.now.shared.key ring.now.shared.table_id }
     requires ready { IsDrafting P.segs ring.now.shared.key seat.old.me.0 place × (seat.old.me.1 ≡ []) }
     requires frame { IsFrame (P.segs frame)
         × (last + 1 ≡ size P.segs frame)
