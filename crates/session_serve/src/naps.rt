@@ -4,8 +4,11 @@ use std::sync::atomic::AtomicU64;
 use std::thread;
 use std::time::Duration;
 
-// So many looks follow one another at once, and so many more after a short sleep.
-const BUSY_LOOKS: u32 = 100;
+// The first look behind one that found nothing follows at once: the thread only lets others run.
+const YIELDS: u32 = 1;
+
+// So many looks more come after a short sleep each.
+const SHORT_NAPS: u32 = 100;
 
 /// What a thread does that found nothing to do.
 #[derive(Drop)]
@@ -30,9 +33,9 @@ impl Naps {
 
     /// Waits before the next look: the longer, the more looks found nothing.
     pub fn wait<R: Wait>(&mut self, rt: &R) {
-        if self.looks < BUSY_LOOKS {
+        if self.looks < YIELDS {
             thread::yield_now();
-        } else if self.looks < 2 * BUSY_LOOKS {
+        } else if self.looks < YIELDS + SHORT_NAPS {
             self.still.park_timeout(rt, 0, Duration::from_micros(20));
         } else {
             self.still.park_timeout(rt, 0, Duration::from_micros(500));
