@@ -7,7 +7,7 @@ use Rattle.flake_base.specs.Causes.{Rose}
 use Rattle.flake_base.specs.Told.{HostTold}
 use Rattle.check_files.specs.Answer.{FailedAt, FailedBy, HasCauseIn, WereJudged}
 use Rattle.check_files.specs.Answer as came
-use Rattle.check_files.specs.File.{are_there, faults_of, left_in, lefts_of}
+use Rattle.check_files.specs.File.{are_there, faults_of, lefts_of}
 use Rattle.check_files.specs.Named.{Named, FilesOpened, NoneFailed, are_named}
 use Rattle.check_files.specs.Stopped.{AreReadTo}
 use Rattle.check_files.specs.Whole.{emptied}
@@ -16,7 +16,7 @@ use Rattle.check_files.specs.declared.error.CheckError.TheVariants as errors
 use Rattle.check_files.specs.declared.file.File.{File}
 use Rattle.check_files.specs.declared.file.File.TheVariants as file
 use Rattle.replay_check.specs.declared.verdict.Verdict.{Verdict}
-use Rattle.flake_run.specs.Checked.{ComesTo, IsAsOpened, HasFaultsBy, HasLeftBy, IsReadToEnd, IsReadTo, WasFound, IsOpened, WasRead, OneUnopened}
+use Rattle.flake_run.specs.Checked.{ComesTo, HasFaultsBy, HasLeftBy, IsReadToEnd, IsReadTo, WasFound, IsOpened, WasRead, OneUnopened}
 use Rattle.flake_run.specs.Files.{opened_from, places_from}
 use Rattle.flake_run.specs.Finding.{found_by}
 use Rattle.flake_run.specs.Outcome.{SourceTold, source_told, files_of}
