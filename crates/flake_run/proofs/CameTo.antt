@@ -3,6 +3,7 @@ use Rattle.std.proofs.Common.{◌≡◌, ◌≢◌, ◌≤◌, ◌<◌, ℕ, ◌
 use Rattle.std.specs.Prelude.{slice_index_or, remove}
 use Rattle.std.specs.List.{AllByRecursion, flat_map, range_with_len}
 use Rattle.flake_base.specs.Told.{HostTold, WireTold}
+use Rattle.check_files.specs.Whole.{emptied}
 use Rattle.pinned_pool.specs.Ends.{End}
 use Rattle.serve_house.specs.Opened.{pool_sizes}
 use Rattle.serve_house.specs.declared.sizes.Sizes.{Sizes}
@@ -26,13 +27,13 @@ some_ends ends n count some none = omega (arith, count, some, ap length none)
 
 module _ {W : Type 0} (tells : W → WireTold) (sizes : Sizes) (left : Option (List ℕ)) (inputs : List (Option (List ℕ))) (host mid now : HostTold) (wires after : List W) where
   -- the sources were driven, and what is held was said behind the transcript
-  pub record HasDriven (done : Done) (between failed : Bool) (closed : End) (rest : Option (List ℕ)) (lefts : List (Option (List ℕ))) (counts : List ℕ) : Type 0 where
+  pub record HasDriven (done : Done) (between failed : Bool) (closed : End) (lefts : List (Option (List ℕ))) (counts : List ℕ) : Type 0 where
     pub by : IsDrivenBy sizes left between inputs lefts done.ends done.journal closed wires after tells host mid
     pub said : Says between failed (held_text closed.small closed.large) mid now
     pub pool_is : done.pool ≡ Some closed
     pub held : (done.held.small ≡ closed.small) × (done.held.large ≡ closed.large)
     pub shards : length done.journal ≡ sizes.shards
-    pub lefts_are : lefts_of done.sources ≡ rest ∷ lefts
+    pub lefts_are : lefts_of done.sources ≡ emptied left ∷ lefts
     pub counts_are : read_faults_of done.sources ≡ 0 ∷ counts
     pub reads : AreCountsOf (ways done.ends) counts
     pub status : done.status ≡ status_with (failed || some_put_failed done.ends) (highest_by (ways done.ends))
@@ -40,13 +41,12 @@ module _ {W : Type 0} (tells : W → WireTold) (sizes : Sizes) (left : Option (L
     pub files : files_of done.sources ≡ range_with_len 0 (suc (length inputs))
     pub some : 1 ≤ length inputs
 
-  pub came_driven : (done : Done) (between failed : Bool) (closed : End) (rest : Option (List ℕ)) (lefts : List (Option (List ℕ))) (counts : List ℕ) → HasDriven done between failed closed rest lefts counts
+  pub came_driven : (done : Done) (between failed : Bool) (closed : End) (lefts : List (Option (List ℕ))) (counts : List ℕ) → HasDriven done between failed closed lefts counts
       → CameOf sizes left inputs (outside host wires tells) (outside now after tells) done
-  came_driven done between failed closed rest lefts counts h = record {
+  came_driven done between failed closed lefts counts h = record {
     driven = λ some. record {
       schedule = h.by.schedule;
       lines = h.by.lines;
-      rest = rest;
       lefts = lefts;
       lefts_are = h.lefts_are;
       run = h.by.run.run.run;
@@ -82,7 +82,7 @@ module _ {W : Type 0} (tells : W → WireTold) (sizes : Sizes) (left : Option (L
 
   -- nothing was driven, and that was said
   pub came_refused : (finding : Finding) (before : Done) (sources : List SourceTold) (rest : Option (List ℕ)) (count : ℕ) (counts : List ℕ) → ConcludesBy finding (outside host wires tells) (outside now after tells) before → LeavesFiles host now
-      → lefts_of sources ≡ rest ∷ inputs → read_faults_of sources ≡ count ∷ counts → AllByRecursion (λ n. n ≡ 0) counts → IsUndriven finding (length inputs) left 0 count → files_of sources ≡ range_with_len 0 (suc (length inputs))
+      → lefts_of sources ≡ rest ∷ inputs → read_faults_of sources ≡ count ∷ counts → AllByRecursion (λ n. n ≡ 0) counts → IsUndriven finding (length inputs) left rest 0 count → files_of sources ≡ range_with_len 0 (suc (length inputs))
       → CameOf sizes left inputs (outside host wires tells) (outside now after tells) (record before { sources = sources })
   came_refused finding before sources rest count counts concludes leaves left_are are fresh undriven files = record {
     driven = λ some. absurd (some (no_ends concludes));
@@ -93,7 +93,7 @@ module _ {W : Type 0} (tells : W → WireTold) (sizes : Sizes) (left : Option (L
     no_ends : ConcludesBy finding (outside host wires tells) (outside now after tells) before → before.ends ≡ []
     no_ends concludes = ⊎_elim (λ is. is.ends) (λ is. is.ends) concludes
 
-    not_driven : (finding : Finding) → IsConcluded finding (outside host wires tells) (outside now after tells) before → IsUndriven finding (length inputs) left 0 count
+    not_driven : (finding : Finding) → IsConcluded finding (outside host wires tells) (outside now after tells) before → IsUndriven finding (length inputs) left rest 0 count
         → NotDriven left inputs (outside host wires tells) (outside now after tells) (record before { sources = sources })
     not_driven finding is undriven = record {
       finding = finding;

@@ -3,7 +3,7 @@ use Rattle.std.proofs.Common.{◌≡◌, inl, inr, ℕ, List, Option, Some, None
 use Rattle.flake_base.specs.Causes.{Rose}
 use Rattle.flake_base.specs.Told.{HostTold, WireTold}
 use Rattle.check_files.specs.Answer.{FailedBy, HasCauseIn, WereJudged}
-use Rattle.check_files.specs.File.{are_there, faults_of}
+use Rattle.check_files.specs.File.{are_there, faults_of, lefts_of}
 use Rattle.check_files.specs.Named.{Named, NoneFailed}
 use Rattle.check_files.specs.declared.error.CheckError.{CheckError}
 use Rattle.check_files.specs.declared.file.File.{File}
@@ -80,7 +80,7 @@ module _ {S W : Type 0} (left : S → Option (List ℕ)) (faults : S → ℕ) (t
   }
 
   -- files that were opened, or of which one did not open
-  pub checked_all : task ≡ Some words → IfOk answer (λ v. WereJudged words host mid (are_there files) v) → IfOk answer (λ v. NoneFailed (faults_of faults files)) → IfErr answer (λ e. HasCauseIn words host mid (are_there files) e)
+  pub checked_all : task ≡ Some words → IfOk answer (λ v. WereJudged words host mid (are_there files) (lefts_of left files) v) → IfOk answer (λ v. NoneFailed (faults_of faults files)) → IfErr answer (λ e. HasCauseIn words host mid (are_there files) (lefts_of left files) e)
       → IfErr answer (λ e. FailedBy e (faults_of faults files)) → mid.said ≡ host.said → mid.say_faults ≡ host.say_faults → LeavesFiles mid now
       → ConcludesBy (found_by answer) (outside mid wires tells) (outside now after tells) before
       → Checked task (outside host wires tells) (outside now after tells) (record before { sources = told_of left faults (opened_from 0 files) })

@@ -1,19 +1,22 @@
 -- What the files of a check come to, as the sources that come back show it.
-use Rattle.std.proofs.Common.{◌≡◌, ◌≢◌, ◌≤◌, inl, inr, ℕ, ◌+◌, zero, suc, List, [], ◌∷◌, ◌++◌, Option, Some, None, Result, Ok, Err, IfOk, IfErr, length, map, take, slice_get, arith, refl, sym, ap, ◌∙◌, subst}
+use Rattle.std.proofs.Common.{◌≡◌, ◌≢◌, ◌≤◌, inl, inr, ℕ, ◌+◌, zero, suc, ◌<◌, List, [], ◌∷◌, ◌++◌, Option, Some, None, option_map, Result, Ok, Err, IfOk, IfErr, length, map, take, slice_get, arith, refl, sym, ap, ◌∙◌, subst}
 use Rattle.std.specs.List.{AllByRecursion}
 use Rattle.std.proofs.lemmas.List.{length-take}
+use Rattle.std.proofs.lemmas.Option.{slice_get-map}
 use Rattle.flake_base.specs.Causes.{Rose}
 use Rattle.flake_base.specs.Told.{HostTold}
 use Rattle.check_files.specs.Answer.{FailedAt, FailedBy, HasCauseIn, WereJudged}
 use Rattle.check_files.specs.Answer as came
-use Rattle.check_files.specs.File.{are_there, faults_of}
+use Rattle.check_files.specs.File.{are_there, faults_of, lefts_of}
 use Rattle.check_files.specs.Named.{Named, FilesOpened, NoneFailed, are_named}
+use Rattle.check_files.specs.Stopped.{AreReadTo}
+use Rattle.check_files.specs.Whole.{emptied}
 use Rattle.check_files.specs.declared.error.CheckError.{CheckError}
 use Rattle.check_files.specs.declared.error.CheckError.TheVariants as errors
 use Rattle.check_files.specs.declared.file.File.{File}
 use Rattle.check_files.specs.declared.file.File.TheVariants as file
 use Rattle.replay_check.specs.declared.verdict.Verdict.{Verdict}
-use Rattle.flake_run.specs.Checked.{ComesTo, HasFaultsBy, WasFound, IsOpened, WasRead, OneUnopened}
+use Rattle.flake_run.specs.Checked.{ComesTo, HasFaultsBy, HasLeftBy, IsReadToEnd, IsReadTo, WasFound, IsOpened, WasRead, OneUnopened}
 use Rattle.flake_run.specs.Files.{opened_from, places_from}
 use Rattle.flake_run.specs.Finding.{found_by}
 use Rattle.flake_run.specs.Outcome.{SourceTold, source_told, files_of}
@@ -46,6 +49,34 @@ module _ {S : Type 0} (left : S → Option (List ℕ)) (faults : S → ℕ) wher
   any_told place [] = tt
   any_told place (file.Opened source ∷ files) = (tt, any_told (place + 1) files)
   any_told place (file.Absent ∷ files) = any_told (place + 1) files
+
+  -- what holds of what the file at each place has left holds of its source
+  behind_one : (P : ℕ → Option (List ℕ) → Type 0) (place : ℕ) (one : File S) (files : List (File S)) → ((k : ℕ) (rest : Option (List ℕ)) → slice_get (lefts_of left (one ∷ files)) k ≡ Some rest → P (place + k) rest)
+      → (k : ℕ) (rest : Option (List ℕ)) → slice_get (lefts_of left files) k ≡ Some rest → P (place + 1 + k) rest
+  behind_one P place one files all k rest is = subst (λ n. P n rest) (let next : place + suc k ≡ place + 1 + k = omega arith in next) (all (suc k) rest is)
+
+  told_from : (P : ℕ → Option (List ℕ) → Type 0) (place : ℕ) (files : List (File S)) → ((k : ℕ) (rest : Option (List ℕ)) → slice_get (lefts_of left files) k ≡ Some rest → P (place + k) rest)
+      → AllByRecursion (λ (source : SourceTold). P source.file source.left) (told_of (opened_from place files))
+  told_from P place [] all = tt
+  told_from P place (file.Opened source ∷ files) all = (subst (λ n. P n (left source)) (let here : place + 0 ≡ place = omega arith in here) (all 0 (left source) refl), told_from P (place + 1) files (behind_one P place (file.Opened source) files all))
+  told_from P place (file.Absent ∷ files) all = told_from P (place + 1) files (behind_one P place file.Absent files all)
+
+  told_by : (P : ℕ → Option (List ℕ) → Type 0) (files : List (File S)) → ((k : ℕ) (rest : Option (List ℕ)) → slice_get (lefts_of left files) k ≡ Some rest → P k rest)
+      → AllByRecursion (λ (source : SourceTold). P source.file source.left) (told_of (opened_from 0 files))
+  told_by P files all = told_from P 0 files (λ k rest is. subst (λ n. P n rest) (let same : k ≡ 0 + k = omega arith in same) (all k rest is))
+
+  none_left : (lefts : List (Option (List ℕ))) (files : List (File S)) → lefts_of left files ≡ map emptied lefts → AllByRecursion (IsReadToEnd lefts) (told_of (opened_from 0 files))
+  none_left lefts files is =
+      told_by (λ n rest. option_map emptied (slice_get lefts n) ≡ Some rest) files
+      (λ k rest at. sym (slice_get-map emptied lefts k) ∙ ap (λ (ls : List (Option (List ℕ))). slice_get ls k) (sym is) ∙ at)
+
+  left_to : (n : ℕ) (lefts : List (Option (List ℕ))) (files : List (File S)) → AreReadTo n lefts (lefts_of left files) → AllByRecursion (IsReadTo n lefts) (told_of (opened_from 0 files))
+  left_to n lefts files to =
+      told_by (λ k rest. (k < n → option_map emptied (slice_get lefts k) ≡ Some rest) × (n < k → slice_get lefts k ≡ Some rest)) files
+      (λ k rest at. ((λ below. sym (to.front k below) ∙ at), (λ above. sym (to.behind k above) ∙ at)))
+
+  any_left : (lefts : List (Option (List ℕ))) (files : List (File S)) → AllByRecursion (HasLeftBy Memory lefts) (told_of (opened_from 0 files))
+  any_left lefts files = told_by (λ n rest. Unit {0}) files (λ k rest at. tt)
 
   -- a count rose at one number alone
   RoseAlone : ℕ → ℕ → List ℕ → Type 0
@@ -95,55 +126,58 @@ module _ {S : Type 0} (left : S → Option (List ℕ)) (faults : S → ℕ) wher
   }
 
   was_read : (finding : Finding) (words : List Named) (old mid new : HostTold) (files : List (File S)) (lefts : List (Option (List ℕ))) → FilesOpened words old mid lefts → are_there files ≡ are_named words → LeavesFiles mid new
-      → AllByRecursion (HasFaultsBy finding) (told_of (opened_from 0 files)) → ComesTo finding lefts (told_of (opened_from 0 files)) → WasRead finding words old new (told_of (opened_from 0 files))
-  was_read finding words old mid new files lefts opened there leaves reads comes = record {
+      → AllByRecursion (HasFaultsBy finding) (told_of (opened_from 0 files)) → AllByRecursion (HasLeftBy finding lefts) (told_of (opened_from 0 files)) → ComesTo finding lefts (told_of (opened_from 0 files)) → WasRead finding words old new (told_of (opened_from 0 files))
+  was_read finding words old mid new files lefts opened there leaves reads rests comes = record {
     lefts = lefts;
     opened = opened_since words old mid new lefts opened leaves;
     files = told_places 0 files words there;
     reads = reads;
+    rests = rests;
     comes_to = comes;
   }
 
-  was_unopened : (n : ℕ) (words : List Named) (old mid new : HostTold) (files : List (File S)) → came.WasUnopened words old mid (are_there files) n → NoneFailed (faults_of faults files) → LeavesFiles mid new
+  was_unopened : (n : ℕ) (words : List Named) (old mid new : HostTold) (files : List (File S)) → came.WasUnopened words old mid (are_there files) (lefts_of left files) n → NoneFailed (faults_of faults files) → LeavesFiles mid new
       → OneUnopened n words old new (told_of (opened_from 0 files))
   was_unopened n words old mid new files was none leaves = record {
     between = mid;
+    lefts = lefts_of left files;
     fails = was.fails;
     left = leaves;
     files = told_places 0 files (take n words) was.there_is;
     reads = none_told 0 files none;
+    rests = told_by (λ k rest. slice_get (lefts_of left files) k ≡ Some rest) files (λ k rest at. at);
   }
 
   -- the answer of a check of files comes to its finding
-  pub is_found : (answer : Result Verdict CheckError) (words : List Named) (old mid new : HostTold) (files : List (File S)) → IfOk answer (λ v. WereJudged words old mid (are_there files) v) → IfOk answer (λ v. NoneFailed (faults_of faults files))
-      → IfErr answer (λ e. HasCauseIn words old mid (are_there files) e) → IfErr answer (λ e. FailedBy e (faults_of faults files)) → LeavesFiles mid new → WasFound (found_by answer) (Some words) old new (told_of (opened_from 0 files))
+  pub is_found : (answer : Result Verdict CheckError) (words : List Named) (old mid new : HostTold) (files : List (File S)) → IfOk answer (λ v. WereJudged words old mid (are_there files) (lefts_of left files) v) → IfOk answer (λ v. NoneFailed (faults_of faults files))
+      → IfErr answer (λ e. HasCauseIn words old mid (are_there files) (lefts_of left files) e) → IfErr answer (λ e. FailedBy e (faults_of faults files)) → LeavesFiles mid new → WasFound (found_by answer) (Some words) old new (told_of (opened_from 0 files))
   is_found (Ok verdict) words old mid new files judged none stopped failed leaves =
-      was_read (Judged verdict) words old mid new files judged.lefts judged.opened judged.there_is leaves (none_told 0 files none) judged.judged
+      was_read (Judged verdict) words old mid new files judged.lefts judged.opened judged.there_is leaves (none_told 0 files none) (none_left judged.lefts files judged.rests_are) judged.judged
   is_found (Err (errors.OpenFault n)) words old mid new files judged none stopped failed leaves = was_unopened n words old mid new files stopped failed leaves
   is_found (Err (errors.ReadFault n)) words old mid new files judged none stopped failed leaves =
-      was_read (ReadFault n) words old mid new files stopped.lefts stopped.opened stopped.there_is leaves (one_told n 0 files (rose_alone n (faults_of faults files) failed))
+      was_read (ReadFault n) words old mid new files stopped.lefts stopped.opened stopped.there_is leaves (one_told n 0 files (rose_alone n (faults_of faults files) failed)) (left_to n stopped.lefts files stopped.rests_are)
       (stopped.stopped, opened_told n 0 n failed.count files failed.count_is failed.rose (omega arith))
   is_found (Err (errors.TooLarge n)) words old mid new files judged none stopped failed leaves =
-      was_read (TooLarge n) words old mid new files stopped.lefts stopped.opened stopped.there_is leaves (none_told 0 files failed) stopped.stopped
+      was_read (TooLarge n) words old mid new files stopped.lefts stopped.opened stopped.there_is leaves (none_told 0 files failed) (left_to n stopped.lefts files stopped.rests_are) stopped.stopped
   is_found (Err (errors.BadLine line)) words old mid new files judged none stopped failed leaves =
-      was_read (BadLine line) words old mid new files stopped.lefts stopped.opened stopped.there_is leaves (none_told 0 files failed) stopped.stopped
+      was_read (BadLine line) words old mid new files stopped.lefts stopped.opened stopped.there_is leaves (none_told 0 files failed) (none_left stopped.lefts files stopped.rests_are) stopped.stopped
   is_found (Err errors.Memory) words old mid new files judged none stopped failed leaves =
-      inr (inl (was_read Memory words old mid new files stopped.lefts stopped.opened stopped.there_is leaves (any_told 0 files) tt))
+      inr (inl (was_read Memory words old mid new files stopped.lefts stopped.opened stopped.there_is leaves (any_told 0 files) (any_left stopped.lefts files) tt))
 
   -- and where memory is wanting to say it, to that
-  pub memory_found : (answer : Result Verdict CheckError) (words : List Named) (old mid new : HostTold) (files : List (File S)) → IfOk answer (λ v. WereJudged words old mid (are_there files) v)
-      → IfErr answer (λ e. HasCauseIn words old mid (are_there files) e) → IfErr answer (λ e. FailedBy e (faults_of faults files)) → LeavesFiles mid new → WasFound Memory (Some words) old new (told_of (opened_from 0 files))
+  pub memory_found : (answer : Result Verdict CheckError) (words : List Named) (old mid new : HostTold) (files : List (File S)) → IfOk answer (λ v. WereJudged words old mid (are_there files) (lefts_of left files) v)
+      → IfErr answer (λ e. HasCauseIn words old mid (are_there files) (lefts_of left files) e) → IfErr answer (λ e. FailedBy e (faults_of faults files)) → LeavesFiles mid new → WasFound Memory (Some words) old new (told_of (opened_from 0 files))
   memory_found (Ok verdict) words old mid new files judged stopped failed leaves =
-      inr (inl (was_read Memory words old mid new files judged.lefts judged.opened judged.there_is leaves (any_told 0 files) tt))
+      inr (inl (was_read Memory words old mid new files judged.lefts judged.opened judged.there_is leaves (any_told 0 files) (any_left judged.lefts files) tt))
   memory_found (Err (errors.OpenFault n)) words old mid new files judged stopped failed leaves = inr (inr (n, was_unopened n words old mid new files stopped failed leaves))
   memory_found (Err (errors.ReadFault n)) words old mid new files judged stopped failed leaves =
-      inr (inl (was_read Memory words old mid new files stopped.lefts stopped.opened stopped.there_is leaves (any_told 0 files) tt))
+      inr (inl (was_read Memory words old mid new files stopped.lefts stopped.opened stopped.there_is leaves (any_told 0 files) (any_left stopped.lefts files) tt))
   memory_found (Err (errors.TooLarge n)) words old mid new files judged stopped failed leaves =
-      inr (inl (was_read Memory words old mid new files stopped.lefts stopped.opened stopped.there_is leaves (any_told 0 files) tt))
+      inr (inl (was_read Memory words old mid new files stopped.lefts stopped.opened stopped.there_is leaves (any_told 0 files) (any_left stopped.lefts files) tt))
   memory_found (Err (errors.BadLine line)) words old mid new files judged stopped failed leaves =
-      inr (inl (was_read Memory words old mid new files stopped.lefts stopped.opened stopped.there_is leaves (any_told 0 files) tt))
+      inr (inl (was_read Memory words old mid new files stopped.lefts stopped.opened stopped.there_is leaves (any_told 0 files) (any_left stopped.lefts files) tt))
   memory_found (Err errors.Memory) words old mid new files judged stopped failed leaves =
-      inr (inl (was_read Memory words old mid new files stopped.lefts stopped.opened stopped.there_is leaves (any_told 0 files) tt))
+      inr (inl (was_read Memory words old mid new files stopped.lefts stopped.opened stopped.there_is leaves (any_told 0 files) (any_left stopped.lefts files) tt))
 
 there_many : {S : Type 0} (files : List (File S)) (words : List Named) → are_there files ≡ are_named words → length files ≡ length words
 there_many [] [] is = refl
@@ -152,14 +186,14 @@ there_many (f ∷ files) [] is = absurd (cc is)
 there_many (f ∷ files) (word ∷ words) is = let rest : are_there files ≡ are_named words = cc is in ap suc (there_many files words rest)
 
 -- no more files come back than were named
-pub as_many_files : {S : Type 0} (answer : Result Verdict CheckError) (words : List Named) (old mid : HostTold) (files : List (File S)) → IfOk answer (λ v. WereJudged words old mid (are_there files) v)
-    → IfErr answer (λ e. HasCauseIn words old mid (are_there files) e) → length files ≤ length words
-as_many_files (Ok verdict) words old mid files judged stopped = omega (arith, there_many files words judged.there_is)
-as_many_files (Err (errors.OpenFault n)) words old mid files judged stopped = omega (arith, there_many files (take n words) stopped.there_is, length-take n words)
-as_many_files (Err (errors.ReadFault n)) words old mid files judged stopped = omega (arith, there_many files words stopped.there_is)
-as_many_files (Err (errors.TooLarge n)) words old mid files judged stopped = omega (arith, there_many files words stopped.there_is)
-as_many_files (Err (errors.BadLine line)) words old mid files judged stopped = omega (arith, there_many files words stopped.there_is)
-as_many_files (Err errors.Memory) words old mid files judged stopped = omega (arith, there_many files words stopped.there_is)
+pub as_many_files : {S : Type 0} (answer : Result Verdict CheckError) (words : List Named) (old mid : HostTold) (files : List (File S)) (rests : List (Option (List ℕ))) → IfOk answer (λ v. WereJudged words old mid (are_there files) rests v)
+    → IfErr answer (λ e. HasCauseIn words old mid (are_there files) rests e) → length files ≤ length words
+as_many_files (Ok verdict) words old mid files rests judged stopped = omega (arith, there_many files words judged.there_is)
+as_many_files (Err (errors.OpenFault n)) words old mid files rests judged stopped = omega (arith, there_many files (take n words) stopped.there_is, length-take n words)
+as_many_files (Err (errors.ReadFault n)) words old mid files rests judged stopped = omega (arith, there_many files words stopped.there_is)
+as_many_files (Err (errors.TooLarge n)) words old mid files rests judged stopped = omega (arith, there_many files words stopped.there_is)
+as_many_files (Err (errors.BadLine line)) words old mid files rests judged stopped = omega (arith, there_many files words stopped.there_is)
+as_many_files (Err errors.Memory) words old mid files rests judged stopped = omega (arith, there_many files words stopped.there_is)
 
 -- no more sources than files
 pub few_opened : {S : Type 0} (place : ℕ) (files : List (File S)) → length (opened_from place files) ≤ length files

@@ -133,7 +133,6 @@ module _ {W : Type 0} (tells : W → WireTold) (task : Option Drive) (job : Driv
   driven_since left inputs done said same w = record {
     schedule = w.schedule;
     lines = w.lines;
-    rest = w.rest;
     lefts = w.lefts;
     lefts_are = w.lefts_are;
     run = w.run;
@@ -160,7 +159,7 @@ module _ {W : Type 0} (tells : W → WireTold) (task : Option Drive) (job : Driv
   }
 
   none_driven : (left : Option (List ℕ)) (inputs : List (Option (List ℕ))) (done : Done) (finding : Finding) (rest : Option (List ℕ)) (count : ℕ) (counts : List ℕ) → AllOpened job.names host now left inputs done.sources → lefts_of done.sources ≡ rest ∷ inputs → read_faults_of done.sources ≡ count ∷ counts
-      → AllByRecursion (λ n. n ≡ 0) counts → IsUndriven finding (length inputs) left 0 count → WasRefused finding task (outside host wires tells) now done.sources
+      → AllByRecursion (λ n. n ≡ 0) counts → IsUndriven finding (length inputs) left rest 0 count → WasRefused finding task (outside host wires tells) now done.sources
   none_driven left inputs done BadWords rest count counts opened left_are are fresh undriven = absurd undriven
   none_driven left inputs done (OpenFault file) rest count counts opened left_are are fresh undriven = absurd undriven
   none_driven left inputs done (ReadFault file) rest count counts opened left_are are fresh undriven =

@@ -77,7 +77,7 @@ module _ {W : Type 0} (job : Drive) (before after : Outside W) (done : Done) (di
     count : was.count ≡ 0
     count = (subst (AllByRecursion (λ n. n ≡ 0)) was.counts_are counts_zero).0
 
-    by : (finding : Finding) → finding ≢ Memory → IsUndriven finding (length was.inputs) was.left 0 was.count → ⊥
+    by : (finding : Finding) → finding ≢ Memory → IsUndriven finding (length was.inputs) was.left was.rest 0 was.count → ⊥
     by BadWords memory undriven = undriven
     by (OpenFault file) memory undriven = undriven
     by (ReadFault file) memory undriven = omega (arith, undriven.1, count)

@@ -1,5 +1,5 @@
 -- What a run of `check` does.
-use Rattle.std.specs.Prelude.{◌≡◌, ◌≢◌, ◌⊎◌, ◌≤◌, ℕ, List, [], Option, Some, None, length, map, take, slice_get}
+use Rattle.std.specs.Prelude.{◌≡◌, ◌≢◌, ◌⊎◌, ◌≤◌, ℕ, ◌<◌, List, [], Option, Some, None, length, map, option_map, take, slice_get}
 use Rattle.std.specs.Prelude.{IsNone, IsSome, IsSomeAnd, IfSome}
 use Rattle.std.specs.List.{AllByRecursion}
 use Rattle.flake_base.specs.Causes.{Rose}
@@ -11,6 +11,7 @@ use Rattle.check_files.specs.Files.{limit_of}
 use Rattle.check_files.specs.Judged.{IsJudged}
 use Rattle.check_files.specs.Named.{Named, AreDistinct, FilesOpened, FileFails, held_by, names_in}
 use Rattle.check_files.specs.Stopped.{IsStopped}
+use Rattle.check_files.specs.Whole.{emptied}
 use Rattle.check_files.specs.declared.error.CheckError.TheVariants as errors
 use Rattle.replay_check.specs.declared.verdict.Verdict.TheVariants.{Same}
 use Rattle.flake_run.specs.Outside.{Outside, LeavesFiles}
@@ -28,6 +29,25 @@ HasFaultsBy (ReadFault file) source =
     (source.file ≡ file → Rose 0 source.faults) × (source.file ≢ file → source.faults ≡ 0)
 HasFaultsBy Memory source = Unit {0}
 HasFaultsBy finding source = source.faults ≡ 0
+
+-- it has what the file of its number had when that was opened
+abbrev pub IsAsOpened : List (Option (List ℕ)) → SourceTold → Type 0
+IsAsOpened lefts source = slice_get lefts source.file ≡ Some source.left
+
+-- it was read to its end
+abbrev pub IsReadToEnd : List (Option (List ℕ)) → SourceTold → Type 0
+IsReadToEnd lefts source = option_map emptied (slice_get lefts source.file) ≡ Some source.left
+
+-- so were the files in front of this one, and those behind it have what they had
+abbrev pub IsReadTo : ℕ → List (Option (List ℕ)) → SourceTold → Type 0
+IsReadTo file lefts source = (source.file < file → IsReadToEnd lefts source) × (file < source.file → IsAsOpened lefts source)
+
+-- What a source has left, by what the files had when they were opened. Where memory was wanting it is free.
+abbrev pub HasLeftBy : Finding → List (Option (List ℕ)) → SourceTold → Type 0
+HasLeftBy (ReadFault file) lefts source = IsReadTo file lefts source
+HasLeftBy (TooLarge file) lefts source = IsReadTo file lefts source
+HasLeftBy Memory lefts source = Unit {0}
+HasLeftBy finding lefts source = IsReadToEnd lefts source
 
 -- a file of this number was opened
 abbrev pub IsOpened : ℕ → List SourceTold → Type 0
@@ -50,15 +70,18 @@ pub record WasRead (finding : Finding) (words : List Named) (old new : HostTold)
   pub opened : FilesOpened words old new lefts
   pub files : files_of sources ≡ places_from 0 words
   pub reads : AllByRecursion (HasFaultsBy finding) sources
+  pub rests : AllByRecursion (HasLeftBy finding lefts) sources
   pub comes_to : ComesTo finding lefts sources
 
--- the files in front of the one that did not open were
+-- the files in front of the one that did not open were, and were not read
 pub record OneUnopened (file : ℕ) (words : List Named) (old new : HostTold) (sources : List SourceTold) : Type 0 where
   pub between : HostTold
-  pub fails : FileFails words file old between
+  pub lefts : List (Option (List ℕ))
+  pub fails : FileFails words file old between lefts
   pub left : LeavesFiles between new
   pub files : files_of sources ≡ places_from 0 (take file words)
   pub reads : AllByRecursion (λ source. source.faults ≡ 0) sources
+  pub rests : AllByRecursion (IsAsOpened lefts) sources
 
 -- no file was opened
 pub record NoneOpened (old new : HostTold) (sources : List SourceTold) : Type 0 where

@@ -12,6 +12,7 @@ use Rattle.pin_core.specs.declared.sizes.Sizes as pool
 use Rattle.pinned_pool.specs.Claims.{count_of}
 use Rattle.pinned_pool.specs.Ends.{End}
 use Rattle.schedule_text.specs.declared.line.Line.{Line}
+use Rattle.check_files.specs.Whole.{emptied}
 use Rattle.serve_house.specs.Opened.{pool_sizes}
 use Rattle.serve_house.specs.declared.sizes.Sizes.{Sizes}
 use Rattle.serve_model.specs.Demand.{demand_of}
@@ -61,10 +62,9 @@ pub record WasDriven {W : Type 0} (sizes : Sizes) (left : Option (List ℕ)) (in
   -- these are the schedule's lines
   pub schedule : List Line
   pub lines : HasSchedule (length inputs) left schedule
-  -- what the sources have left that come back, the schedule's first of all
-  pub rest : Option (List ℕ)
+  -- what the sources have left that come back, the schedule's first of all, which was read to its end
   pub lefts : List (Option (List ℕ))
-  pub lefts_are : lefts_of done.sources ≡ rest ∷ lefts
+  pub lefts_are : lefts_of done.sources ≡ emptied left ∷ lefts
   -- the journal has the parts that were run, in one history, and the wires were sent the texts of the replies that it
   -- gives
   pub run : WasServed inputs lefts done.ends done.journal (sent_by before) (sent_by after)
@@ -116,7 +116,7 @@ pub record NotDriven {W : Type 0} (left : Option (List ℕ)) (inputs : List (Opt
   pub counts : List ℕ
   pub counts_are : read_faults_of done.sources ≡ count ∷ counts
   pub fresh : AllByRecursion (λ n. n ≡ 0) counts
-  pub undriven : IsUndriven finding (length inputs) left 0 count
+  pub undriven : IsUndriven finding (length inputs) left rest 0 count
 
 -- what came of sources that were opened, all of which come back
 pub record CameOf {W : Type 0} (sizes : Sizes) (left : Option (List ℕ)) (inputs : List (Option (List ℕ)))

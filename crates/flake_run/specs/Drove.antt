@@ -55,7 +55,7 @@ pub record NoneDriven (finding : Finding) (names : List (List ℕ)) (old new : H
   pub counts : List ℕ
   pub counts_are : read_faults_of sources ≡ count ∷ counts
   pub fresh : AllByRecursion (λ n. n ≡ 0) counts
-  pub undriven : IsUndriven finding (length inputs) left 0 count
+  pub undriven : IsUndriven finding (length inputs) left rest 0 count
 
 -- the words are a task, for which there are wires
 abbrev pub IsAccepted : {W : Type 0} → Option Drive → Outside W → (Drive → Type 0) → Type 0

@@ -4,7 +4,7 @@ use Rattle.flake_base.specs.Causes.{Rose}
 use Rattle.journal_text.specs.Lines.{lines_of}
 use Rattle.schedule_text.specs.Reading.{AreLines, IsBadLine}
 use Rattle.schedule_text.specs.declared.line.Line.{Line}
-use Rattle.check_files.specs.Whole.{IsPast, IsWhole}
+use Rattle.check_files.specs.Whole.{IsPast, IsWhole, emptied}
 use Rattle.flake_run.specs.declared.finding.Finding.{Finding}
 use Rattle.flake_run.specs.declared.finding.Finding.TheVariants.{BadWords, OpenFault, ReadFault, TooLarge, BadLine}
 use Rattle.flake_run.specs.declared.finding.Finding.TheVariants.{Judged, Memory}
@@ -25,13 +25,14 @@ pub record HasBadLine (sessions : ℕ) (left : Option (List ℕ)) (line : ℕ) :
   pub whole : IsWhole schedule_limit left text
   pub bad : IsBadLine sessions (lines_of text) line
 
--- Why it gave no schedule, of which the file has number 0; and how often its reads failed before and behind. Where
--- memory was wanting that is free.
-abbrev pub IsUndriven : Finding → ℕ → Option (List ℕ) → ℕ → ℕ → Type 0
-IsUndriven BadWords sessions left old new = ⊥
-IsUndriven (OpenFault file) sessions left old new = ⊥
-IsUndriven (ReadFault file) sessions left old new = (file ≡ 0) × Rose old new
-IsUndriven (TooLarge file) sessions left old new = (file ≡ 0) × IsPast schedule_limit left × (new ≡ old)
-IsUndriven (BadLine line) sessions left old new = HasBadLine sessions left line × (new ≡ old)
-IsUndriven (Judged verdict) sessions left old new = ⊥
-IsUndriven Memory sessions left old new = Unit {0}
+-- Why it gave no schedule, of which the file has number 0; what it had left before and behind, and how often its reads
+-- failed. Where memory was wanting these are free.
+abbrev pub IsUndriven : Finding → ℕ → Option (List ℕ) → Option (List ℕ) → ℕ → ℕ → Type 0
+IsUndriven BadWords sessions left rest old new = ⊥
+IsUndriven (OpenFault file) sessions left rest old new = ⊥
+IsUndriven (ReadFault file) sessions left rest old new = (file ≡ 0) × Rose old new
+IsUndriven (TooLarge file) sessions left rest old new = (file ≡ 0) × IsPast schedule_limit left × (new ≡ old)
+IsUndriven (BadLine line) sessions left rest old new =
+    HasBadLine sessions left line × (new ≡ old) × (rest ≡ emptied left)
+IsUndriven (Judged verdict) sessions left rest old new = ⊥
+IsUndriven Memory sessions left rest old new = Unit {0}

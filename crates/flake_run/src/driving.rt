@@ -1,5 +1,6 @@
 // Sources that are driven by a schedule, to the first wires.
 ghost use Rattle.std.specs.Prelude.{◌≡◌, ◌<◌, ◌≤◌, All, IfErr, IfOk, OnErr, OnOk, length, map};
+ghost use Rattle.check_files.specs.Whole.{emptied};
 ghost use Rattle.schedule_text.specs.Text.{session_of};
 ghost use Rattle.serve_house.specs.Opened.{IsSized, pool_sizes};
 ghost use Rattle.serve_house.specs.Ran.{AreReads};
@@ -82,9 +83,10 @@ pub fn drive_by<R: Wait, S: Source + Drop, H: Host>(
     ensures reads { IfOk result (λ r. AreReads r.ends.items (map (λ s. S.read_faults s) sources.items)
         (map (λ s. S.read_faults s) r.sources.items)) }
     ensures shards { IfOk result (λ r. length r.journal.items ≡ sizes.now.shards) }
+    ensures left { OnOk result (S.left schedule.new ≡ emptied (S.left schedule.old)) }
     ensures calm { OnOk result (S.read_faults schedule.new ≡ S.read_faults schedule.old) }
     ensures undriven { IfErr result (λ e. IsUndriven e.0 (length sources.items) (S.left schedule.old)
-        (S.read_faults schedule.old) (S.read_faults schedule.new)) }
+        (S.left schedule.new) (S.read_faults schedule.old) (S.read_faults schedule.new)) }
     ensures back { IfErr result (λ e. (e.1.items ≡ sources.items) × (e.2.items ≡ wires.items)) }
     ensures silent { OnErr result (H.host_told host.new ≡ H.host_told host.old) }
 {

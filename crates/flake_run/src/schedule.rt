@@ -1,5 +1,6 @@
 // A schedule that is read whole.
 ghost use Rattle.std.specs.Prelude.{◌≡◌, ◌≤◌, IfErr, IfOk, OnOk};
+ghost use Rattle.check_files.specs.Whole.{emptied};
 ghost use Rattle.flake_run.specs.Schedule.{HasSchedule, IsUndriven};
 
 use crate::finding::Finding;
@@ -19,9 +20,10 @@ pub fn schedule_in<S: Source>(
     sessions: u16,
 ) -> Result<Schedule, Finding>
     ensures lines { IfOk result (λ lines. HasSchedule sessions (S.left source.old) lines.items) }
+    ensures left { OnOk result (S.left source.new ≡ emptied (S.left source.old)) }
     ensures calm { OnOk result (S.read_faults source.new ≡ S.read_faults source.old) }
     ensures undriven { IfErr result (λ finding. IsUndriven finding sessions (S.left source.old)
-        (S.read_faults source.old) (S.read_faults source.new)) }
+        (S.left source.new) (S.read_faults source.old) (S.read_faults source.new)) }
 {
     let text = match read_whole(alloc, source, LIMIT) {
         Ok(text) => text,

@@ -1,6 +1,7 @@
 use Rattle.std.proofs.Common.{◌≡◌, ◌≤◌, [], Some, IfSome, length, map, arith, sym, ap, ◌∙◌, subst}
 use Rattle.std.specs.Option.{option_map}
 use Rattle.std.proofs.lemmas.List.{length-map}
+use Rattle.check_files.specs.File.{lefts_of}
 use Rattle.check_files.specs.Named.{named}
 use Rattle.serve_words.specs.Check.{check_of, shown_check}
 use Rattle.serve_words.specs.Task.{texts_of}
@@ -26,7 +27,7 @@ opened_of-requires-clause-room g c =
     let files = c.check_named-answer.result.1.items in
     let count : length (map named c.as_slice.result.now) ≡ length c.in-Ok-Some.task.files.items = length-map c.as_slice.result.now named ∙ ap length c.as_slice.ensures.value in
     let said = c.check_named-answer.ensures in
-    let few = as_many_files c.check_named-answer.result.0 (map named c.as_slice.result.now) (g.H.Host.host_told c.args.host.now) (g.H.Host.host_told c.check_named-answer.new.host) files said.verdict said.err in
+    let few = as_many_files c.check_named-answer.result.0 (map named c.as_slice.result.now) (g.H.Host.host_told c.args.host.now) (g.H.Host.host_told c.check_named-answer.new.host) files (lefts_of (λ s. g.H.In.Source.left s) files) said.verdict said.err in
     (c.in-Ok-Ok.ensures'.items, omega (arith, few, count, c.in-Ok-Ok.ensures'.capacity))
 
 pub opened_of-requires-clause-few : goal.opened_of-requires-clause-few
@@ -34,7 +35,7 @@ opened_of-requires-clause-few g c =
     let files = c.check_named-answer.result.1.items in
     let count : length (map named c.as_slice.result.now) ≡ length c.in-Ok-Some.task.files.items = length-map c.as_slice.result.now named ∙ ap length c.as_slice.ensures.value in
     let said = c.check_named-answer.ensures in
-    let few = as_many_files c.check_named-answer.result.0 (map named c.as_slice.result.now) (g.H.Host.host_told c.args.host.now) (g.H.Host.host_told c.check_named-answer.new.host) files said.verdict said.err in
+    let few = as_many_files c.check_named-answer.result.0 (map named c.as_slice.result.now) (g.H.Host.host_told c.args.host.now) (g.H.Host.host_told c.check_named-answer.new.host) files (lefts_of (λ s. g.H.In.Source.left s) files) said.verdict said.err in
     let most = subst (λ o. IfSome o (λ t. length t.files.items ≤ 33)) c.in-Ok-Some.field-0-is c.in-Ok-Some.ensures.few in
     omega (arith, few, count, most)
 

@@ -36,13 +36,13 @@ returns-in-Ok g c =
     let numbers = are_numbered (λ s. g.H.In.Source.left s) (λ s. g.H.In.Source.read_faults s) c.numbered_behind.result.items (c.drive_by.new.schedule ∷ driven.sources.items) c.numbered_behind.ensures.files c.numbered_behind.ensures.sources in
     came_driven (λ w. (g.dyn-1.0.entry w.vtable).1.wire_told w.value) c.args.sizes.now (g.H.In.Source.left c.args.schedule) inputs host mid now c.args.wires.items driven.wires.items
     (done c.drive_status.result Nothing driven.ends.items driven.journal.items c.held-held.result (Some driven.pool) told)
-    driven.failed failed driven.pool (g.H.In.Source.left back) lefts (map (λ s. g.H.In.Source.read_faults s) driven.sources.items) (record {
+    driven.failed failed driven.pool lefts (map (λ s. g.H.In.Source.read_faults s) driven.sources.items) (record {
       by = said.run;
       said = subst (λ n. Says driven.failed failed (held_text n driven.pool.large) mid now) held.0 (subst (λ n. Says driven.failed failed (held_text c.held-held.result.small n) mid now) held.1 c.say_held-failed.ensures);
       pool_is = refl;
       held = held;
       shards = length-map driven.journal.items (λ history. history.items) ∙ said.shards;
-      lefts_are = numbers.lefts;
+      lefts_are = numbers.lefts ∙ ap (λ l. l ∷ lefts) said.left;
       counts_are = numbers.faults_are ∙ ap (λ n. n ∷ map (λ s. g.H.In.Source.read_faults s) driven.sources.items) (said.calm ∙ c.requires.fresh);
       reads = counts_from driven.ends.items c.args.sources.items _ (subst (λ ns. AreReads driven.ends.items ns (map (λ s. g.H.In.Source.read_faults s) driven.sources.items)) c.requires.all_fresh said.reads);
       status = c.drive_status.ensures ∙ ap (λ ends. status_with (failed || some_put_failed ends) (highest_by (ways ends))) c.as_slice.ensures;
@@ -72,6 +72,6 @@ returns-in-Err g c =
     (numbers.lefts ∙ ap (λ ss. g.H.In.Source.left back ∷ map (λ s. g.H.In.Source.left s) ss) said.back.0)
     numbers.faults_are
     (subst (λ ss. AllByRecursion (λ n. n ≡ 0) (map (λ s. g.H.In.Source.read_faults s) ss)) (sym said.back.0) (zeros_are (λ s. g.H.In.Source.read_faults s) c.args.sources.items c.args.sources.items c.requires.all_fresh))
-    (subst (λ n. IsUndriven c.in-Err.finding (length inputs) (g.H.In.Source.left c.args.schedule) n (g.H.In.Source.read_faults back)) c.requires.fresh
-    (subst (λ n. IsUndriven c.in-Err.finding n (g.H.In.Source.left c.args.schedule) (g.H.In.Source.read_faults c.args.schedule) (g.H.In.Source.read_faults back)) count said.undriven))
+    (subst (λ n. IsUndriven c.in-Err.finding (length inputs) (g.H.In.Source.left c.args.schedule) (g.H.In.Source.left back) n (g.H.In.Source.read_faults back)) c.requires.fresh
+    (subst (λ n. IsUndriven c.in-Err.finding n (g.H.In.Source.left c.args.schedule) (g.H.In.Source.left back) (g.H.In.Source.read_faults c.args.schedule) (g.H.In.Source.read_faults back)) count said.undriven))
     (numbers.files ∙ ap (λ ss. range_with_len 0 (suc (length ss))) said.back.0 ∙ ap (λ n. range_with_len 0 (suc n)) count)
