@@ -8,6 +8,16 @@ serve_beside-wire-requires-clause-fresh g c = λ _ _.
     (all_first _ _ c.in-Some.job (λ job. IsNewJob g.P.PoolName.sizes job.line.session job.line.pump
     job.line.device.end job.line.device.failed) c.in-Some.ensures.steps.0 c.loop-job.invariant.rest).fresh
 
+pub serve_beside-wire-requires-clause-ring : goal.serve_beside-wire-requires-clause-ring
+serve_beside-wire-requires-clause-ring g c = λ _ _.
+    (all_first _ _ c.in-Some.job (λ job. IsNewJob g.P.PoolName.sizes job.line.session job.line.pump
+    job.line.device.end job.line.device.failed) c.in-Some.ensures.steps.0 c.loop-job.invariant.rest).ring
+
+pub serve_beside-wire-requires-clause-unfailed : goal.serve_beside-wire-requires-clause-unfailed
+serve_beside-wire-requires-clause-unfailed g c = λ _ _.
+    (all_first _ _ c.in-Some.job (λ job. IsNewJob g.P.PoolName.sizes job.line.session job.line.pump
+    job.line.device.end job.line.device.failed) c.in-Some.ensures.steps.0 c.loop-job.invariant.rest).unfailed
+
 pub loop-job-preserved : goal.loop-job-preserved
 loop-job-preserved g c =
     let before = c.loop-job.invariant in
