@@ -1,7 +1,7 @@
 -- The looks of a claim that goes over the buffers of a class.
 use Rattle.std.proofs.Common.{◌≡◌, ℕ, suc, ◌+◌, ◌<◌, List, [], ◌∷◌, ◌++◌, length, sym, refl, ap, ◌∙◌, subst, append_assoc, append-nil, length-append, arith}
 use Rattle.pinned_pool.specs.Moves.{lost}
-use Rattle.pinned_pool.specs.Claims.{LooksFrom, Passed}
+use Rattle.pinned_pool.specs.Claims.{LooksFrom, Passed, looking}
 use Rattle.pinned_pool.specs.declared.view.View.{View}
 
 pub passed_none : (b : ℕ) (v : View) → Passed b 0 v v
@@ -19,3 +19,19 @@ passed_more b n found v u w p more e = record {
   count = length-append p.looks ((b + n, found) ∷ []) ∙ omega (arith, p.count);
   seat = e ∙ ap (lost (b + n) found) p.seat ∙ ap (λ (ls : List (ℕ × ℕ)). record v { looks = ls }) (append_assoc v.looks p.looks ((b + n, found) ∷ []));
 }
+
+looks_then : (b : ℕ) (ks ls : List (ℕ × ℕ)) → LooksFrom b ks → LooksFrom (b + length ks) ls → LooksFrom b (ks ++ ls)
+looks_then b [] ls first then = subst (λ n. LooksFrom n ls) (omega arith) then
+looks_then b (k ∷ ks) ls first then = (first.0, first.1, looks_then (suc b) ks ls first.2 (subst (λ n. LooksFrom n ls) (omega arith) then))
+
+-- some were found held, and then some more behind them
+pub passed_then : (b n m : ℕ) (v u w : View) → Passed b n v u → Passed (b + n) m u w → Passed b (n + m) v w
+passed_then b n m v u w p q = record {
+  looks = p.looks ++ q.looks;
+  from = looks_then b p.looks q.looks p.from (subst (λ c. LooksFrom (b + c) q.looks) (sym p.count) q.from);
+  count = length-append p.looks q.looks ∙ omega (arith, p.count, q.count);
+  seat = q.seat ∙ ap (looking q.looks) p.seat ∙ ap (λ (ls : List (ℕ × ℕ)). record v { looks = ls }) (append_assoc v.looks p.looks q.looks);
+}
+
+pub passed_so : (b n m : ℕ) (v u w : View) → Passed b n v u → n ≡ m → w ≡ u → Passed b m v w
+passed_so b n m v u w p same seat = subst (λ c. Passed b c v w) same (subst (Passed b n v) (sym seat) p)

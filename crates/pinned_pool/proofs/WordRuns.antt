@@ -162,6 +162,16 @@ next_read room front ys index k j was less fits is =
     let word : take 8 (drop (8 * index + 8 * k) (bytes_of front)) ≡ ys = ap (λ n. take 8 (drop n (bytes_of front))) at ∙ part-bytes front (index + k) 0 8 less (omega arith) ∙ take_all 8 (to_le_bytes w64 (get_or front (index + k) 0)) (omega arith) ∙ sym is in
     take-put_mid (8 * k) j room ys (8 * (k + 1)) (omega (arith, ap length is)) (omega arith) ∙ ap (λ l. l ++ ys) was ∙ sym (ap (λ n. take n (drop (8 * index) (bytes_of front))) next ∙ part-more (8 * k) 8 (8 * index) (bytes_of front) ∙ ap (λ l. take (8 * k) (drop (8 * index) (bytes_of front)) ++ l) word)
 
+-- whole lines of eight words that were read
+pub next_line : (room xs ys : List ℕ) (index k n j : ℕ) → take (64 * k) room ≡ take (64 * k) (drop (8 * index) xs) → 64 * k + 64 ≤ length room → length ys ≡ 64 → ys ≡ take n (drop (8 * (index + 8 * k)) xs) → n ≡ 64
+    → take (64 * (k + 1)) (put_mid (64 * k) j room ys) ≡ take (64 * (k + 1)) (drop (8 * index) xs)
+next_line room xs ys index k n j was fits long is size =
+    let next : 64 * (k + 1) ≡ 64 * k + 64 = omega arith in
+    let at : 8 * (index + 8 * k) ≡ 8 * index + 64 * k = omega arith in
+    let line : ys ≡ take 64 (drop (8 * index + 64 * k) xs) = is ∙ (λ t. take (size t) (drop (at t) xs)) in
+    take-put_mid (64 * k) j room ys (64 * (k + 1)) (omega (arith, long)) (omega arith) ∙ ap (λ l. l ++ ys) was ∙ ap (λ l. take (64 * k) (drop (8 * index) xs) ++ l) line
+    ∙ sym (ap (λ m. take m (drop (8 * index) xs)) next ∙ part-more (64 * k) 64 (8 * index) xs)
+
 -- two parts that were read one after another
 pub both_read : (a m n j k from : ℕ) (room xs first last : List ℕ) → length first ≡ a → j ≡ a → length room ≤ a + k → a + m ≡ n → first ≡ take a (drop from xs) → last ≡ take m (drop (from + a) xs) → put_mid a k (put_mid 0 j room first) last ≡ take n (drop from xs)
 both_read a m n j k from room xs first last size whole fits sum one two =

@@ -5,6 +5,7 @@ ghost use Rattle.view_sums.specs.Total.{total};
 ghost use Rattle.pin_core.specs.Buffers.{buffers, room};
 ghost use Rattle.pin_core.specs.Holding.{at, sole_at};
 ghost use Rattle.pinned_pool.specs.Bytes.{bytes_of, PutsBytes};
+ghost use Rattle.pinned_pool.specs.Rule.{word_at};
 ghost use Rattle.pinned_pool.specs.Moves.{front_of};
 
 use crate::hold::Hold;
@@ -63,8 +64,49 @@ impl<N: PoolName> Pool<N> {
         }
     }
 
+    // Reads eight words, a line. Their number is fixed, so that the compiler lays the loads out one after another.
+    fn load_line(
+        &self,
+        seat: &mut PoolSeat<N>,
+        buffer: u32,
+        first: usize,
+        index: u32,
+        room: &mut [u8],
+    )
+        requires line { length room.old ≡ 64 }
+        requires first { (buffer < buffers N.sizes) × (first ≡ word_at N.sizes buffer 0) }
+        requires held { 0 < total (at buffer) seat.old.holds }
+        requires inside { 8 * index + length room.old ≤ 8 * length (front_of buffer seat.old.holds) }
+        ensures seat { seat.new ≡ seat.old }
+        ensures bytes { room.new
+            ≡ take (length room.old) (drop (8 * index) (bytes_of (front_of buffer seat.old.holds))) }
+    {
+        seat.is_seat();
+        for k in 0..8 {
+            let word = self.load_from::<Brand>(seat, buffer, first, index + k as u32);
+            room[8 * k..8 * k + 8].copy_from_slice(&word.to_le_bytes());
+        }
+    }
+
+    // Reads whole lines.
+    fn load_lines(&self, seat: &mut PoolSeat<N>, buffer: u32, index: u32, room: &mut [u8])
+        requires whole { length room.old % 64 ≡ 0 }
+        requires held { 0 < total (at buffer) seat.old.holds }
+        requires inside { 8 * index + length room.old ≤ 8 * length (front_of buffer seat.old.holds) }
+        ensures seat { seat.new ≡ seat.old }
+        ensures bytes { room.new
+            ≡ take (length room.old) (drop (8 * index) (bytes_of (front_of buffer seat.old.holds))) }
+    {
+        seat.is_seat();
+        let first = self.first_word(buffer);
+        for k in 0..room.len() / 64 {
+            let line = &mut room[64 * k..64 * k + 64];
+            self.load_line(seat, buffer, first, index + 8 * k as u32, line);
+        }
+    }
+
     // Reads whole words.
-    fn load_whole(&self, seat: &mut PoolSeat<N>, buffer: u32, index: u32, room: &mut [u8])
+    fn load_words(&self, seat: &mut PoolSeat<N>, buffer: u32, index: u32, room: &mut [u8])
         requires whole { length room.old % 8 ≡ 0 }
         requires held { 0 < total (at buffer) seat.old.holds }
         requires inside { 8 * index + length room.old ≤ 8 * length (front_of buffer seat.old.holds) }
@@ -77,6 +119,28 @@ impl<N: PoolName> Pool<N> {
         for k in 0..room.len() / 8 {
             let word = self.load_from::<Brand>(seat, buffer, first, index + k as u32);
             room[8 * k..8 * k + 8].copy_from_slice(&word.to_le_bytes());
+        }
+    }
+
+    // Reads whole words, the most of them in lines.
+    fn load_whole(&self, seat: &mut PoolSeat<N>, buffer: u32, index: u32, room: &mut [u8])
+        requires whole { length room.old % 8 ≡ 0 }
+        requires held { 0 < total (at buffer) seat.old.holds }
+        requires inside { 8 * index + length room.old ≤ 8 * length (front_of buffer seat.old.holds) }
+        ensures seat { seat.new ≡ seat.old }
+        ensures bytes { room.new
+            ≡ take (length room.old) (drop (8 * index) (bytes_of (front_of buffer seat.old.holds))) }
+    {
+        seat.is_seat();
+        let lines = room.len() / 64;
+        self.load_lines(seat, buffer, index, &mut room[..64 * lines]);
+        if 64 * lines < room.len() {
+            self.load_words(
+                seat,
+                buffer,
+                index + 8 * lines as u32,
+                &mut room[64 * lines..],
+            );
         }
     }
 

@@ -58,6 +58,39 @@ impl<N: PoolName> Pool<N> {
         }
     }
 
+    // How many of eight buffers are found held in front of one that seems free. Their number is fixed, so that the
+    // compiler lays the looks out one after another.
+    fn pass_eight(&self, seat: &mut PoolSeat<N>, first: u32) -> u32
+        requires { first + 8 ≤ buffers N.sizes }
+        ensures passed { Passed first result seat.old seat.new }
+        ensures few { result ≤ 8 }
+    {
+        for k in 0..8 {
+            if self.seems_free(seat, first + k) {
+                return k;
+            }
+        }
+        8
+    }
+
+    // How many of so many buffers are found held, eight by eight, in front of one that seems free. The last seven at
+    // most are not looked at.
+    fn pass_held(&self, seat: &mut PoolSeat<N>, first: u32, count: u32) -> u32
+        requires { first + count ≤ buffers N.sizes }
+        ensures passed { Passed first result seat.old seat.new }
+        ensures few { result ≤ count }
+    {
+        let mut passed = 0;
+        while count - passed >= 8 {
+            let more = self.pass_eight(seat, first + passed);
+            passed += more;
+            if more < 8 {
+                return passed;
+            }
+        }
+        passed
+    }
+
     // Goes over the buffers of the class in ascending order.
     fn scan(&self, seat: &mut PoolSeat<N>, class: Class) -> Result<Hold<N>, NoBuffer>
         ensures won { IfOk result (λ h. Wins N.sizes class h seat.old seat.new) }
@@ -65,7 +98,8 @@ impl<N: PoolName> Pool<N> {
             × Passed (first_of N.sizes class) e.looked seat.old seat.new) }
     {
         let (first, count) = self.range(class);
-        for k in 0..count {
+        let passed = self.pass_held(seat, first, count);
+        for k in passed..count {
             let buffer = first + k;
             if self.win(seat, buffer) {
                 return Ok(Hold {

@@ -1,32 +1,37 @@
-use Rattle.std.proofs.Common.{ℕ, ◌+◌, List, get_or, ap, ◌∙◌, arith}
-use Rattle.std.specs.Int.{w64, to_le_bytes}
+use Rattle.std.proofs.Common.{◌≡◌, ℕ, ◌+◌, ◌-◌, ◌*◌, ◌/◌, ◌++◌, List, length, take, drop, refl, ap, ◌∙◌, length-append, arith}
+use Rattle.std.proofs.lemmas.List.{length-take, length-drop}
+use Rattle.pinned_pool.specs.Bytes.{bytes_of}
 use Rattle.pinned_pool.specs.Moves.{front_of}
 use Rattle.pinned_pool.specs.declared.view.View.{View}
-use Rattle.pinned_pool.proofs.Within.{held-near, front-short}
-use Rattle.pinned_pool.proofs.WordRuns.{room-most, next_read}
+use Rattle.pinned_pool.proofs.Within.{front-short}
+use Rattle.pinned_pool.proofs.WordRuns.{room-most, both_read}
 use Rattle.pinned_pool.proofs.pool.Pool.load_whole.Goals as goal
 
-pub first_word-first-requires : goal.first_word-first-requires
-first_word-first-requires g c = held-near g.N.PoolName.sizes c.args.seat.now c.is_seat.ensures c.args.buffer c.requires.held
+pub overflow_cast-lines : goal.overflow_cast-lines
+overflow_cast-lines g c =
+    omega (arith, front-short g.N.PoolName.sizes c.args.seat.now c.is_seat.ensures c.args.buffer c.requires.held, room-most g.N.PoolName.sizes c.args.buffer, c.requires.inside)
 
-pub load_from-word-requires-clause-first : goal.load_from-word-requires-clause-first
-load_from-word-requires-clause-first g c = (held-near g.N.PoolName.sizes c.args.seat.now c.is_seat.ensures c.args.buffer c.requires.held, c.first_word-first.ensures)
-
-pub overflow_cast-k : goal.overflow_cast-k
-overflow_cast-k g c =
-    omega (arith, front-short g.N.PoolName.sizes c.args.seat.now c.is_seat.ensures c.args.buffer c.requires.held, room-most g.N.PoolName.sizes c.args.buffer, c.requires.inside, c.loop-k.auto.room)
+pub overflow_mul-lines-then-lines-room : goal.overflow_mul-lines-then-lines-room
+overflow_mul-lines-then-lines-room g c =
+    omega (arith, front-short g.N.PoolName.sizes c.args.seat.now c.is_seat.ensures c.args.buffer c.requires.held, room-most g.N.PoolName.sizes c.args.buffer, c.requires.inside)
 
 pub overflow_add-index : goal.overflow_add-index
 overflow_add-index g c =
-    omega (arith, front-short g.N.PoolName.sizes c.args.seat.now c.is_seat.ensures c.args.buffer c.requires.held, room-most g.N.PoolName.sizes c.args.buffer, c.requires.inside, c.loop-k.auto.room)
+    omega (arith, front-short g.N.PoolName.sizes c.args.seat.now c.is_seat.ensures c.args.buffer c.requires.held, room-most g.N.PoolName.sizes c.args.buffer, c.requires.inside)
 
-pub loop-k-preserved : goal.loop-k-preserved
-loop-k-preserved g c =
-    let front : View → List ℕ = λ v. front_of c.args.buffer v.holds in
-    let k = c.loop-k.k in
-    let word = c.load_from-word.ensures.1 ∙ ap (λ v. get_or (front v) (c.args.index + k) 0) c.loop-k.invariant.seat in
-    record {
-      seat = c.load_from-word.ensures.0 ∙ c.loop-k.invariant.seat;
-      bytes = next_read c.loop-k.room (front c.args.seat.now) _ c.args.index k _ c.loop-k.invariant.bytes (omega (arith, c.requires.inside, c.loop-k.auto.room)) (omega arith)
-          (c.copy_from_slice.ensures.after ∙ c.to_le_bytes.ensures ∙ ap (to_le_bytes w64) word);
-    }
+pub returns-then-lines-room-clause-bytes : goal.returns-then-lines-room-clause-bytes
+returns-then-lines-room-clause-bytes g c =
+    let room = c.args.room.now in
+    let n = length room in
+    let whole = 64 * (n / 64) in
+    let first = c.load_lines.new.room in
+    let between : List ℕ = first ++ drop whole room in
+    let bytes : View → List ℕ = λ v. bytes_of (front_of c.args.buffer v.holds) in
+    let size : length first ≡ whole = omega (arith, c.load_lines.auto.room, length-take whole room) in
+    let long : length between ≡ n = omega (arith, length-append first (drop whole room), size, length-drop whole room) in
+    let taken : length (take (length between - whole) (drop whole between)) ≡ n - whole = omega (arith, length-take (length between - whole) (drop whole between), length-drop whole between, long) in
+    let from : 8 * (c.args.index + 8 * (n / 64)) ≡ 8 * c.args.index + whole = omega arith in
+    let one : length (take whole room) ≡ whole = omega (arith, length-take whole room) in
+    both_read whole (n - whole) n whole (length between - whole) (8 * c.args.index) room (bytes c.args.seat.now) first c.load_words.new.room size refl (omega (arith, long)) (omega arith)
+    (c.load_lines.ensures.bytes ∙ ap (λ k. take k (drop (8 * c.args.index) (bytes c.args.seat.now))) one)
+    (c.load_words.ensures.bytes ∙ (λ i. take (taken i) (drop (from i) (bytes (c.load_lines.ensures.seat i)))))

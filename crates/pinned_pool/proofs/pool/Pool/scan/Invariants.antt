@@ -2,4 +2,4 @@ use Rattle.pinned_pool.specs.Claims.{Passed}
 use Rattle.pinned_pool.proofs.pool.Pool.scan.Given as goal
 
 abbrev pub invariant-loop-k : goal.invariant-loop-k
-invariant-loop-k g l = Passed l.first l.k l.initial.seat l.seat
+invariant-loop-k g l = Passed l.first l.k l.fn.seat l.seat

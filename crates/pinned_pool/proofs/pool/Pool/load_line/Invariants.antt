@@ -1,7 +1,7 @@
 use Rattle.std.proofs.Common.{◌≡◌, ◌*◌, take, drop}
 use Rattle.pinned_pool.specs.Bytes.{bytes_of}
 use Rattle.pinned_pool.specs.Moves.{front_of}
-use Rattle.pinned_pool.proofs.pool.Pool.load_whole.Given as goal
+use Rattle.pinned_pool.proofs.pool.Pool.load_line.Given as goal
 
 abbrev pub invariant-loop-k : goal.invariant-loop-k
 invariant-loop-k g l = record {
