@@ -16,6 +16,7 @@ pub mod ReadBack
 pub mod Ends
 pub mod ByClass
 pub mod Placed
+pub mod Ones
 pub mod Appended
 pub mod HandsOver
 pub mod Ranges
