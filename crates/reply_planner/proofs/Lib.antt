@@ -19,6 +19,7 @@ pub mod Runs
 pub mod SealedUp
 pub mod Sealed
 pub mod GivenUp
+pub mod Unboxed
 pub mod UsedFirst
 pub mod Lent
 pub mod Grown

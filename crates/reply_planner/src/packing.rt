@@ -40,39 +40,44 @@ pub(crate) fn pack<N: PoolName>(
     stage: &mut Stage<N>,
     own: PoolSeat<N>,
     credits: u64,
-    lists: Lists<N>,
+    lists: Box<Lists<N>>,
     call: u32,
 ) -> Parcel<N>
-    requires text { (0 < length lists.text.items) × (length lists.text.items ≤ 512 * length lists.staged.items) }
-    requires staging { Each (IsStaging N.sizes) lists.staged.items }
-    requires room { length stage.old + length lists.staged.items ≤ stage_size }
-    requires buffers { AreOwn seat.old.holds (stage.old ++ buffers_of lists.staged.items) }
-    requires pins { map key_of own.holds ≡ lists.pins.items }
+    requires text { (0 < length lists.value.text.items)
+        × (length lists.value.text.items ≤ 512 * length lists.value.staged.items) }
+    requires staging { Each (IsStaging N.sizes) lists.value.staged.items }
+    requires room { length stage.old + length lists.value.staged.items ≤ stage_size }
+    requires buffers { AreOwn seat.old.holds (stage.old ++ buffers_of lists.value.staged.items) }
+    requires pins { map key_of own.holds ≡ lists.value.pins.items }
     requires own { (0 < credits) × (own.credits ≡ credits + 1) × IsIdle own }
-    requires some { (0 < length lists.segments.items) × (length lists.segments.items < 2 ^ 32) }
-    requires laid { Each (IsLaid N.sizes own.holds (buffers_of lists.staged.items) (length lists.text.items))
-        lists.segments.items }
-    ensures segments { result.segments ≡ lists.segments.items }
+    requires some { (0 < length lists.value.segments.items) × (length lists.value.segments.items < 2 ^ 32) }
+    requires laid { Each
+        (IsLaid N.sizes own.holds (buffers_of lists.value.staged.items) (length lists.value.text.items))
+        lists.value.segments.items }
+    ensures segments { result.segments ≡ lists.value.segments.items }
     ensures text { result.text ≡ read_all (reading N.sizes result.holds) result.segments }
     ensures call { result.call ≡ call }
-    ensures staged { result.staged ≡ take (buffers_for (length lists.text.items)) (buffers_of lists.staged.items) }
-    ensures pinned { (result.pinned ≡ length lists.pins.items) × (result.paid ≡ pinned_keys lists.pins.items) }
-    ensures copied { IsStaged (reading N.sizes result.holds) (addresses_of N.sizes (buffers_of lists.staged.items))
-        lists.text.items }
+    ensures staged { result.staged
+        ≡ take (buffers_for (length lists.value.text.items)) (buffers_of lists.value.staged.items) }
+    ensures pinned { (result.pinned ≡ length lists.value.pins.items)
+        × (result.paid ≡ pinned_keys lists.value.pins.items) }
+    ensures copied { IsStaged (reading N.sizes result.holds)
+        (addresses_of N.sizes (buffers_of lists.value.staged.items)) lists.value.text.items }
     ensures kept { (address n : ℕ) → IsHeld N.sizes own.holds address n
         → reading N.sizes result.holds address n ≡ reading N.sizes own.holds address n }
     ensures stage { stage.new
-        ≡ merged (drop (buffers_for (length lists.text.items)) (buffers_of lists.staged.items)) stage.old }
+        ≡ merged (drop (buffers_for (length lists.value.text.items)) (buffers_of lists.value.staged.items)) stage.old }
     ensures hands { Hands result.staged own seat.old seat.new }
     ensures left { AreOwn seat.new.holds stage.new }
 {
     let mut lists = lists;
     let mut own = own;
-    let used = lists.text.len().div_ceil(512);
-    fill(pool, seat, &lists.staged, &lists.text);
+    let parts = &mut *lists;
+    let used = parts.text.len().div_ceil(512);
+    fill(pool, seat, &parts.staged, &parts.text);
     seat.is_seat();
-    keep_used(stage, &mut lists, used);
-    pool.fetch(seat, &mut own, lists.staged.as_slice());
+    keep_used(stage, parts, used);
+    pool.fetch(seat, &mut own, parts.staged.as_slice());
     own.is_seat();
     let rest = pool.split(&mut own, (), credits);
     pool.join(seat, rest);

@@ -13,7 +13,7 @@ use tx_descriptor::Framed;
 #[derive(Drop)]
 pub struct Parcel<N: PoolName> {
     pub(crate) seat: PoolSeat<N>,
-    pub(crate) lists: Lists<N>,
+    pub(crate) lists: Box<Lists<N>>,
     pub(crate) call: u32,
 }
 
@@ -22,11 +22,11 @@ impl<N: PoolName> Model for Parcel<N> {
 
     ghost Value = { Sent };
 
-    ghost view = { λ p. sent N.sizes p.lists.segments.items p.call p.lists.pins.items p.lists.staged.items
-        p.seat.holds };
+    ghost view = { λ p. sent N.sizes p.lists.value.segments.items p.call p.lists.value.pins.items
+        p.lists.value.staged.items p.seat.holds };
 
-    ghost invariant = { λ p. IsParcelOf N.sizes p.lists.segments.items p.lists.pins.items p.lists.staged.items
-        p.seat };
+    ghost invariant = { λ p. IsParcelOf N.sizes p.lists.value.segments.items p.lists.value.pins.items
+        p.lists.value.staged.items p.seat };
 }
 
 impl<N: PoolName> Parcel<N> {

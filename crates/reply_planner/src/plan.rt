@@ -20,7 +20,7 @@ pub struct Plan<'a, N: PoolName> {
     pub(crate) pool: &'a Pool<N>,
     // The holds of what stays where it lies, and the credits for more.
     pub(crate) seat: PoolSeat<N>,
-    pub(crate) lists: Lists<N>,
+    pub(crate) lists: Box<Lists<N>>,
     pub(crate) need: Need,
     pub(crate) threshold: u32,
     // Where the copied bytes begin that have no segment yet.
@@ -39,15 +39,16 @@ impl<'a, N: PoolName> Model for Plan<'a, N> {
 
     ghost Value = { Planned };
 
-    ghost view = { λ p. planned (terms p.need.descriptors (buffers_of p.lists.staged.items) p.threshold)
+    ghost view = { λ p. planned (terms p.need.descriptors (buffers_of p.lists.value.staged.items) p.threshold)
         (told N.sizes p.history).taken (told N.sizes p.history).begun };
 
     ghost invariant = { λ p. IsPlan N.sizes
-        (planned (terms p.need.descriptors (buffers_of p.lists.staged.items) p.threshold)
+        (planned (terms p.need.descriptors (buffers_of p.lists.value.staged.items) p.threshold)
         (told N.sizes p.history).taken (told N.sizes p.history).begun)
-        p.lists.text.items p.lists.segments.items p.lists.pins.items p.lists.staged.items p.run p.paid p.seat
-        × HasRoom p.need.descriptors (length p.lists.staged.items) (vec_capacity p.lists.text)
-        (vec_capacity p.lists.segments) (vec_capacity p.lists.pins) };
+        p.lists.value.text.items p.lists.value.segments.items p.lists.value.pins.items p.lists.value.staged.items
+        p.run p.paid p.seat
+        × HasRoom p.need.descriptors (length p.lists.value.staged.items) (vec_capacity p.lists.value.text)
+        (vec_capacity p.lists.value.segments) (vec_capacity p.lists.value.pins) };
 }
 
 impl<'a, N: PoolName> Plan<'a, N> {
@@ -93,9 +94,10 @@ impl<'a, N: PoolName> Plan<'a, N> {
         ensures slots { slots_of self.new ≡ slots_of self.old }
         ensures room { length bytes.now ≤ 521 → room_of self.old ≤ room_of self.new + 1 }
     {
-        let place = self.lists.text.len();
-        append(&mut self.lists.text, bytes);
-        let text = Snapshot::of(&self.lists.text);
+        let lists = &mut *self.lists;
+        let place = lists.text.len();
+        append(&mut lists.text, bytes);
+        let text = Snapshot::of(&lists.text);
         self.history.add(Step::Copied { place, text });
     }
 }

@@ -37,8 +37,9 @@ impl<'a, N: PoolName> Plan<'a, N> {
             paid,
             history: _,
         } = self;
-        let end = lists.text.len();
-        lay_run(pool, &mut lists.segments, &lists.staged, run, end);
+        let parts = &mut *lists;
+        let end = parts.text.len();
+        lay_run(pool, &mut parts.segments, &parts.staged, run, end);
         let credits = u64::from(need.descriptors) + 2 - u64::from(paid);
         pack(pool, seat, stage, own, credits, lists, call)
     }

@@ -49,7 +49,7 @@ pub struct Stage<N: PoolName> {
     // In descending order, so that the last one has the least address.
     pub(crate) free: Vec<Hold<N>>,
     // Lists that came back.
-    pub(crate) spare: Vec<Lists<N>>,
+    pub(crate) spare: Vec<Box<Lists<N>>>,
     pub(crate) alloc: Global,
 }
 
@@ -113,20 +113,21 @@ impl<N: PoolName> Stage<N> {
     }
 
     /// Lends lists with room for a reply, and the holds of its staging buffers: the first ones.
-    pub(crate) fn lend(&mut self, need: Need) -> Result<Lists<N>, Memory>
+    pub(crate) fn lend(&mut self, need: Need) -> Result<Box<Lists<N>>, Memory>
         requires { need.stage ≤ length self.old }
         ensures rest { OnOk result (self.new ≡ drop need.stage self.old) }
-        ensures staged { IfOk result (λ l. l.staged.items ≡ keys_for (take need.stage self.old)) }
-        ensures staging { IfOk result (λ l. Each (IsStaging N.sizes) l.staged.items) }
-        ensures empty { IfOk result (λ l. (l.text.items ≡ []) × (l.segments.items ≡ []) × (l.pins.items ≡ [])) }
-        ensures text { IfOk result (λ l. 512 * need.stage ≤ vec_capacity l.text) }
+        ensures staged { IfOk result (λ l. l.value.staged.items ≡ keys_for (take need.stage self.old)) }
+        ensures staging { IfOk result (λ l. Each (IsStaging N.sizes) l.value.staged.items) }
+        ensures empty { IfOk result (λ l.
+            (l.value.text.items ≡ []) × (l.value.segments.items ≡ []) × (l.value.pins.items ≡ [])) }
+        ensures text { IfOk result (λ l. 512 * need.stage ≤ vec_capacity l.value.text) }
         ensures room { IfOk result (λ l.
-            (need.descriptors ≤ vec_capacity l.segments) × (need.descriptors ≤ vec_capacity l.pins)) }
+            (need.descriptors ≤ vec_capacity l.value.segments) × (need.descriptors ≤ vec_capacity l.value.pins)) }
         ensures memory { OnErr result (self.new ≡ self.old) }
     {
         let mut lists = match self.spare.pop() {
             Some(lists) => lists,
-            None => Lists::new(self.alloc),
+            None => Box::new(self.alloc, Lists::new(self.alloc))?,
         };
         lists.clear();
         lists.reserve(need)?;
@@ -176,10 +177,10 @@ impl<N: PoolName> Stage<N> {
     }
 
     /// Takes lists back, with the staging buffers in them.
-    pub(crate) fn restore(&mut self, lists: Lists<N>)
-        requires staging { Each (IsStaging N.sizes) lists.staged.items }
-        requires room { length self.old + length lists.staged.items ≤ stage_size }
-        ensures { self.new ≡ merged (buffers_of lists.staged.items) self.old }
+    pub(crate) fn restore(&mut self, lists: Box<Lists<N>>)
+        requires staging { Each (IsStaging N.sizes) lists.value.staged.items }
+        requires room { length self.old + length lists.value.staged.items ≤ stage_size }
+        ensures { self.new ≡ merged (buffers_of lists.value.staged.items) self.old }
     {
         let mut lists = lists;
         self.put_all(&mut lists.staged);

@@ -123,8 +123,9 @@ impl<'a, N: PoolName> Plan<'a, N> {
         let hold = pool.pin(owner, &mut self.seat, &frag.hold);
         self.seat.is_seat();
         self.paid += 1;
-        let text = self.lists.text.len();
-        lay(pool, &mut self.lists, self.run, hold, from, len);
+        let lists = &mut *self.lists;
+        let text = lists.text.len();
+        lay(pool, lists, self.run, hold, from, len);
         self.run = text;
         self.history.add(step);
     }
@@ -172,8 +173,9 @@ impl<'a, N: PoolName> Plan<'a, N> {
         owner.is_seat();
         pool.fetch(owner, &mut self.seat, &hold);
         self.seat.is_seat();
-        let text = self.lists.text.len();
-        lay(pool, &mut self.lists, self.run, hold, 0, len);
+        let lists = &mut *self.lists;
+        let text = lists.text.len();
+        lay(pool, lists, self.run, hold, 0, len);
         self.run = text;
         self.history.add(step);
     }

@@ -7,21 +7,25 @@ use Rattle.reply_planner.specs.Owned.{buffers_of}
 use Rattle.reply_planner.specs.Told.{Told, told}
 use Rattle.reply_planner.proofs.Moved.{after_copy, copy-left, copy-slots, copy-room}
 use Rattle.reply_planner.specs.declared.terms.Terms.{Terms}
+use Rattle.reply_planner.proofs.Unboxed.{view_with, kept_with, seen_with}
 use Rattle.reply_planner.proofs.plan.Plan.copy.Given as given
 use Rattle.reply_planner.proofs.plan.Plan.copy.Goals as goal
 
 module _ (g : given.Over) (c : goal.After-add g) where
+  seen : view_with c.self.inside.need.descriptors c.self.inside.threshold (told g.N.PoolName.sizes c.self.inside.history) c.deref_mut-lists.result.now ≡ c.args.self.now
+  seen = seen_with c.self.inside.need.descriptors c.self.inside.threshold (told g.N.PoolName.sizes c.self.inside.history) c.deref_mut-lists.result.now c.self.inside.lists.value _ c.deref_mut-lists.ensures.value c.self.view_is
+
   abbrev base : Terms
-  base = terms c.self.inside.need.descriptors (buffers_of c.self.inside.lists.staged.items) c.self.inside.threshold
+  base = terms c.self.inside.need.descriptors (buffers_of c.deref_mut-lists.result.now.staged.items) c.self.inside.threshold
 
   abbrev old : Told
   old = told g.N.PoolName.sizes c.self.inside.history
 
   none : old.begun ≡ None
-  none = ap (λ (p : Planned). p.begun) c.self.view_is ∙ c.requires.none
+  none = ap (λ (p : Planned). p.begun) seen ∙ c.requires.none
 
   was : planned base old.taken None ≡ c.args.self.now
-  was = ap (λ o. planned base old.taken o) (sym none) ∙ c.self.view_is
+  was = ap (λ o. planned base old.taken o) (sym none) ∙ seen
 
   fits : length c.args.bytes.now ≤ left_of (planned base old.taken None)
   fits = subst (λ (p : Planned). length c.args.bytes.now ≤ left_of p) (sym was) c.requires.fits
@@ -29,7 +33,7 @@ module _ (g : given.Over) (c : goal.After-add g) where
   bytes_are : drop c.len-place.result c.of-text.result.value.items ≡ c.args.bytes.now
   bytes_are =
       ap (λ v. drop c.len-place.result v.items) c.of-text.ensures ∙ ap (drop c.len-place.result) c.append.ensures.items
-      ∙ drop_at c.self.inside.lists.text.items c.args.bytes.now c.len-place.result (omega (arith, c.len-place.ensures))
+      ∙ drop_at c.deref_mut-lists.result.now.text.items c.args.bytes.now c.len-place.result (omega (arith, c.len-place.ensures))
 
   new : told g.N.PoolName.sizes c.add.new.self ≡ record { taken = old.taken ++ copied c.args.bytes.now ∷ []; begun = None }
   new = c.add.ensures ∙ (λ i. record { taken = old.taken ++ copied (bytes_are i) ∷ []; begun = none i })
@@ -41,13 +45,15 @@ pub invariant_of-self : goal.invariant_of-self
 invariant_of-self g c =
     let inside = c.self.inside in
     let z = g.N.PoolName.sizes in
-    let before = subst (λ o. IsPlan z (planned (base g c) (old g c).taken o) inside.lists.text.items inside.lists.segments.items inside.lists.pins.items inside.lists.staged.items inside.run inside.paid inside.seat) (none g c) c.self.invariant.0 in (
-      subst (λ p. IsPlan z p c.append.new.text.items inside.lists.segments.items inside.lists.pins.items inside.lists.staged.items inside.run inside.paid inside.seat) (sym (is g c))
-          (after_copy z (base g c) (old g c).taken inside.lists.text.items inside.lists.segments.items inside.lists.pins.items inside.lists.staged.items inside.run inside.paid inside.seat c.args.bytes.now c.append.new.text.items before c.append.ensures.items (fits g c)),
+    let lists = c.deref_mut-lists.result.now in
+    let kept = kept_with inside.need.descriptors inside.threshold (told z inside.history) z inside.run inside.paid inside.seat lists inside.lists.value c.deref_mut-lists.ensures.value c.self.invariant in
+    let before = subst (λ o. IsPlan z (planned (base g c) (old g c).taken o) lists.text.items lists.segments.items lists.pins.items lists.staged.items inside.run inside.paid inside.seat) (none g c) kept.0 in (
+      subst (λ p. IsPlan z p c.append.new.text.items lists.segments.items lists.pins.items lists.staged.items inside.run inside.paid inside.seat) (sym (is g c))
+          (after_copy z (base g c) (old g c).taken lists.text.items lists.segments.items lists.pins.items lists.staged.items inside.run inside.paid inside.seat c.args.bytes.now c.append.new.text.items before c.append.ensures.items (fits g c)),
       record {
-        text = omega (arith, c.self.invariant.1.text, c.append.ensures.capacity);
-        segments = c.self.invariant.1.segments;
-        pins = c.self.invariant.1.pins;
+        text = omega (arith, kept.1.text, c.append.ensures.capacity);
+        segments = kept.1.segments;
+        pins = kept.1.pins;
       },
     )
 

@@ -17,6 +17,7 @@ use Rattle.reply_planner.specs.declared.terms.Terms.{Terms}
 use Rattle.reply_planner.proofs.KeptAt.{length-run, last_short, last_at, came_over}
 use Rattle.reply_planner.proofs.Moved.{begun_is}
 use Rattle.reply_planner.proofs.Runs.{after_long, fits_long}
+use Rattle.reply_planner.proofs.Unboxed.{kept_with, seen_with}
 use Rattle.reply_planner.proofs.plan.Plan.move_over.Goals as goal
 
 pub fetch-requires-clause-credits : goal.fetch-requires-clause-credits
@@ -24,26 +25,29 @@ fetch-requires-clause-credits g c =
     let inside = c.self.inside in
     let z = g.N.PoolName.sizes in
     let old = told z inside.history in
-    let base : Terms = terms inside.need.descriptors (buffers_of inside.lists.staged.items) inside.threshold in
+    let base : Terms = terms inside.need.descriptors (buffers_of inside.lists.value.staged.items) inside.threshold in
     let begun = begun_is old.begun (λ b. IsNext 0 c.args.frag.len b) (subst (λ (p : Planned). MatchOption p.begun ⊥ (λ b. IsNext 0 c.args.frag.len b)) (sym c.self.view_is) c.requires.next) in
     let next = subst (λ o. MatchOption o ⊥ (λ b. IsNext 0 c.args.frag.len b)) (ap (λ (p : Planned). p.begun) (sym c.self.view_is) ∙ begun.1) c.requires.next in
-    let was = subst (λ o. IsPlan z (planned base old.taken o) inside.lists.text.items inside.lists.segments.items inside.lists.pins.items inside.lists.staged.items inside.run inside.paid inside.seat) begun.1 c.self.invariant.0 in
+    let was = subst (λ o. IsPlan z (planned base old.taken o) inside.lists.value.text.items inside.lists.value.segments.items inside.lists.value.pins.items inside.lists.value.staged.items inside.run inside.paid inside.seat) begun.1 c.self.invariant.0 in
     let test : c.self.inside.threshold ≤ c.args.frag.len = subst (λ (p : Planned). p.base.threshold ≤ c.args.frag.len) (sym c.self.view_is) c.requires.long in
-    let fits = fits_long z base old.taken inside.lists.text.items inside.lists.segments.items inside.lists.pins.items inside.lists.staged.items inside.run inside.paid inside.seat begun.0 0 c.args.frag.len was next c.requires.filled.0 in
+    let fits = fits_long z base old.taken inside.lists.value.text.items inside.lists.value.segments.items inside.lists.value.pins.items inside.lists.value.staged.items inside.run inside.paid inside.seat begun.0 0 c.args.frag.len was next c.requires.filled.0 in
     omega (arith, fits.credits)
 
 pub lay-requires-clause-room : goal.lay-requires-clause-room
 lay-requires-clause-room g c =
     let inside = c.self.inside in
     let z = g.N.PoolName.sizes in
+    let lists = c.deref_mut-lists.result.now in
+    let kept = kept_with inside.need.descriptors inside.threshold (told z inside.history) z inside.run inside.paid inside.seat lists inside.lists.value c.deref_mut-lists.ensures.value c.self.invariant in
+    let seen = seen_with inside.need.descriptors inside.threshold (told z inside.history) lists inside.lists.value _ c.deref_mut-lists.ensures.value c.self.view_is in
     let old = told z inside.history in
-    let base : Terms = terms inside.need.descriptors (buffers_of inside.lists.staged.items) inside.threshold in
-    let begun = begun_is old.begun (λ b. IsNext 0 c.args.frag.len b) (subst (λ (p : Planned). MatchOption p.begun ⊥ (λ b. IsNext 0 c.args.frag.len b)) (sym c.self.view_is) c.requires.next) in
-    let next = subst (λ o. MatchOption o ⊥ (λ b. IsNext 0 c.args.frag.len b)) (ap (λ (p : Planned). p.begun) (sym c.self.view_is) ∙ begun.1) c.requires.next in
-    let was = subst (λ o. IsPlan z (planned base old.taken o) inside.lists.text.items inside.lists.segments.items inside.lists.pins.items inside.lists.staged.items inside.run inside.paid inside.seat) begun.1 c.self.invariant.0 in
-    let test : c.self.inside.threshold ≤ c.args.frag.len = subst (λ (p : Planned). p.base.threshold ≤ c.args.frag.len) (sym c.self.view_is) c.requires.long in
-    let fits = fits_long z base old.taken inside.lists.text.items inside.lists.segments.items inside.lists.pins.items inside.lists.staged.items inside.run inside.paid inside.seat begun.0 0 c.args.frag.len was next c.requires.filled.0 in
-    omega (arith, fits.segments, c.self.invariant.1.segments)
+    let base : Terms = terms inside.need.descriptors (buffers_of lists.staged.items) inside.threshold in
+    let begun = begun_is old.begun (λ b. IsNext 0 c.args.frag.len b) (subst (λ (p : Planned). MatchOption p.begun ⊥ (λ b. IsNext 0 c.args.frag.len b)) (sym seen) c.requires.next) in
+    let next = subst (λ o. MatchOption o ⊥ (λ b. IsNext 0 c.args.frag.len b)) (ap (λ (p : Planned). p.begun) (sym seen) ∙ begun.1) c.requires.next in
+    let was = subst (λ o. IsPlan z (planned base old.taken o) lists.text.items lists.segments.items lists.pins.items lists.staged.items inside.run inside.paid inside.seat) begun.1 kept.0 in
+    let test : c.self.inside.threshold ≤ c.args.frag.len = subst (λ (p : Planned). p.base.threshold ≤ c.args.frag.len) (sym seen) c.requires.long in
+    let fits = fits_long z base old.taken lists.text.items lists.segments.items lists.pins.items lists.staged.items inside.run inside.paid inside.seat begun.0 0 c.args.frag.len was next c.requires.filled.0 in
+    omega (arith, fits.segments, kept.1.segments)
 
 pub lay-requires-clause-offset : goal.lay-requires-clause-offset
 lay-requires-clause-offset g c =
@@ -56,13 +60,16 @@ pub invariant_of-self : goal.invariant_of-self
 invariant_of-self g c =
     let inside = c.self.inside in
     let z = g.N.PoolName.sizes in
+    let lists = c.deref_mut-lists.result.now in
+    let kept = kept_with inside.need.descriptors inside.threshold (told z inside.history) z inside.run inside.paid inside.seat lists inside.lists.value c.deref_mut-lists.ensures.value c.self.invariant in
+    let seen = seen_with inside.need.descriptors inside.threshold (told z inside.history) lists inside.lists.value _ c.deref_mut-lists.ensures.value c.self.view_is in
     let old = told z inside.history in
-    let base : Terms = terms inside.need.descriptors (buffers_of inside.lists.staged.items) inside.threshold in
-    let begun = begun_is old.begun (λ b. IsNext 0 c.args.frag.len b) (subst (λ (p : Planned). MatchOption p.begun ⊥ (λ b. IsNext 0 c.args.frag.len b)) (sym c.self.view_is) c.requires.next) in
-    let next = subst (λ o. MatchOption o ⊥ (λ b. IsNext 0 c.args.frag.len b)) (ap (λ (p : Planned). p.begun) (sym c.self.view_is) ∙ begun.1) c.requires.next in
-    let was = subst (λ o. IsPlan z (planned base old.taken o) inside.lists.text.items inside.lists.segments.items inside.lists.pins.items inside.lists.staged.items inside.run inside.paid inside.seat) begun.1 c.self.invariant.0 in
-    let test : c.self.inside.threshold ≤ c.args.frag.len = subst (λ (p : Planned). p.base.threshold ≤ c.args.frag.len) (sym c.self.view_is) c.requires.long in
-    let fits = fits_long z base old.taken inside.lists.text.items inside.lists.segments.items inside.lists.pins.items inside.lists.staged.items inside.run inside.paid inside.seat begun.0 0 c.args.frag.len was next c.requires.filled.0 in
+    let base : Terms = terms inside.need.descriptors (buffers_of lists.staged.items) inside.threshold in
+    let begun = begun_is old.begun (λ b. IsNext 0 c.args.frag.len b) (subst (λ (p : Planned). MatchOption p.begun ⊥ (λ b. IsNext 0 c.args.frag.len b)) (sym seen) c.requires.next) in
+    let next = subst (λ o. MatchOption o ⊥ (λ b. IsNext 0 c.args.frag.len b)) (ap (λ (p : Planned). p.begun) (sym seen) ∙ begun.1) c.requires.next in
+    let was = subst (λ o. IsPlan z (planned base old.taken o) lists.text.items lists.segments.items lists.pins.items lists.staged.items inside.run inside.paid inside.seat) begun.1 kept.0 in
+    let test : c.self.inside.threshold ≤ c.args.frag.len = subst (λ (p : Planned). p.base.threshold ≤ c.args.frag.len) (sym seen) c.requires.long in
+    let fits = fits_long z base old.taken lists.text.items lists.segments.items lists.pins.items lists.staged.items inside.run inside.paid inside.seat begun.0 0 c.args.frag.len was next c.requires.filled.0 in
     let e = c.buffer.ensures.buffer in
     let buf = c.buffer.result in
     let b = c.args.frag.hold.buffer in
@@ -81,8 +88,8 @@ invariant_of-self g c =
     (subst (λ (k : Key). IsAt z c.fetch.new.into.holds (address_of z k.buffer + 0) (take c.args.frag.len (drop 0 (bytes_of came.hold.front)))) came.key
     (last_at z inside.seat c.fetch.new.into came.hold 0 c.args.frag.len came.holds c.is_seat-2.ensures c.requires.filled.0 filled_front))) in
     let free : pinned_keys (c.args.frag.hold ∷ []) ≡ 0 = ap (λ t. let n : ℕ = cond t 1 0 + 0 in n) c.requires.loose in
-    let now = after_long z base old.taken inside.lists.text.items inside.lists.segments.items inside.lists.pins.items inside.lists.staged.items inside.run inside.paid inside.seat begun.0 0 c.args.frag.len was next c.requires.filled.0 f long c.lay.new.lists.segments.items c.lay.new.lists.pins.items c.args.frag.hold inside.paid (came.hold ∷ []) c.fetch.new.into test
-    (c.lay.ensures.segments ∙ ap (λ x. inside.lists.segments.items ++ cut (addresses_of z base.stage) (length inside.lists.text.items - inside.run) inside.run (length inside.lists.text.items - inside.run) ++ segment (address_of z x + 0) c.args.frag.len ∷ []) (sym e))
+    let now = after_long z base old.taken lists.text.items lists.segments.items lists.pins.items lists.staged.items inside.run inside.paid inside.seat begun.0 0 c.args.frag.len was next c.requires.filled.0 f long c.lay.new.lists.segments.items c.lay.new.lists.pins.items c.args.frag.hold inside.paid (came.hold ∷ []) c.fetch.new.into test
+    (c.lay.ensures.segments ∙ ap (λ x. lists.segments.items ++ cut (addresses_of z base.stage) (length lists.text.items - inside.run) inside.run (length lists.text.items - inside.run) ++ segment (address_of z x + 0) c.args.frag.len ∷ []) (sym e))
     c.lay.ensures.count c.lay.ensures.pins came.holds (ap (λ (k : Key). k ∷ []) came.key) free
     (omega arith) (omega (arith, ap (λ (v : View). v.credits) c.fetch.ensures.into, was.has.credits))
     (record {
@@ -91,15 +98,15 @@ invariant_of-self g c =
       returns = ap (λ (v : View). v.returns) c.fetch.ensures.into ∙ was.has.idle.returns;
       lasts = ap (λ (v : View). v.lasts) c.fetch.ensures.into ∙ was.has.idle.lasts;
     }) there in
-    let text_is : c.lay.new.lists.text.items ≡ inside.lists.text.items = ap (λ v. v.items) c.lay.ensures.same.0 in
-    let run_is : length inside.lists.text.items ≡ c.len-text.result = omega (arith, c.len-text.ensures) in (
+    let text_is : c.lay.new.lists.text.items ≡ lists.text.items = ap (λ v. v.items) c.lay.ensures.same.0 in
+    let run_is : length lists.text.items ≡ c.len-text.result = omega (arith, c.len-text.ensures) in (
       subst (λ tx. IsPlan z (planned (terms inside.need.descriptors (buffers_of c.lay.new.lists.staged.items) inside.threshold) (told z c.add.new.self).taken (told z c.add.new.self).begun) tx c.lay.new.lists.segments.items c.lay.new.lists.pins.items c.lay.new.lists.staged.items c.len-text.result inside.paid c.fetch.new.into) (sym text_is)
-          (subst (λ (st : List Key). IsPlan z (planned (terms inside.need.descriptors (buffers_of st) inside.threshold) (told z c.add.new.self).taken (told z c.add.new.self).begun) inside.lists.text.items c.lay.new.lists.segments.items c.lay.new.lists.pins.items st c.len-text.result inside.paid c.fetch.new.into) (sym c.lay.ensures.same.1)
-          (subst (λ m. IsPlan z (planned base (told z c.add.new.self).taken (told z c.add.new.self).begun) inside.lists.text.items c.lay.new.lists.segments.items c.lay.new.lists.pins.items inside.lists.staged.items m inside.paid c.fetch.new.into) run_is
-          (subst (λ (t : Told). IsPlan z (planned base t.taken t.begun) inside.lists.text.items c.lay.new.lists.segments.items c.lay.new.lists.pins.items inside.lists.staged.items (length inside.lists.text.items) inside.paid c.fetch.new.into) (sym new) now))),
+          (subst (λ (st : List Key). IsPlan z (planned (terms inside.need.descriptors (buffers_of st) inside.threshold) (told z c.add.new.self).taken (told z c.add.new.self).begun) lists.text.items c.lay.new.lists.segments.items c.lay.new.lists.pins.items st c.len-text.result inside.paid c.fetch.new.into) (sym c.lay.ensures.same.1)
+          (subst (λ m. IsPlan z (planned base (told z c.add.new.self).taken (told z c.add.new.self).begun) lists.text.items c.lay.new.lists.segments.items c.lay.new.lists.pins.items lists.staged.items m inside.paid c.fetch.new.into) run_is
+          (subst (λ (t : Told). IsPlan z (planned base t.taken t.begun) lists.text.items c.lay.new.lists.segments.items c.lay.new.lists.pins.items lists.staged.items (length lists.text.items) inside.paid c.fetch.new.into) (sym new) now))),
       record {
-        text = omega (arith, c.self.invariant.1.text, ap (λ v. vec_capacity v) c.lay.ensures.same.0, ap (λ (l : List Key). length l) c.lay.ensures.same.1);
-        segments = omega (arith, c.self.invariant.1.segments, c.lay.ensures.room.0);
-        pins = omega (arith, c.self.invariant.1.pins, c.lay.ensures.room.1);
+        text = omega (arith, kept.1.text, ap (λ v. vec_capacity v) c.lay.ensures.same.0, ap (λ (l : List Key). length l) c.lay.ensures.same.1);
+        segments = omega (arith, kept.1.segments, c.lay.ensures.room.0);
+        pins = omega (arith, kept.1.pins, c.lay.ensures.room.1);
       },
     )

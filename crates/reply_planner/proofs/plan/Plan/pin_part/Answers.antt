@@ -17,6 +17,7 @@ use Rattle.reply_planner.proofs.KeptAt.{length-run, last_short, last_at}
 use Rattle.reply_planner.proofs.Counted.{is_long}
 use Rattle.reply_planner.proofs.Moved.{begun_is}
 use Rattle.reply_planner.proofs.Runs.{after_long, fits_long}
+use Rattle.reply_planner.proofs.Unboxed.{kept_with, seen_with}
 use Rattle.reply_planner.proofs.plan.Plan.pin_part.Goals as goal
 
 pub pin-hold-requires : goal.pin-hold-requires
@@ -24,12 +25,12 @@ pin-hold-requires g c =
     let inside = c.self.inside in
     let z = g.N.PoolName.sizes in
     let old = told z inside.history in
-    let base : Terms = terms inside.need.descriptors (buffers_of inside.lists.staged.items) inside.threshold in
+    let base : Terms = terms inside.need.descriptors (buffers_of inside.lists.value.staged.items) inside.threshold in
     let begun = begun_is old.begun (λ b. IsNext c.args.from c.args.len b) (subst (λ (p : Planned). MatchOption p.begun ⊥ (λ b. IsNext c.args.from c.args.len b)) (sym c.self.view_is) c.requires.next) in
     let next = subst (λ o. MatchOption o ⊥ (λ b. IsNext c.args.from c.args.len b)) (ap (λ (p : Planned). p.begun) (sym c.self.view_is) ∙ begun.1) c.requires.next in
-    let was = subst (λ o. IsPlan z (planned base old.taken o) inside.lists.text.items inside.lists.segments.items inside.lists.pins.items inside.lists.staged.items inside.run inside.paid inside.seat) begun.1 c.self.invariant.0 in
+    let was = subst (λ o. IsPlan z (planned base old.taken o) inside.lists.value.text.items inside.lists.value.segments.items inside.lists.value.pins.items inside.lists.value.staged.items inside.run inside.paid inside.seat) begun.1 c.self.invariant.0 in
     let test : c.self.inside.threshold ≤ c.args.len = subst (λ (p : Planned). p.base.threshold ≤ c.args.len) (sym c.self.view_is) c.requires.long in
-    let fits = fits_long z base old.taken inside.lists.text.items inside.lists.segments.items inside.lists.pins.items inside.lists.staged.items inside.run inside.paid inside.seat begun.0 c.args.from c.args.len was next c.requires.filled.0 in
+    let fits = fits_long z base old.taken inside.lists.value.text.items inside.lists.value.segments.items inside.lists.value.pins.items inside.lists.value.staged.items inside.run inside.paid inside.seat begun.0 c.args.from c.args.len was next c.requires.filled.0 in
     (c.requires.held, omega (arith, fits.credits))
 
 pub overflow_add-self : goal.overflow_add-self
@@ -37,26 +38,29 @@ overflow_add-self g c =
     let inside = c.self.inside in
     let z = g.N.PoolName.sizes in
     let old = told z inside.history in
-    let base : Terms = terms inside.need.descriptors (buffers_of inside.lists.staged.items) inside.threshold in
+    let base : Terms = terms inside.need.descriptors (buffers_of inside.lists.value.staged.items) inside.threshold in
     let begun = begun_is old.begun (λ b. IsNext c.args.from c.args.len b) (subst (λ (p : Planned). MatchOption p.begun ⊥ (λ b. IsNext c.args.from c.args.len b)) (sym c.self.view_is) c.requires.next) in
     let next = subst (λ o. MatchOption o ⊥ (λ b. IsNext c.args.from c.args.len b)) (ap (λ (p : Planned). p.begun) (sym c.self.view_is) ∙ begun.1) c.requires.next in
-    let was = subst (λ o. IsPlan z (planned base old.taken o) inside.lists.text.items inside.lists.segments.items inside.lists.pins.items inside.lists.staged.items inside.run inside.paid inside.seat) begun.1 c.self.invariant.0 in
+    let was = subst (λ o. IsPlan z (planned base old.taken o) inside.lists.value.text.items inside.lists.value.segments.items inside.lists.value.pins.items inside.lists.value.staged.items inside.run inside.paid inside.seat) begun.1 c.self.invariant.0 in
     let test : c.self.inside.threshold ≤ c.args.len = subst (λ (p : Planned). p.base.threshold ≤ c.args.len) (sym c.self.view_is) c.requires.long in
-    let fits = fits_long z base old.taken inside.lists.text.items inside.lists.segments.items inside.lists.pins.items inside.lists.staged.items inside.run inside.paid inside.seat begun.0 c.args.from c.args.len was next c.requires.filled.0 in
+    let fits = fits_long z base old.taken inside.lists.value.text.items inside.lists.value.segments.items inside.lists.value.pins.items inside.lists.value.staged.items inside.run inside.paid inside.seat begun.0 c.args.from c.args.len was next c.requires.filled.0 in
     omega (arith, fits.paid_fits)
 
 pub lay-requires-clause-room : goal.lay-requires-clause-room
 lay-requires-clause-room g c =
     let inside = c.self.inside in
     let z = g.N.PoolName.sizes in
+    let lists = c.deref_mut-lists.result.now in
+    let kept = kept_with inside.need.descriptors inside.threshold (told z inside.history) z inside.run inside.paid inside.seat lists inside.lists.value c.deref_mut-lists.ensures.value c.self.invariant in
+    let seen = seen_with inside.need.descriptors inside.threshold (told z inside.history) lists inside.lists.value _ c.deref_mut-lists.ensures.value c.self.view_is in
     let old = told z inside.history in
-    let base : Terms = terms inside.need.descriptors (buffers_of inside.lists.staged.items) inside.threshold in
-    let begun = begun_is old.begun (λ b. IsNext c.args.from c.args.len b) (subst (λ (p : Planned). MatchOption p.begun ⊥ (λ b. IsNext c.args.from c.args.len b)) (sym c.self.view_is) c.requires.next) in
-    let next = subst (λ o. MatchOption o ⊥ (λ b. IsNext c.args.from c.args.len b)) (ap (λ (p : Planned). p.begun) (sym c.self.view_is) ∙ begun.1) c.requires.next in
-    let was = subst (λ o. IsPlan z (planned base old.taken o) inside.lists.text.items inside.lists.segments.items inside.lists.pins.items inside.lists.staged.items inside.run inside.paid inside.seat) begun.1 c.self.invariant.0 in
-    let test : c.self.inside.threshold ≤ c.args.len = subst (λ (p : Planned). p.base.threshold ≤ c.args.len) (sym c.self.view_is) c.requires.long in
-    let fits = fits_long z base old.taken inside.lists.text.items inside.lists.segments.items inside.lists.pins.items inside.lists.staged.items inside.run inside.paid inside.seat begun.0 c.args.from c.args.len was next c.requires.filled.0 in
-    omega (arith, fits.segments, c.self.invariant.1.segments)
+    let base : Terms = terms inside.need.descriptors (buffers_of lists.staged.items) inside.threshold in
+    let begun = begun_is old.begun (λ b. IsNext c.args.from c.args.len b) (subst (λ (p : Planned). MatchOption p.begun ⊥ (λ b. IsNext c.args.from c.args.len b)) (sym seen) c.requires.next) in
+    let next = subst (λ o. MatchOption o ⊥ (λ b. IsNext c.args.from c.args.len b)) (ap (λ (p : Planned). p.begun) (sym seen) ∙ begun.1) c.requires.next in
+    let was = subst (λ o. IsPlan z (planned base old.taken o) lists.text.items lists.segments.items lists.pins.items lists.staged.items inside.run inside.paid inside.seat) begun.1 kept.0 in
+    let test : c.self.inside.threshold ≤ c.args.len = subst (λ (p : Planned). p.base.threshold ≤ c.args.len) (sym seen) c.requires.long in
+    let fits = fits_long z base old.taken lists.text.items lists.segments.items lists.pins.items lists.staged.items inside.run inside.paid inside.seat begun.0 c.args.from c.args.len was next c.requires.filled.0 in
+    omega (arith, fits.segments, kept.1.segments)
 
 pub lay-requires-clause-offset : goal.lay-requires-clause-offset
 lay-requires-clause-offset g c =
@@ -68,13 +72,16 @@ pub invariant_of-self : goal.invariant_of-self
 invariant_of-self g c =
     let inside = c.self.inside in
     let z = g.N.PoolName.sizes in
+    let lists = c.deref_mut-lists.result.now in
+    let kept = kept_with inside.need.descriptors inside.threshold (told z inside.history) z inside.run inside.paid inside.seat lists inside.lists.value c.deref_mut-lists.ensures.value c.self.invariant in
+    let seen = seen_with inside.need.descriptors inside.threshold (told z inside.history) lists inside.lists.value _ c.deref_mut-lists.ensures.value c.self.view_is in
     let old = told z inside.history in
-    let base : Terms = terms inside.need.descriptors (buffers_of inside.lists.staged.items) inside.threshold in
-    let begun = begun_is old.begun (λ b. IsNext c.args.from c.args.len b) (subst (λ (p : Planned). MatchOption p.begun ⊥ (λ b. IsNext c.args.from c.args.len b)) (sym c.self.view_is) c.requires.next) in
-    let next = subst (λ o. MatchOption o ⊥ (λ b. IsNext c.args.from c.args.len b)) (ap (λ (p : Planned). p.begun) (sym c.self.view_is) ∙ begun.1) c.requires.next in
-    let was = subst (λ o. IsPlan z (planned base old.taken o) inside.lists.text.items inside.lists.segments.items inside.lists.pins.items inside.lists.staged.items inside.run inside.paid inside.seat) begun.1 c.self.invariant.0 in
-    let test : c.self.inside.threshold ≤ c.args.len = subst (λ (p : Planned). p.base.threshold ≤ c.args.len) (sym c.self.view_is) c.requires.long in
-    let fits = fits_long z base old.taken inside.lists.text.items inside.lists.segments.items inside.lists.pins.items inside.lists.staged.items inside.run inside.paid inside.seat begun.0 c.args.from c.args.len was next c.requires.filled.0 in
+    let base : Terms = terms inside.need.descriptors (buffers_of lists.staged.items) inside.threshold in
+    let begun = begun_is old.begun (λ b. IsNext c.args.from c.args.len b) (subst (λ (p : Planned). MatchOption p.begun ⊥ (λ b. IsNext c.args.from c.args.len b)) (sym seen) c.requires.next) in
+    let next = subst (λ o. MatchOption o ⊥ (λ b. IsNext c.args.from c.args.len b)) (ap (λ (p : Planned). p.begun) (sym seen) ∙ begun.1) c.requires.next in
+    let was = subst (λ o. IsPlan z (planned base old.taken o) lists.text.items lists.segments.items lists.pins.items lists.staged.items inside.run inside.paid inside.seat) begun.1 kept.0 in
+    let test : c.self.inside.threshold ≤ c.args.len = subst (λ (p : Planned). p.base.threshold ≤ c.args.len) (sym seen) c.requires.long in
+    let fits = fits_long z base old.taken lists.text.items lists.segments.items lists.pins.items lists.staged.items inside.run inside.paid inside.seat begun.0 c.args.from c.args.len was next c.requires.filled.0 in
     let e = c.buffer-buffer.ensures.buffer in
     let buf = c.buffer-buffer.result in
     let b = c.args.frag.now.hold.buffer in
@@ -90,8 +97,8 @@ invariant_of-self g c =
     let there : IsAt z c.pin-hold.new.taker.holds (address_of z buf + c.args.from) (bytes_in c.args.owner.now.holds buf c.args.from c.args.len) =
     subst (λ x. IsAt z c.pin-hold.new.taker.holds (address_of z x + c.args.from) (bytes_in c.args.owner.now.holds x c.args.from c.args.len)) (sym e)
     (last_at z inside.seat c.pin-hold.new.taker (pinned_hold b front) c.args.from c.args.len holds c.is_seat.ensures c.requires.filled.0 c.requires.filled.1) in
-    let now = after_long z base old.taken inside.lists.text.items inside.lists.segments.items inside.lists.pins.items inside.lists.staged.items inside.run inside.paid inside.seat begun.0 c.args.from c.args.len was next c.requires.filled.0 f long c.lay.new.lists.segments.items c.lay.new.lists.pins.items c.pin-hold.result (inside.paid + 1) (pinned_hold b front ∷ []) c.pin-hold.new.taker test
-    (c.lay.ensures.segments ∙ ap (λ x. inside.lists.segments.items ++ cut (addresses_of z base.stage) (length inside.lists.text.items - inside.run) inside.run (length inside.lists.text.items - inside.run) ++ segment (address_of z x + c.args.from) c.args.len ∷ []) (ap (λ (k : Key). k.buffer) named ∙ sym e))
+    let now = after_long z base old.taken lists.text.items lists.segments.items lists.pins.items lists.staged.items inside.run inside.paid inside.seat begun.0 c.args.from c.args.len was next c.requires.filled.0 f long c.lay.new.lists.segments.items c.lay.new.lists.pins.items c.pin-hold.result (inside.paid + 1) (pinned_hold b front ∷ []) c.pin-hold.new.taker test
+    (c.lay.ensures.segments ∙ ap (λ x. lists.segments.items ++ cut (addresses_of z base.stage) (length lists.text.items - inside.run) inside.run (length lists.text.items - inside.run) ++ segment (address_of z x + c.args.from) c.args.len ∷ []) (ap (λ (k : Key). k.buffer) named ∙ sym e))
     c.lay.ensures.count c.lay.ensures.pins holds (ap (λ (k : Key). k ∷ []) (sym named)) (ap (λ (k : Key). pinned_keys (k ∷ [])) named ∙ sym stays.paid)
     (ap (λ n. inside.paid + n) (sym stays.paid)) (omega (arith, ap (λ (v : View). v.credits) c.pin-hold.ensures.taker, was.has.credits, fits.credits))
     (record {
@@ -100,15 +107,15 @@ invariant_of-self g c =
       returns = ap (λ (v : View). v.returns) c.pin-hold.ensures.taker ∙ was.has.idle.returns;
       lasts = ap (λ (v : View). v.lasts) c.pin-hold.ensures.taker ∙ was.has.idle.lasts;
     }) there in
-    let text_is : c.lay.new.lists.text.items ≡ inside.lists.text.items = ap (λ v. v.items) c.lay.ensures.same.0 in
-    let run_is : length inside.lists.text.items ≡ c.len-text.result = omega (arith, c.len-text.ensures) in (
+    let text_is : c.lay.new.lists.text.items ≡ lists.text.items = ap (λ v. v.items) c.lay.ensures.same.0 in
+    let run_is : length lists.text.items ≡ c.len-text.result = omega (arith, c.len-text.ensures) in (
       subst (λ tx. IsPlan z (planned (terms inside.need.descriptors (buffers_of c.lay.new.lists.staged.items) inside.threshold) (told z c.add.new.self).taken (told z c.add.new.self).begun) tx c.lay.new.lists.segments.items c.lay.new.lists.pins.items c.lay.new.lists.staged.items c.len-text.result (inside.paid + 1) c.pin-hold.new.taker) (sym text_is)
-          (subst (λ (st : List Key). IsPlan z (planned (terms inside.need.descriptors (buffers_of st) inside.threshold) (told z c.add.new.self).taken (told z c.add.new.self).begun) inside.lists.text.items c.lay.new.lists.segments.items c.lay.new.lists.pins.items st c.len-text.result (inside.paid + 1) c.pin-hold.new.taker) (sym c.lay.ensures.same.1)
-          (subst (λ m. IsPlan z (planned base (told z c.add.new.self).taken (told z c.add.new.self).begun) inside.lists.text.items c.lay.new.lists.segments.items c.lay.new.lists.pins.items inside.lists.staged.items m (inside.paid + 1) c.pin-hold.new.taker) run_is
-          (subst (λ (t : Told). IsPlan z (planned base t.taken t.begun) inside.lists.text.items c.lay.new.lists.segments.items c.lay.new.lists.pins.items inside.lists.staged.items (length inside.lists.text.items) (inside.paid + 1) c.pin-hold.new.taker) (sym new) now))),
+          (subst (λ (st : List Key). IsPlan z (planned (terms inside.need.descriptors (buffers_of st) inside.threshold) (told z c.add.new.self).taken (told z c.add.new.self).begun) lists.text.items c.lay.new.lists.segments.items c.lay.new.lists.pins.items st c.len-text.result (inside.paid + 1) c.pin-hold.new.taker) (sym c.lay.ensures.same.1)
+          (subst (λ m. IsPlan z (planned base (told z c.add.new.self).taken (told z c.add.new.self).begun) lists.text.items c.lay.new.lists.segments.items c.lay.new.lists.pins.items lists.staged.items m (inside.paid + 1) c.pin-hold.new.taker) run_is
+          (subst (λ (t : Told). IsPlan z (planned base t.taken t.begun) lists.text.items c.lay.new.lists.segments.items c.lay.new.lists.pins.items lists.staged.items (length lists.text.items) (inside.paid + 1) c.pin-hold.new.taker) (sym new) now))),
       record {
-        text = omega (arith, c.self.invariant.1.text, ap (λ v. vec_capacity v) c.lay.ensures.same.0, ap (λ (l : List Key). length l) c.lay.ensures.same.1);
-        segments = omega (arith, c.self.invariant.1.segments, c.lay.ensures.room.0);
-        pins = omega (arith, c.self.invariant.1.pins, c.lay.ensures.room.1);
+        text = omega (arith, kept.1.text, ap (λ v. vec_capacity v) c.lay.ensures.same.0, ap (λ (l : List Key). length l) c.lay.ensures.same.1);
+        segments = omega (arith, kept.1.segments, c.lay.ensures.room.0);
+        pins = omega (arith, kept.1.pins, c.lay.ensures.room.1);
       },
     )
