@@ -16,10 +16,10 @@ use Rattle.pinned_pool.proofs.WordRuns.{length-bytes, room-most}
 use Rattle.pinned_pool.specs.Addresses.{Covers}
 use Rattle.reply_planner.proofs.Placed.{place-covered}
 use Rattle.reply_planner.specs.Parcels.{Sent, IsSent, HasBytes}
-use Rattle.reply_planner.proofs.Parts.{each-at}
+use Rattle.reply_planner.proofs.Parts.{each-at, length-more}
 use Rattle.pinned_pool.specs.Bytes.{bytes_of}
 use Rattle.pinned_pool.specs.Moves.{front_of}
-use Rattle.reply_planner.specs.Places.{bytes_in, IsReadable}
+use Rattle.reply_planner.specs.Places.{bytes_in, reading, IsReadable}
 
 -- a run and the run behind it
 pub bytes-more : (hs : List Holding) (b from n m : ℕ) → bytes_in hs b from n ++ bytes_in hs b (from + n) m ≡ bytes_in hs b from (n + m)
@@ -71,6 +71,13 @@ reads-more read segs i seg found =
     let more : take (i + 1) segs ≡ front ++ seg ∷ [] = take_more segs i seg (slice_get_within segs i seg found)
     ∙ ap (λ s. front ++ s ∷ []) (get_or_from_slice_get segs i seg seg found) in
     sym (ap (read_all read) more ∙ flat_map-append each front (seg ∷ []) ∙ ap (λ t. read_all read front ++ t) (append-nil (each seg)))
+
+-- and its length
+pub length-next : (z : Sizes) (p : Sent) (i : ℕ) (seg : Seg) → IsSent z p → slice_get p.segments i ≡ Some seg
+    → length (read_all (reading z p.holds) (take (i + 1) p.segments)) ≡ length (read_all (reading z p.holds) (take i p.segments)) + seg.len
+length-next z p i seg is found =
+    length-more z p i seg is (slice_get_within p.segments i seg found)
+    ∙ ap (λ (s : Seg). length (read_all (reading z p.holds) (take i p.segments)) + s.len) (get_or_from_slice_get p.segments i seg seg found)
 
 -- all of them
 pub reads-all : (read : Reading) (segs : List Seg) (i : ℕ) → length segs ≤ i → read_all read (take i segs) ≡ read_all read segs

@@ -7,7 +7,7 @@ ghost use Rattle.device_model.specs.Pieces.{PutsPieces};
 
 use crate::gathered::Gathered;
 use crate::sending::send_frame;
-use any_wire::flush_unless_failed;
+use any_wire::{MOST_PUT, flush_unless_failed};
 use pinned_pool::{Pool, PoolName};
 use reply_planner::Parcel;
 use tx_descriptor::Framed;
@@ -21,6 +21,8 @@ where
 {
     pub(crate) end: DeviceEnd<Parcel<N>>,
     pub(crate) failed: bool,
+    // Where a piece is read to before it is put. What it has between two pieces is of no meaning.
+    room: [u8; MOST_PUT],
     ghost rest: { IsResting end },
 }
 
@@ -29,7 +31,11 @@ impl<N: PoolName + Send> Device<N> {
         requires { IsResting end }
         ensures { (result.end ≡ end) × (result.failed ≡ false) }
     {
-        Device { end, failed: false }
+        Device {
+            end,
+            failed: false,
+            room: [0; MOST_PUT],
+        }
     }
 
     /// Whether a put or a flush has failed.
@@ -80,8 +86,15 @@ impl<N: PoolName + Send> Device<N> {
         match self.end.next() {
             Next::Frame(job) => {
                 let mut job = job;
-                let (call, bytes) = (job.frame().call(), job.frame().len());
-                let (wire, failed) = send_frame(pool, &mut job, wire, self.failed, put);
+                let call = job.frame().call();
+                let (wire, failed, bytes) = send_frame(
+                    pool,
+                    &mut job,
+                    &mut self.room,
+                    wire,
+                    self.failed,
+                    put,
+                );
                 self.failed = failed;
                 self.end.complete(job);
                 if failed {

@@ -1,5 +1,5 @@
 // A reply's bytes, from the buffers to the wire.
-ghost use Rattle.std.specs.Prelude.{◌≡◌, ◌+◌, ◌<◌, ◌≤◌, List, [], ◌∷◌};
+ghost use Rattle.std.specs.Prelude.{◌≡◌, ◌+◌, ◌<◌, ◌≤◌, List, [], ◌∷◌, length};
 ghost use Rattle.tx_ring.specs.Jobs.{frame_of, segments};
 ghost use Rattle.reply_planner.specs.Parcels.{HasBytes};
 ghost use Rattle.reply_planner.specs.Places.{bytes_in, reading};
@@ -13,18 +13,21 @@ use pinned_pool::{Pool, PoolName};
 use reply_planner::Parcel;
 use tx_ring::Job;
 
-/// Puts the bytes of all descriptors, one after another.
+/// Puts the bytes of all descriptors, one after another. Answers whether something has failed now, and how many bytes
+/// the descriptors have.
 pub(crate) fn send_frame<N: PoolName + Send, W: Drop, P: Fn(W, &[u8]) -> (W, bool)>(
     pool: &Pool<N>,
     job: &mut Job<Parcel<N>>,
+    room: &mut [u8; MOST_PUT],
     wire: W,
     failed: bool,
     put: &P,
-) -> (W, bool)
+) -> (W, bool, u64)
     requires calls { P.IsAlwaysCallable put.now }
     requires job { segments job.old ≡ (frame_of job.old).segments }
     ensures job { job.new ≡ job.old }
     ensures sends { PutsText (λ w p r. P.post put.now w p r) failed result.1 (frame_of job.old).text wire result.0 }
+    ensures bytes { result.2 ≡ length (frame_of job.old).text }
     ensures pieces { (steps : List Step)
         × AreCutsAt (reading N.sizes (frame_of job.old).holds) steps (frame_of job.old).segments
         × Chain (λ w p r. P.post put.now w p r) (λ w r. ⊥) steps failed result.1 wire result.0 }
@@ -33,13 +36,15 @@ pub(crate) fn send_frame<N: PoolName + Send, W: Drop, P: Fn(W, &[u8]) -> (W, boo
     whole.is_parcel();
     let mut wire = wire;
     let mut has_failed = failed;
+    let mut bytes = 0;
     for i in 0..job.count() {
         let segment = job.segment(i);
-        let (after, now) = send_segment(pool, job.frame(), segment, wire, has_failed, put);
+        let (after, now) = send_segment(pool, job.frame(), segment, room, wire, has_failed, put);
         wire = after;
         has_failed = now;
+        bytes += u64::from(segment.len);
     }
-    (wire, has_failed)
+    (wire, has_failed, bytes)
 }
 
 // Puts the bytes of one segment.
@@ -47,6 +52,7 @@ fn send_segment<N: PoolName, W: Drop, P: Fn(W, &[u8]) -> (W, bool)>(
     pool: &Pool<N>,
     parcel: &mut Parcel<N>,
     segment: Seg,
+    room: &mut [u8; MOST_PUT],
     wire: W,
     failed: bool,
     put: &P,
@@ -74,7 +80,7 @@ fn send_segment<N: PoolName, W: Drop, P: Fn(W, &[u8]) -> (W, bool)>(
             parcel,
             buffer,
             from + done,
-            count,
+            &mut room[..count as usize],
             wire,
             has_failed,
             put,
@@ -86,32 +92,30 @@ fn send_segment<N: PoolName, W: Drop, P: Fn(W, &[u8]) -> (W, bool)>(
     (wire, has_failed)
 }
 
-// Reads a piece under the reply's own holds, and puts it.
+// Reads a piece, as long as the room, under the reply's own holds, and puts it.
 fn send_piece<N: PoolName, W: Drop, P: Fn(W, &[u8]) -> (W, bool)>(
     pool: &Pool<N>,
     parcel: &mut Parcel<N>,
     buffer: u32,
     from: u32,
-    count: u32,
+    room: &mut [u8],
     wire: W,
     failed: bool,
     put: &P,
 ) -> (W, bool)
     requires calls { P.IsAlwaysCallable put.now }
-    requires count { (0 < count) × (count ≤ 512) }
-    requires bytes { HasBytes N.sizes parcel.old.segments buffer from count }
+    requires count { (0 < length room.old) × (length room.old ≤ 512) }
+    requires bytes { HasBytes N.sizes parcel.old.segments buffer from (length room.old) }
     ensures parcel { parcel.new ≡ parcel.old }
     ensures sends { PutsText (λ w p r. P.post put.now w p r) failed result.1
-        (bytes_in parcel.old.holds buffer from count) wire result.0 }
+        (bytes_in parcel.old.holds buffer from (length room.old)) wire result.0 }
     ensures piece { Chain (λ w p r. P.post put.now w p r) (λ w r. ⊥)
-        (puts (bytes_in parcel.old.holds buffer from count) ∷ []) failed result.1 wire result.0 }
+        (puts (bytes_in parcel.old.holds buffer from (length room.old)) ∷ []) failed result.1 wire result.0 }
 {
     parcel.is_parcel();
     if failed {
         return (wire, true);
     }
-    let mut room = [0; MOST_PUT];
-    let piece = &mut room[..count as usize];
-    parcel.load_bytes(pool, buffer, from, piece);
-    put_unless_failed(wire, false, put, piece)
+    parcel.load_bytes(pool, buffer, from, room);
+    put_unless_failed(wire, false, put, room)
 }

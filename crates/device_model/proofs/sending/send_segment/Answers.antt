@@ -1,4 +1,5 @@
-use Rattle.std.proofs.Common.{◌+◌, ◌∷◌, ◌++◌, [], inl, inr, ⊎_elim, sym, ap, ◌∙◌, subst, arith}
+use Rattle.std.proofs.Common.{◌≡◌, ◌+◌, ◌∷◌, ◌++◌, [], inl, inr, ⊎_elim, length, take, rules, sym, ap, ◌∙◌, subst, arith}
+use Rattle.std.proofs.lemmas.List.{length-take}
 use Rattle.std.proofs.lemmas.Bool.{cases_lt}
 use Rattle.any_wire.specs.Sends.{puts, Chain}
 use Rattle.any_wire.proofs.Sending.{sends-on, sends-same}
@@ -25,9 +26,11 @@ overflow_add-from g c =
 pub send_piece-after-requires-clause-bytes : goal.send_piece-after-requires-clause-bytes
 send_piece-after-requires-clause-bytes g c =
     let z = g.N.PoolName.sizes in
-    subst (λ (p : Sent). HasBytes z p.segments c.in-Some.buffer (c.in-Some.from + c.loop-done.done) c.min-count.result) (sym c.loop-done.invariant.parcel)
+    let size : length (take c.min-count.result c.loop-done.room) ≡ c.min-count.result = search (rules, length-take) in
+    subst (HasBytes z c.loop-done.parcel.segments c.in-Some.buffer (c.in-Some.from + c.loop-done.done)) (sym size)
+    (subst (λ (p : Sent). HasBytes z p.segments c.in-Some.buffer (c.in-Some.from + c.loop-done.done) c.min-count.result) (sym c.loop-done.invariant.parcel)
     (run-there z c.args.parcel.now c.requires.segment.0 c.args.segment c.in-Some.buffer c.in-Some.from c.loop-done.done c.min-count.result
-    c.requires.segment.1 c.in-Some.ensures.some (omega (arith, c.min-count.ensures, c.loop-done-test.true)))
+    c.requires.segment.1 c.in-Some.ensures.some (omega (arith, c.min-count.ensures, c.loop-done-test.true))))
 
 pub loop-done-preserved : goal.loop-done-preserved
 loop-done-preserved g c =
@@ -37,12 +40,15 @@ loop-done-preserved g c =
     let from = c.in-Some.from in
     let done = c.loop-done.done in
     let n = c.min-count.result in
+    let size : length (take n c.loop-done.room) ≡ n = search (rules, length-take) in
+    let bytes : bytes_in c.loop-done.parcel.holds b (from + done) (length (take n c.loop-done.room)) ≡ bytes_in hs b (from + done) n =
+    ap (λ (p : Sent). bytes_in p.holds b (from + done) (length (take n c.loop-done.room))) before.parcel ∙ ap (bytes_in hs b (from + done)) size in
     record {
       within = omega (arith, c.min-count.ensures, c.loop-done-test.true);
       parcel = c.send_piece-after.ensures.parcel ∙ before.parcel;
       sends = sends-same _ _ _ _ _ _ _ _ (bytes-more hs b from done n)
           (sends-on _ _ _ _ _ _ _ _ _ _ before.sends
-          (sends-same _ _ _ _ _ _ _ _ (ap (λ (p : Sent). bytes_in p.holds b (from + done) n) before.parcel) c.send_piece-after.ensures.sends));
+          (sends-same _ _ _ _ _ _ _ _ bytes c.send_piece-after.ensures.sends));
       pieces =
           let k = whole-times done c.args.segment.len before.whole c.loop-done-test.true in (
             before.pieces.0 ++ puts (bytes_in hs b (from + done) n) ∷ [],
@@ -53,9 +59,9 @@ loop-done-preserved g c =
             chain-more (λ w p r. goal.P-post g c.args.put.now w p r) before.pieces.0 (puts (bytes_in hs b (from + done) n) ∷ []) _ _ _ _ _ _
                 before.pieces.2
                 (subst
-                (λ (p : Sent). Chain (λ w q r. goal.P-post g c.args.put.now w q r) (λ w r. ⊥) (puts (bytes_in p.holds b (from + done) n) ∷ [])
+                (λ piece. Chain (λ w q r. goal.P-post g c.args.put.now w q r) (λ w r. ⊥) (puts piece ∷ [])
                 c.loop-done.has_failed c.send_piece-after.result.1 c.loop-done.wire c.send_piece-after.result.0)
-                before.parcel c.send_piece-after.ensures.piece),
+                bytes c.send_piece-after.ensures.piece),
           );
       whole =
           whole-more done c.args.segment.len n before.whole c.loop-done-test.true

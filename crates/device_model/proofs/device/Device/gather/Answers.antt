@@ -29,7 +29,7 @@ returns-in-Closed-clause-forwards g c =
 
 pub returns-then-failed-clause-pieces : goal.returns-then-failed-clause-pieces
 returns-then-failed-clause-pieces g c = record {
-  reply = c.frame-in-Frame.result.now;
+  reply = c.frame.result.now;
   completed_is = search rules;
   steps = c.send_frame-wire.ensures.pieces.0;
   cuts = c.send_frame-wire.ensures.pieces.1;
@@ -38,7 +38,7 @@ returns-then-failed-clause-pieces g c = record {
 
 pub returns-else-failed-clause-pieces : goal.returns-else-failed-clause-pieces
 returns-else-failed-clause-pieces g c = record {
-  reply = c.frame-in-Frame.result.now;
+  reply = c.frame.result.now;
   completed_is = search rules;
   steps = c.send_frame-wire.ensures.pieces.0;
   cuts = c.send_frame-wire.ensures.pieces.1;
