@@ -1,5 +1,5 @@
 //! Commands by how they are answered.
-ghost use Rattle.std.specs.Prelude.{◌≡◌, ◌<◌, ◌≤◌, [], None, length, IfOk, OnOk, OnErr};
+ghost use Rattle.std.specs.Prelude.{◌≡◌, ◌+◌, ◌<◌, ◌≤◌, [], None, length, IfOk, OnOk, OnErr};
 ghost use Rattle.flake_model.specs.Command.{parts};
 ghost use Rattle.frag_value.specs.Fragments.{frags_limit};
 ghost use Rattle.reply_layout.specs.Need.{need_of};
@@ -43,6 +43,8 @@ pub(crate) fn answer<R: Wait, N: BookName, P: PoolName>(
     ensures stopped { OnErr result (HasStopped P.sizes N.sizes.shards at.call command.now pass.old pass.new) }
     ensures untold { OnErr result (stored.new.items ≡ stored.old.items) }
     ensures base { plan.new.base ≡ plan.old.base }
+    ensures spare { OnOk result
+        (stored.old.spare + length stored.old.items ≤ stored.new.spare + length stored.new.items) }
 {
     match command.op() {
         Op::Ping | Op::PingWith | Op::Fault(_) => {
@@ -93,6 +95,8 @@ fn answer_one<R: Wait, N: BookName, P: PoolName>(
     ensures stopped { OnErr result (HasStopped P.sizes N.sizes.shards at.call command.now pass.old pass.new) }
     ensures untold { OnErr result (stored.new.items ≡ stored.old.items) }
     ensures base { plan.new.base ≡ plan.old.base }
+    ensures spare { OnOk result
+        (stored.old.spare + length stored.old.items ≤ stored.new.spare + length stored.new.items) }
 {
     let answer = run_part(rt, shop, pass, at, command, plan, stored)?;
     copy_answer(plan, answer);
@@ -151,6 +155,8 @@ fn answer_values<R: Wait, N: BookName, P: PoolName>(
     ensures stopped { OnErr result (HasStopped P.sizes N.sizes.shards at.call command.now pass.old pass.new) }
     ensures untold { OnErr result (stored.new.items ≡ stored.old.items) }
     ensures base { plan.new.base ≡ plan.old.base }
+    ensures spare { OnOk result
+        (stored.old.spare + length stored.old.items ≤ stored.new.spare + length stored.new.items) }
 {
     let count = command.count();
     copy_line(plan, b'*', count as u64);
@@ -222,6 +228,8 @@ fn answer_count<R: Wait, N: BookName, P: PoolName>(
     ensures stopped { OnErr result (HasStopped P.sizes N.sizes.shards at.call command.now pass.old pass.new) }
     ensures untold { OnErr result (stored.new.items ≡ stored.old.items) }
     ensures base { plan.new.base ≡ plan.old.base }
+    ensures spare { OnOk result
+        (stored.old.spare + length stored.old.items ≤ stored.new.spare + length stored.new.items) }
 {
     let mut there = 0;
     for j in 0..command.count() {

@@ -1,4 +1,4 @@
-ghost use Rattle.std.specs.Prelude.{◌≡◌, ◌+◌, ◌≤◌, length, IfOk, OnErr};
+ghost use Rattle.std.specs.Prelude.{◌≡◌, ◌+◌, ◌≤◌, length, IfOk, OnOk, OnErr};
 ghost use Rattle.frag_value.specs.Fragments.{frags_limit};
 ghost use Rattle.reply_layout.specs.Need.{need_of};
 ghost use Rattle.command_exec.specs.Executed.{Executes, FallsShort};
@@ -20,7 +20,7 @@ pub enum ExecError {
 }
 
 /// Runs the parts of a command in order, and makes one reply of what they answered. What they stored is added to
-/// `stored`, which has what it had where memory was wanting.
+/// `stored`, and takes no more of its room; where memory was wanting it has what it had.
 pub fn execute<R: Wait, N: BookName, P: PoolName>(
     rt: &R,
     shop: &Shop<'_, N, P>,
@@ -38,6 +38,8 @@ pub fn execute<R: Wait, N: BookName, P: PoolName>(
         stored.old.items stored.new.items) }
     ensures memory { OnErr result (FallsShort P.sizes N.sizes.shards command.now call pass.old pass.new) }
     ensures untold { OnErr result (stored.new.items ≡ stored.old.items) }
+    ensures spare { OnOk result
+        (stored.old.spare + length stored.old.items ≤ stored.new.spare + length stored.new.items) }
 {
     let _ = pass.stage.free();
     let Ok(mut plan) = Plan::start(

@@ -1,4 +1,4 @@
-use Rattle.std.proofs.Common.{refl, subst, ◌∙◌, arith}
+use Rattle.std.proofs.Common.{length, refl, ap, subst, ◌∙◌, arith}
 use Rattle.flake_base.specs.declared.journal.Entry.{Entry}
 use Rattle.call_model.specs.Outcomes.{entry_at}
 use Rattle.command_exec.specs.Kinds.{part_at}
@@ -13,6 +13,7 @@ loop-j-init g c = record {
   so_far = no_keys g.P.PoolName.sizes g.N.BookName.sizes.shards c.args.at.call c.args.command.now c.args.pass.now c.args.stored.now.items c.args.plan.now;
   segs = refl;
   spare = c.requires.spare;
+  kept = omega arith;
 }
 
 pub returns-in_err-there-clause-stopped : goal.returns-in_err-there-clause-stopped
@@ -42,9 +43,13 @@ loop-j-preserved g c =
           (omega (arith, c.loop-j-test.true, c.count-j-end.ensures.parts)) refl c.requires.session c.loop-j.invariant.so_far counts;
       segs = c.in_ok-there.ensures.segs ∙ c.loop-j.invariant.segs;
       spare = omega (arith, c.loop-j.invariant.spare, c.in_ok-there.ensures.spare);
+      kept = omega (arith, c.loop-j.invariant.kept, c.in_ok-there.ensures.spare);
     }
 
 pub returns-clause-reply : goal.returns-clause-reply
 returns-clause-reply g c =
     all_counted g.P.PoolName.sizes g.N.BookName.sizes.shards c.args.at.call c.args.command.now c.loop-j.j c.loop-j.there c.args.pass.now c.loop-j.pass c.args.stored.now.items c.loop-j.stored.items c.args.plan.now c.loop-j.plan c.copy_line.new.plan c.requires.kind
     (omega (arith, c.loop-j-test.false, c.loop-j.auto.j-end, c.count-j-end.ensures.parts)) c.requires.started.taken c.loop-j.invariant.so_far c.copy_line.ensures.plan
+
+pub returns-clause-spare : goal.returns-clause-spare
+returns-clause-spare g c = omega (arith, c.loop-j.invariant.kept, ap length c.loop-j.invariant.segs)

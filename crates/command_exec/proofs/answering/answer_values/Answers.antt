@@ -23,6 +23,7 @@ loop-j-init g c =
           (head_room command p q c.requires.kind c.requires.started (c.copy_line.ensures.left ∙ ap (λ m. left_of q + length (number_line 42 m)) n) c.copy_line.ensures.slots);
       segs = refl;
       spare = c.requires.spare;
+      kept = omega arith;
     }
 
 pub returns-in_err-answer_value-clause-stopped : goal.returns-in_err-answer_value-clause-stopped
@@ -51,9 +52,13 @@ loop-j-preserved g c =
           (omega (arith, c.loop-j-test.true, c.count-count.ensures.parts)) refl c.requires.session c.in_ok-answer_value.ensures.base c.loop-j.invariant.so_far adds;
       segs = c.in_ok-answer_value.ensures.segs ∙ c.loop-j.invariant.segs;
       spare = omega (arith, c.loop-j.invariant.spare, c.in_ok-answer_value.ensures.spare);
+      kept = omega (arith, c.loop-j.invariant.kept, c.in_ok-answer_value.ensures.spare);
     }
 
 pub returns-clause-reply : goal.returns-clause-reply
 returns-clause-reply g c =
     all_values g.P.PoolName.sizes g.N.BookName.sizes.shards c.args.at.call c.args.command.now c.loop-j.j c.args.pass.now c.loop-j.pass c.args.stored.now.items c.loop-j.stored.items c.args.plan.now c.loop-j.plan c.requires.kind
     (omega (arith, c.loop-j-test.false, c.loop-j.auto.j-end, c.count-count.ensures.parts)) c.loop-j.invariant.so_far
+
+pub returns-clause-spare : goal.returns-clause-spare
+returns-clause-spare g c = omega (arith, c.loop-j.invariant.kept, ap length c.loop-j.invariant.segs)
