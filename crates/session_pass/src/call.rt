@@ -71,12 +71,12 @@ impl<N: BookName, P: PoolName + Send> Session<N, P> {
         ensures refused { OnErr result (CallRefused P.sizes N.sizes.shards command.now self.old self.new) }
     {
         self.pass.is_pass();
-        let (alloc, number, call) = (self.alloc, self.number, self.calls);
+        let (number, call) = (self.number, self.calls);
         match run(
             rt,
-            alloc,
             shop,
             &mut self.pass,
+            &mut self.ready,
             number,
             call,
             command,

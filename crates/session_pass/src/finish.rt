@@ -51,11 +51,11 @@ impl<N: BookName, P: PoolName + Send> Session<N, P> {
         ensures { Finishes self result }
     {
         let Session {
-            alloc: _,
             number: _,
             pass,
             opened: _,
             driver,
+            ready: _,
             calls: _,
             stopped: _,
         } = self;

@@ -6,6 +6,7 @@ mod error;
 mod finish;
 mod gate;
 pub mod laws;
+mod ready;
 mod reap;
 mod room;
 mod run;

@@ -4,24 +4,22 @@ ghost use Rattle.reply_layout.specs.Need.{need_of};
 ghost use Rattle.command_exec.specs.Executed.{FallsShort};
 ghost use Rattle.session_pass.specs.Running.{Runs};
 
+use crate::ready::Ready;
 use command_exec::{ExecError, Pass, Shop, execute};
 use command_parts::Command;
-use flake_base::{Seg, Segs};
+use flake_base::Seg;
 use order_book::BookName;
 use pinned_pool::PoolName;
 use reply_planner::Parcel;
-use std::alloc::Global;
 use std::sync::Wait;
 
-/// The most fragments of a value.
-const MOST_FRAGS: usize = 16;
-
-/// Runs a command's parts. Memory for the reply's segments is taken only where their list has too little room.
+/// Runs a command's parts. Memory is taken only where the list of the reply's segments has too little room, or where no
+/// list is ready for what is stored.
 pub(crate) fn run<R: Wait, N: BookName, P: PoolName>(
     rt: &R,
-    alloc: Global,
     shop: &Shop<'_, N, P>,
     pass: &mut Pass<N, P>,
+    ready: &mut Ready,
     session: u16,
     call: u32,
     command: &Command,
@@ -40,11 +38,11 @@ pub(crate) fn run<R: Wait, N: BookName, P: PoolName>(
     if sent.reserve(need.descriptors as usize).is_err() {
         return Err(ExecError::Memory);
     }
-    let Ok(mut fragments) = Segs::with_room(alloc, MOST_FRAGS) else {
+    let Ok(mut fragments) = ready.take() else {
         return Err(ExecError::Memory);
     };
     let parcel = execute(rt, shop, pass, session, call, command, &mut fragments)?;
-    *stored = fragments.into_vec();
+    ready.hand_out(fragments, stored);
     tell(&parcel, sent);
     Ok(parcel)
 }

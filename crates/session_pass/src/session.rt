@@ -5,6 +5,7 @@ ghost use Rattle.tx_ring.specs.Shown.{ring_size, driver_ring, driver_view};
 ghost use Rattle.session_pass.specs.Kept.{IsSession, least_ring, greatest_ring, least_credits};
 ghost use Rattle.session_pass.specs.Views.{session_of};
 
+use crate::ready::Ready;
 use command_exec::Pass;
 use order_book::BookName;
 use pinned_pool::PoolName;
@@ -22,12 +23,12 @@ pub struct Session<N: BookName, P: PoolName + Send>
 where
     Parcel<P>: Framed,
 {
-    pub(crate) alloc: Global,
     pub(crate) number: u16,
     pub(crate) pass: Pass<N, P>,
     // The pass when the session was opened.
     pub(crate) opened: Snapshot<Pass<N, P>>,
     pub(crate) driver: Driver<Parcel<P>>,
+    pub(crate) ready: Ready,
     pub(crate) calls: u32,
     pub(crate) stopped: bool,
 }
@@ -63,11 +64,11 @@ impl<N: BookName, P: PoolName + Send> Session<N, P> {
         let _ = driver.room();
         let opened = Snapshot::of(&pass);
         Session {
-            alloc,
             number,
             pass,
             opened,
             driver,
+            ready: Ready::new(alloc),
             calls: 0,
             stopped: false,
         }
