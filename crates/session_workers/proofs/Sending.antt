@@ -11,6 +11,7 @@ use Rattle.command_exec.specs.contracts.pass.Pass as pass
 use Rattle.command_exec.specs.contracts.pass.Pass.TheInside as pass_inside
 use Rattle.session_pass.specs.contracts.session.Session as session
 use Rattle.session_pass.specs.contracts.session.Session.TheInside as session_inside
+use Rattle.session_pass.proofs.ready.Ready.TheSendSync as ready
 use Rattle.session_serve.proofs.room.Room.TheSendSync as room
 use Rattle.session_serve.specs.contracts.line.Line as line
 use Rattle.session_workers.specs.contracts.job.Waiting as waiting
@@ -46,13 +47,13 @@ module _ (N P : RattleType) (book : Book N.Denot) (pool : Pool P.Denot) (n : IsS
       (declared_send (session_inside.the_type N P (framed.ghosts P pool framed.no_dict) book pool) (
         search (sendable, crosses),
         (
-          search (sendable, crosses),
+          pass-sends,
           (
-            pass-sends,
+            search (sendable, crosses, pass-sends),
             (
-              search (sendable, crosses, pass-sends),
+              search (sendable, crosses, driver.the_send, parcel.the_send),
               (
-                search (sendable, crosses, driver.the_send, parcel.the_send),
+                search (sendable, crosses, ready.the_send),
                 (
                   search (sendable, crosses),
                   (search (sendable, crosses), tt),
