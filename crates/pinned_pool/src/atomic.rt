@@ -55,13 +55,13 @@ impl<N: PoolName> Pool<N> {
     }
 
     // A load of the count word, which costs far less than a compare-exchange.
-    pub(crate) fn seems_free(&self, seat: &mut PoolSeat<N>, buffer: u32) -> bool
+    pub(crate) fn seems_free(&self, seat: &mut PoolSeat<N>, buffer: usize) -> bool
         requires { buffer < buffers N.sizes }
         ensures { MatchBool result (seat.new ≡ seat.old)
             ((found : ℕ) × (0 < found) × (seat.new ≡ lost buffer found seat.old)) }
     {
         let at = &mut seat.seat;
-        let found = self.table.shared.load::<Look>(at, buffer as usize);
+        let found = self.table.shared.load::<Look>(at, buffer);
         found == 0
     }
 
@@ -99,7 +99,7 @@ impl<N: PoolName> Pool<N> {
         seat: &mut PoolSeat<N>,
         buffer: u32,
         first: usize,
-        index: u32,
+        index: usize,
         word: u64,
     )
         requires place { (W.buffer ≡ buffer) × (W.index ≡ index) }
@@ -109,7 +109,7 @@ impl<N: PoolName> Pool<N> {
         ensures { seat.new ≡ put buffer index word seat.old }
     {
         let _ = buffer;
-        let at = first + index as usize;
+        let at = first + index;
         self.table.shared.store::<Put<W>>(&mut seat.seat, at, word);
     }
 
@@ -119,7 +119,7 @@ impl<N: PoolName> Pool<N> {
         seat: &mut PoolSeat<N>,
         buffer: u32,
         first: usize,
-        index: u32,
+        index: usize,
     ) -> u64
         requires place { (W.buffer ≡ buffer) × (W.index ≡ index) }
         requires first { (buffer < buffers N.sizes) × (first ≡ word_at N.sizes buffer 0) }
@@ -128,7 +128,8 @@ impl<N: PoolName> Pool<N> {
         ensures { (seat.new ≡ seat.old) × (result ≡ slice_index (front_of buffer seat.old.holds) index) }
     {
         let _ = buffer;
-        let word = first + index as usize;
+        seat.is_seat();
+        let word = first + index;
         self.table.shared.load::<Load<W>>(&mut seat.seat, word)
     }
 

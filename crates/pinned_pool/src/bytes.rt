@@ -42,9 +42,10 @@ impl<N: PoolName> Pool<N> {
     {
         let buffer = hold.buffer();
         let first = self.first_word(buffer);
+        let index = index as usize;
         for k in 0..bytes.len() / 8 {
             let word = whole_word(&bytes[8 * k..8 * k + 8]);
-            self.put_at::<Brand>(seat, buffer, first, index + k as u32, word);
+            self.put_at::<Brand>(seat, buffer, first, index + k, word);
         }
     }
 
@@ -70,7 +71,7 @@ impl<N: PoolName> Pool<N> {
         seat: &mut PoolSeat<N>,
         buffer: u32,
         first: usize,
-        index: u32,
+        index: usize,
         room: &mut [u8],
     )
         requires line { length room.old ≡ 64 }
@@ -83,7 +84,7 @@ impl<N: PoolName> Pool<N> {
     {
         seat.is_seat();
         for k in 0..8 {
-            let word = self.load_from::<Brand>(seat, buffer, first, index + k as u32);
+            let word = self.load_from::<Brand>(seat, buffer, first, index + k);
             room[8 * k..8 * k + 8].copy_from_slice(&word.to_le_bytes());
         }
     }
@@ -99,9 +100,10 @@ impl<N: PoolName> Pool<N> {
     {
         seat.is_seat();
         let first = self.first_word(buffer);
+        let index = index as usize;
         for k in 0..room.len() / 64 {
             let line = &mut room[64 * k..64 * k + 64];
-            self.load_line(seat, buffer, first, index + 8 * k as u32, line);
+            self.load_line(seat, buffer, first, index + 8 * k, line);
         }
     }
 
@@ -116,8 +118,9 @@ impl<N: PoolName> Pool<N> {
     {
         seat.is_seat();
         let first = self.first_word(buffer);
+        let index = index as usize;
         for k in 0..room.len() / 8 {
-            let word = self.load_from::<Brand>(seat, buffer, first, index + k as u32);
+            let word = self.load_from::<Brand>(seat, buffer, first, index + k);
             room[8 * k..8 * k + 8].copy_from_slice(&word.to_le_bytes());
         }
     }

@@ -39,7 +39,7 @@ impl<N: PoolName> Pool<N> {
         ensures { MatchBool result ((seat.new ≡ won buffer seat.old) × (total (at buffer) seat.old.holds ≡ 0))
             ((found : ℕ) × (0 < found) × (seat.new ≡ lost buffer found seat.old)) }
     {
-        if self.seems_free(seat, buffer) {
+        if self.seems_free(seat, buffer as usize) {
             self.try_claim(seat, buffer)
         } else {
             false
@@ -59,15 +59,16 @@ impl<N: PoolName> Pool<N> {
     }
 
     // How many of eight buffers are found held in front of one that seems free. Their number is fixed, so that the
-    // compiler lays the looks out one after another.
+    // compiler lays the looks out one after another, each at a distance from the first that it knows.
     fn pass_eight(&self, seat: &mut PoolSeat<N>, first: u32) -> u32
         requires { first + 8 ≤ buffers N.sizes }
         ensures passed { Passed first result seat.old seat.new }
         ensures few { result ≤ 8 }
     {
+        let first = first as usize;
         for k in 0..8 {
             if self.seems_free(seat, first + k) {
-                return k;
+                return k as u32;
             }
         }
         8

@@ -38,7 +38,7 @@ impl<N: PoolName> Pool<N> {
     {
         let buffer = hold.buffer();
         let first = self.first_word(buffer);
-        self.put_at::<Brand>(seat, buffer, first, index, word);
+        self.put_at::<Brand>(seat, buffer, first, index as usize, word);
     }
 
     /// A word of the front of a buffer that the seat holds.
@@ -49,7 +49,7 @@ impl<N: PoolName> Pool<N> {
     {
         seat.is_seat();
         let first = self.first_word(buffer);
-        self.load_from::<Brand>(seat, buffer, first, index)
+        self.load_from::<Brand>(seat, buffer, first, index as usize)
     }
 
     /// A word of the hold's front.

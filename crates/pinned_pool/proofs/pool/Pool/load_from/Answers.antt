@@ -6,11 +6,13 @@ use Rattle.pinned_pool.specs.Moves.{front_of}
 use Rattle.pinned_pool.specs.declared.view.View.{View}
 use Rattle.pinned_pool.proofs.Names.{data_word, word-on, first-most}
 use Rattle.pinned_pool.proofs.Within.{front-short, held-near}
+use Rattle.pinned_pool.proofs.WordRuns.{room-most}
 use Rattle.pinned_pool.proofs.Steps.{loads_at}
 use Rattle.pinned_pool.proofs.pool.Pool.load_from.Goals as goal
 
 pub overflow_add-word : goal.overflow_add-word
-overflow_add-word g c = omega (arith, first-most g.N.PoolName.sizes c.args.buffer c.args.first c.requires.first.0 (omega (arith, c.args.self.now.sized)) c.requires.first.1)
+overflow_add-word g c =
+    omega (arith, front-short g.N.PoolName.sizes c.args.seat.now c.is_seat.ensures c.args.buffer c.requires.held, room-most g.N.PoolName.sizes c.args.buffer, c.requires.index, first-most g.N.PoolName.sizes c.args.buffer c.args.first c.requires.first.0 (omega (arith, c.args.self.now.sized)) c.requires.first.1)
 
 pub load-requires : goal.load-requires
 load-requires g c =

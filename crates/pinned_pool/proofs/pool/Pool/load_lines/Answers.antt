@@ -12,10 +12,6 @@ use Rattle.pinned_pool.proofs.pool.Pool.load_lines.Goals as goal
 pub first_word-first-requires : goal.first_word-first-requires
 first_word-first-requires g c = held-near g.N.PoolName.sizes c.args.seat.now c.is_seat.ensures c.args.buffer c.requires.held
 
-pub overflow_cast-k : goal.overflow_cast-k
-overflow_cast-k g c =
-    omega (arith, front-short g.N.PoolName.sizes c.args.seat.now c.is_seat.ensures c.args.buffer c.requires.held, room-most g.N.PoolName.sizes c.args.buffer, c.requires.inside, c.loop-k-test.true)
-
 pub overflow_mul-k : goal.overflow_mul-k
 overflow_mul-k g c =
     omega (arith, front-short g.N.PoolName.sizes c.args.seat.now c.is_seat.ensures c.args.buffer c.requires.held, room-most g.N.PoolName.sizes c.args.buffer, c.requires.inside, c.loop-k-test.true)

@@ -12,10 +12,6 @@ first_word-first-requires g c = held-near g.N.PoolName.sizes c.args.seat.now c.i
 pub load_from-word-requires-clause-first : goal.load_from-word-requires-clause-first
 load_from-word-requires-clause-first g c = (held-near g.N.PoolName.sizes c.args.seat.now c.is_seat.ensures c.args.buffer c.requires.held, c.first_word-first.ensures)
 
-pub overflow_cast-k : goal.overflow_cast-k
-overflow_cast-k g c =
-    omega (arith, front-short g.N.PoolName.sizes c.args.seat.now c.is_seat.ensures c.args.buffer c.requires.held, room-most g.N.PoolName.sizes c.args.buffer, c.requires.inside, c.loop-k.auto.room)
-
 pub overflow_add-index : goal.overflow_add-index
 overflow_add-index g c =
     omega (arith, front-short g.N.PoolName.sizes c.args.seat.now c.is_seat.ensures c.args.buffer c.requires.held, room-most g.N.PoolName.sizes c.args.buffer, c.requires.inside, c.loop-k.auto.room)

@@ -8,10 +8,11 @@ use Rattle.pinned_pool.specs.declared.view.View.{View}
 use Rattle.pinned_pool.proofs.Names.{data_word, word-on, first-most}
 use Rattle.pinned_pool.proofs.Within.{next_seat, seat_put}
 use Rattle.pinned_pool.proofs.Steps.{stores_at}
+use Rattle.pinned_pool.proofs.WordRuns.{room-most}
 use Rattle.pinned_pool.proofs.pool.Pool.put_at.Goals as goal
 
 pub overflow_add-at : goal.overflow_add-at
-overflow_add-at g c = omega (arith, first-most g.N.PoolName.sizes c.args.buffer c.args.first c.requires.first.0 (omega (arith, c.args.self.now.sized)) c.requires.first.1)
+overflow_add-at g c = omega (arith, room-most g.N.PoolName.sizes c.args.buffer, c.requires.index.1, first-most g.N.PoolName.sizes c.args.buffer c.args.first c.requires.first.0 (omega (arith, c.args.self.now.sized)) c.requires.first.1)
 
 pub store-requires : goal.store-requires
 store-requires g c =
