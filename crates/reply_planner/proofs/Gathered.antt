@@ -1,10 +1,10 @@
 -- A segment's bytes, where a device finds them.
-use Rattle.std.proofs.Common.{◌≡◌, ℕ, ◌+◌, ◌*◌, ◌/◌, ◌%◌, ◌<◌, ◌≤◌, List, length, map, get_or, Some, sym, ap, ◌∙◌, subst, arith}
+use Rattle.std.proofs.Common.{◌≡◌, ℕ, ◌+◌, ◌*◌, ◌/◌, ◌%◌, ◌<◌, ◌≤◌, List, length, get_or, Some, sym, ap, ◌∙◌, subst, arith}
 use Rattle.std.specs.List.{slice_get}
 use Rattle.std.proofs.lemmas.List.{length-map, get_or-map}
-use Rattle.view_sums.specs.Total.{total, Each}
-use Rattle.pin_core.specs.Buffers.{buffers, room}
-use Rattle.pin_core.specs.Holding.{Holding, Key, at}
+use Rattle.view_sums.specs.Total.{total}
+use Rattle.pin_core.specs.Buffers.{room}
+use Rattle.pin_core.specs.Holding.{Key, at}
 use Rattle.pin_core.specs.declared.sizes.Sizes.{Sizes}
 use Rattle.pinned_pool.specs.Addresses.{address_of, Covers}
 use Rattle.pinned_pool.specs.Moves.{front_of}
@@ -12,9 +12,9 @@ use Rattle.pinned_pool.specs.Named.{IsSeat}
 use Rattle.pinned_pool.specs.declared.view.View.{View}
 use Rattle.pinned_pool.proofs.Within.{held-near, front-short}
 use Rattle.flake_base.specs.declared.segment.Seg.{Seg}
-use Rattle.reply_planner.specs.Owned.{IsStaging, buffers_of}
+use Rattle.reply_planner.specs.Owned.{buffers_of}
 use Rattle.reply_planner.specs.Parcels.{HasBytes, HasWord, IsCopied}
-use Rattle.reply_planner.specs.Places.{place_of, addresses_of, IsHeld, IsReadable}
+use Rattle.reply_planner.specs.Places.{place_of, addresses_of, IsReadable}
 use Rattle.reply_planner.proofs.Placed.{place-is, place-covered}
 
 -- the buffer that covers its address has them all

@@ -2,6 +2,7 @@ ghost use Rattle.std.specs.Prelude.{
   ◌≡◌,
   ◌+◌,
   ◌*◌,
+  ◌<◌,
   ◌≤◌,
   [],
   length,
@@ -14,6 +15,7 @@ ghost use Rattle.std.specs.Prelude.{
   OnOk,
   OnErr,
 };
+ghost use Rattle.std.specs.List.{insert};
 ghost use Rattle.view_sums.specs.Total.{Each};
 ghost use Rattle.pin_core.specs.declared.class.Class.TheVariants.{Small};
 ghost use Rattle.pinned_pool.specs.Classes.{just};
@@ -51,6 +53,21 @@ pub struct Stage<N: PoolName> {
     // Lists that came back.
     pub(crate) spare: Vec<Box<Lists<N>>>,
     pub(crate) alloc: Global,
+}
+
+// Puts a hold at a place of a list with room. Most come back to the end, and that costs less.
+fn insert_reserved<N: PoolName>(list: &mut Vec<Hold<N>>, place: usize, hold: Hold<N>)
+    requires place { place ≤ length list.old.items }
+    requires room { vec_len list.old < vec_capacity list.old }
+    ensures items { list.new.items ≡ insert list.old.items place hold }
+    ensures capacity { vec_capacity list.new ≡ vec_capacity list.old }
+{
+    if place == list.len() {
+        list.push_reserved(hold);
+    } else {
+        // There is room, so it doesn't fail.
+        let _ = list.insert(place, hold);
+    }
 }
 
 impl<N: PoolName> Model for Stage<N> {
@@ -160,8 +177,7 @@ impl<N: PoolName> Stage<N> {
         while place > 0 && self.free[place - 1].buffer() < hold.buffer() {
             place -= 1;
         }
-        // There is room, so it doesn't fail.
-        let _ = self.free.insert(place, hold);
+        insert_reserved(&mut self.free, place, hold);
     }
 
     // Puts several holds in their places.

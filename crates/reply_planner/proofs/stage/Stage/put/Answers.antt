@@ -1,5 +1,4 @@
-use Rattle.std.proofs.Common.{◌≡◌, ◌<◌, ◌⊎◌, length, vec_len, vec_capacity, cond, sym, subst, ap, ◌∙◌, inl, inr, arith}
-use Rattle.std.specs.List.{insert}
+use Rattle.std.proofs.Common.{◌≡◌, ◌⊎◌, length, sym, subst, ap, inl, inr, arith}
 use Rattle.view_sums.specs.Total.{Each}
 use Rattle.reply_planner.specs.Owned.{IsStaging}
 use Rattle.reply_planner.specs.Stages.{IsOrdered, inserted}
@@ -17,6 +16,11 @@ loop-place-preserved g c =
           (omega (arith, c.if-buffer.true, c.buffer.ensures.buffer, c.buffer-in-loop-place.ensures.buffer)) i.passed;
     }
 
+pub insert_reserved-requires-clause-room : goal.insert_reserved-requires-clause-room
+insert_reserved-requires-clause-room g c =
+    let free = c.self.inside.free.items in
+    omega (arith, c.self.invariant.room, c.requires.room, ap length c.self.view_is, length-shown free, c.self.inside.free.ok)
+
 pub returns : goal.returns
 returns g c =
     let i = c.loop-place.invariant in
@@ -28,22 +32,18 @@ returns g c =
           (omega (arith, w.if-buffer.false, w.buffer.ensures.buffer, w.buffer-in-loop-place.ensures.buffer)))
       | else-loop-place-test w ↦ inl (omega (arith, w.loop-place-test.false))
     ] in
-    let some : vec_len c.self.inside.free < vec_capacity c.self.inside.free =
-    omega (arith, c.self.invariant.room, c.requires.room, ap length c.self.view_is, length-shown free, c.self.inside.free.ok) in
-    let items = ap (λ t. cond t (insert free place c.args.hold) free) (c.insert.ensures.succeeds some) in
-    shown-put c.args.hold free c.insert.new.self.items place c.args.self.now c.self.view_is (c.insert.ensures.items ∙ items) i.passed stop
+    shown-put c.args.hold free c.insert_reserved.new.list.items place c.args.self.now c.self.view_is c.insert_reserved.ensures.items i.passed stop
 
 pub invariant_of-self : goal.invariant_of-self
 invariant_of-self g c =
     let z = g.N.PoolName.sizes in
     let free = c.self.inside.free.items in
     let was = c.self.invariant in
-    let some : vec_len c.self.inside.free < vec_capacity c.self.inside.free = omega (arith, was.room, c.requires.room, ap length c.self.view_is, length-shown free, c.self.inside.free.ok) in
-    let items = c.insert.ensures.items ∙ ap (λ t. cond t (insert free c.loop-place.place c.args.hold) free) (c.insert.ensures.succeeds some) in
-    let placed : shown c.insert.new.self.items ≡ inserted c.args.hold.buffer c.args.self.now = returns g c in
+    let items = c.insert_reserved.ensures.items in
+    let placed : shown c.insert_reserved.new.list.items ≡ inserted c.args.hold.buffer c.args.self.now = returns g c in
     record {
       staging = subst (Each (IsStaging z)) (sym items) (each_insert (IsStaging z) c.args.hold free c.loop-place.place was.staging c.requires.staging);
-      room = omega (arith, was.room, c.insert.ensures.capacity);
-      few = omega (arith, c.requires.room, ap length c.self.view_is, length-shown free, ap length placed, length-shown c.insert.new.self.items, length-inserted c.args.hold.buffer c.args.self.now);
+      room = omega (arith, was.room, c.insert_reserved.ensures.capacity);
+      few = omega (arith, c.requires.room, ap length c.self.view_is, length-shown free, ap length placed, length-shown c.insert_reserved.new.list.items, length-inserted c.args.hold.buffer c.args.self.now);
       ordered = subst IsOrdered (sym placed) (ordered-inserted c.args.hold.buffer c.args.self.now (subst IsOrdered c.self.view_is was.ordered));
     }
