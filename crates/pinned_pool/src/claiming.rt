@@ -60,15 +60,14 @@ impl<N: PoolName> Pool<N> {
 
     // How many of eight buffers are found held in front of one that seems free. Their number is fixed, so that the
     // compiler lays the looks out one after another, each at a distance from the first that it knows.
-    fn pass_eight(&self, seat: &mut PoolSeat<N>, first: u32) -> u32
+    fn pass_eight(&self, seat: &mut PoolSeat<N>, first: usize) -> usize
         requires { first + 8 ≤ buffers N.sizes }
         ensures passed { Passed first result seat.old seat.new }
         ensures few { result ≤ 8 }
     {
-        let first = first as usize;
         for k in 0..8 {
             if self.seems_free(seat, first + k) {
-                return k as u32;
+                return k;
             }
         }
         8
@@ -76,7 +75,7 @@ impl<N: PoolName> Pool<N> {
 
     // How many of so many buffers are found held, eight by eight, in front of one that seems free. The last seven at
     // most are not looked at.
-    fn pass_held(&self, seat: &mut PoolSeat<N>, first: u32, count: u32) -> u32
+    fn pass_held(&self, seat: &mut PoolSeat<N>, first: usize, count: usize) -> usize
         requires { first + count ≤ buffers N.sizes }
         ensures passed { Passed first result seat.old seat.new }
         ensures few { result ≤ count }
@@ -99,7 +98,7 @@ impl<N: PoolName> Pool<N> {
             × Passed (first_of N.sizes class) e.looked seat.old seat.new) }
     {
         let (first, count) = self.range(class);
-        let passed = self.pass_held(seat, first, count);
+        let passed = self.pass_held(seat, first as usize, count as usize) as u32;
         for k in passed..count {
             let buffer = first + k;
             if self.win(seat, buffer) {
