@@ -58,33 +58,33 @@ impl<N: PoolName> Pool<N> {
         }
     }
 
-    // How many of eight buffers are found held in front of one that seems free. Their number is fixed, so that the
+    // How many of sixteen buffers are found held in front of one that seems free. Their number is fixed, so that the
     // compiler lays the looks out one after another, each at a distance from the first that it knows.
-    fn pass_eight(&self, seat: &mut PoolSeat<N>, first: usize) -> usize
-        requires { first + 8 ≤ buffers N.sizes }
+    fn pass_stretch(&self, seat: &mut PoolSeat<N>, first: usize) -> usize
+        requires { first + 16 ≤ buffers N.sizes }
         ensures passed { Passed first result seat.old seat.new }
-        ensures few { result ≤ 8 }
+        ensures few { result ≤ 16 }
     {
-        for k in 0..8 {
+        for k in 0..16 {
             if self.seems_free(seat, first + k) {
                 return k;
             }
         }
-        8
+        16
     }
 
-    // How many of so many buffers are found held, eight by eight, in front of one that seems free. The last seven at
-    // most are not looked at.
+    // How many of so many buffers are found held, stretch by stretch, in front of one that seems free. The last fifteen
+    // at most are not looked at.
     fn pass_held(&self, seat: &mut PoolSeat<N>, first: usize, count: usize) -> usize
         requires { first + count ≤ buffers N.sizes }
         ensures passed { Passed first result seat.old seat.new }
         ensures few { result ≤ count }
     {
         let mut passed = 0;
-        while count - passed >= 8 {
-            let more = self.pass_eight(seat, first + passed);
+        while count - passed >= 16 {
+            let more = self.pass_stretch(seat, first + passed);
             passed += more;
-            if more < 8 {
+            if more < 16 {
                 return passed;
             }
         }

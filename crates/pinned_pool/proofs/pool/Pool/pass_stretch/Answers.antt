@@ -1,6 +1,6 @@
 use Rattle.std.proofs.Common.{refl, arith}
 use Rattle.pinned_pool.proofs.Looks.{passed_none, passed_more, passed_so}
-use Rattle.pinned_pool.proofs.pool.Pool.pass_eight.Goals as goal
+use Rattle.pinned_pool.proofs.pool.Pool.pass_stretch.Goals as goal
 
 pub loop-k-init : goal.loop-k-init
 loop-k-init g c = passed_none _ _
