@@ -60,14 +60,15 @@ impl<N: PoolName> Pool<N> {
 
     // How many of sixteen buffers are found held in front of one that seems free. Their number is fixed, so that the
     // compiler lays the looks out one after another, each at a distance from the first that it knows.
-    fn pass_stretch(&self, seat: &mut PoolSeat<N>, first: usize) -> usize
+    fn pass_stretch(&self, seat: &mut PoolSeat<N>, first: u32) -> u32
         requires { first + 16 ≤ buffers N.sizes }
         ensures passed { Passed first result seat.old seat.new }
         ensures few { result ≤ 16 }
     {
+        let first = first as usize;
         for k in 0..16 {
             if self.seems_free(seat, first + k) {
-                return k;
+                return k as u32;
             }
         }
         16
@@ -75,7 +76,7 @@ impl<N: PoolName> Pool<N> {
 
     // How many of so many buffers are found held, stretch by stretch, in front of one that seems free. The last fifteen
     // at most are not looked at.
-    fn pass_held(&self, seat: &mut PoolSeat<N>, first: usize, count: usize) -> usize
+    fn pass_held(&self, seat: &mut PoolSeat<N>, first: u32, count: u32) -> u32
         requires { first + count ≤ buffers N.sizes }
         ensures passed { Passed first result seat.old seat.new }
         ensures few { result ≤ count }
@@ -98,7 +99,7 @@ impl<N: PoolName> Pool<N> {
             × Passed (first_of N.sizes class) e.looked seat.old seat.new) }
     {
         let (first, count) = self.range(class);
-        let passed = self.pass_held(seat, first as usize, count as usize) as u32;
+        let passed = self.pass_held(seat, first, count);
         for k in passed..count {
             let buffer = first + k;
             if self.win(seat, buffer) {
