@@ -14,6 +14,8 @@ pub mod Released
 pub mod FilledEach
 pub mod ReadBack
 pub mod Ends
+pub mod Lasts
+pub mod Joined
 pub mod ByClass
 pub mod Placed
 pub mod Ones

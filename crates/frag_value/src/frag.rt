@@ -1,4 +1,4 @@
-ghost use Rattle.std.specs.Prelude.{◌≡◌, ◌<◌, ◌↔◌, [], ◌∷◌, length, slice_get, IfSome, IfNone, IsNone};
+ghost use Rattle.std.specs.Prelude.{◌≡◌, ◌<◌, ◌↔◌, [], ◌∷◌, ◌++◌, length, slice_get, IfSome, IfNone, IsNone};
 ghost use Rattle.frag_value.specs.Values.{size_of, IsValue};
 ghost use Rattle.pinned_pool.specs.Moves.{loose_key};
 
@@ -16,22 +16,26 @@ pub struct Frag<N: PoolName> {
 /// A value's fragments in order. Contracts see the buffer and the length of each.
 #[derive(Drop)]
 pub struct Value<N: PoolName> {
-    pub(crate) frags: Vec<Frag<N>>,
+    // A value of one fragment takes no memory.
+    pub(crate) first: Option<Frag<N>>,
+    pub(crate) rest: Vec<Frag<N>>,
     pub(crate) len: u64,
 }
 
 impl<N: PoolName> Model for Value<N> {
-    ghost use Rattle.std.specs.Prelude.{◌≡◌, ℕ, List, map};
+    ghost use Rattle.std.specs.Prelude.{◌≡◌, ℕ, List, [], map, IsNone};
+    ghost use Rattle.std.specs.List.{cons_option};
     ghost use Rattle.view_sums.specs.Total.{Each};
     ghost use Rattle.frag_value.specs.Values.{IsValueOf};
     ghost use Rattle.pinned_pool.specs.Moves.{loose_key};
 
     ghost Value = { List (ℕ × ℕ) };
 
-    ghost view = { λ v. map (λ f. (f.hold.buffer, f.len)) v.frags.items };
+    ghost view = { λ v. map (λ f. (f.hold.buffer, f.len)) (cons_option v.first v.rest.items) };
 
-    ghost invariant = { λ v. Each (λ f. f.hold ≡ loose_key f.hold.buffer) v.frags.items
-        × IsValueOf N.sizes v.len (map (λ f. (f.hold.buffer, f.len)) v.frags.items) };
+    ghost invariant = { λ v. Each (λ f. f.hold ≡ loose_key f.hold.buffer) (cons_option v.first v.rest.items)
+        × IsValueOf N.sizes v.len (map (λ f. (f.hold.buffer, f.len)) (cons_option v.first v.rest.items))
+        × (IsNone v.first → v.rest.items ≡ []) };
 }
 
 impl<N: PoolName> Value<N> {
@@ -40,7 +44,8 @@ impl<N: PoolName> Value<N> {
         ensures { result ≡ [] }
     {
         Value {
-            frags: Vec::new(alloc),
+            first: None,
+            rest: Vec::new(alloc),
             len: 0,
         }
     }
@@ -57,7 +62,7 @@ impl<N: PoolName> Value<N> {
     pub fn count(&self) -> usize
         ensures { result ≡ length self.now }
     {
-        self.frags.len()
+        usize::from(self.first.is_some()) + self.rest.len()
     }
 
     /// The fragment at the place, from 0.
@@ -66,7 +71,11 @@ impl<N: PoolName> Value<N> {
         ensures part { slice_get self.now i ≡ Some ((result.now.hold.buffer, result.now.len)) }
         ensures hold { result.now.hold ≡ loose_key result.now.hold.buffer }
     {
-        &self.frags[i]
+        match &self.first {
+            Some(first) if i == 0 => first,
+            Some(_) => &self.rest[i - 1],
+            None => unreachable!(),
+        }
     }
 
     /// Takes the first fragment out, with its hold.
@@ -76,10 +85,24 @@ impl<N: PoolName> Value<N> {
         ensures none { IsNone result ↔ (self.old ≡ []) }
         ensures rest { IfNone result (self.new ≡ self.old) }
     {
-        if self.frags.is_empty() {
-            return None;
+        let frag = self.first.take()?;
+        if !self.rest.is_empty() {
+            self.first = Some(self.rest.remove(0));
         }
-        let frag = self.frags.remove(0);
+        self.len -= u64::from(frag.len);
+        Some(frag)
+    }
+
+    /// Takes the last fragment out, with its hold.
+    pub(crate) fn last_frag(&mut self) -> Option<Frag<N>>
+        ensures some { IfSome result (λ f. (self.old ≡ self.new ++ (f.hold.buffer, f.len) ∷ [])
+            × (f.hold ≡ loose_key f.hold.buffer)) }
+        ensures none { IsNone result → (self.old ≡ []) }
+    {
+        let frag = match self.rest.pop() {
+            Some(frag) => frag,
+            None => self.first.take()?,
+        };
         self.len -= u64::from(frag.len);
         Some(frag)
     }
