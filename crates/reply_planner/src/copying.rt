@@ -38,8 +38,32 @@ pub(crate) fn append_end(text: &mut Vec<u8>)
     ensures items { text.new.items ≡ text.old.items ++ crlf }
     ensures capacity { vec_capacity text.old ≤ vec_capacity text.new }
 {
-    append(text, b"\r\n");
+    text.push_reserved(b'\r');
+    text.push_reserved(b'\n');
 }
+
+// Reads as many bytes as the room has from a buffer that the owner holds, and puts them at the end.
+fn append_loaded<N: PoolName>(
+    text: &mut Vec<u8>,
+    pool: &Pool<N>,
+    owner: &mut PoolSeat<N>,
+    buffer: u32,
+    from: u32,
+    room: &mut [u8],
+)
+    requires held { 0 < total (at buffer) owner.old.holds }
+    requires inside { from + length room.old ≤ 8 * length (front_of buffer owner.old.holds) }
+    requires room { length text.old.items + length room.old ≤ vec_capacity text.old }
+    ensures owner { owner.new ≡ owner.old }
+    ensures items { text.new.items ≡ text.old.items ++ bytes_in owner.old.holds buffer from (length room.old) }
+    ensures capacity { vec_capacity text.old ≤ vec_capacity text.new }
+{
+    pool.load_bytes(owner, buffer, from, room);
+    append(text, room);
+}
+
+// So many bytes are read into a room that costs less to make.
+const FEW: usize = 64;
 
 /// Puts bytes of a buffer that the owner holds at the end.
 pub(crate) fn append_run<N: PoolName>(
@@ -58,8 +82,10 @@ pub(crate) fn append_run<N: PoolName>(
     ensures items { text.new.items ≡ text.old.items ++ bytes_in owner.old.holds buffer from len }
     ensures capacity { vec_capacity text.old ≤ vec_capacity text.new }
 {
-    let mut room = [0u8; 512];
-    let bytes = &mut room[..len as usize];
-    pool.load_bytes(owner, buffer, from, bytes);
-    append(text, bytes);
+    let count = len as usize;
+    if count <= FEW {
+        append_loaded(text, pool, owner, buffer, from, &mut [0u8; FEW][..count]);
+    } else {
+        append_loaded(text, pool, owner, buffer, from, &mut [0u8; 512][..count]);
+    }
 }
