@@ -78,6 +78,26 @@ same_done z operation s p now holds said segs0 segs1 t0 t1 says_is change_is ans
       pieces = taken ∙ ap (λ l. t0 ++ l) (ap (λ x. pieces_of operation x (places_at p key) (first_at s operation)) (sym answer_is));
     }
 
+-- a set that stores nothing hands no hold over
+kept_pieces : (w : When) (asks : Bool) (key bytes : List ℕ) (o : Option (List ℕ)) (were : List ℕ) → stores w o ≡ false
+    → pieces_at entire false (found o) were 0 ≡ pieces_of (set w asks key bytes) (found o) were 0
+kept_pieces always asks key bytes o were e = absurd (cc)
+kept_pieces if_missing asks key bytes o were e = refl
+kept_pieces if_present asks key bytes None were e = refl
+kept_pieces if_present asks key bytes (Some v) were e = absurd (cc)
+
+-- a set that stores nothing, and answers what its key has
+pub asked_done : (z : Sizes) (w : When) (asks : Bool) (key bytes : List ℕ) (s : Store) (p : Places) (now : Entries) (holds : List Holding) (said : PartAnswer) (segs : List Seg) (t0 t1 : List Piece)
+    → asks ≡ true → stores w (finite.get s key) ≡ false → said ≡ shown (found (finite.get s key)) → Agrees z now holds s p
+    → t1 ≡ t0 ++ pieces_at entire false (found (finite.get s key)) (places_at p key) 0
+    → IsDone z (set w asks key bytes) s p now holds said segs segs t0 t1
+asked_done z w asks key bytes s p now holds said segs t0 t1 asking idle says agrees taken =
+    let had : Answer = found (finite.get s key) in
+    let change_is : change_by s (set w asks key bytes) ≡ keeps = ap (λ t. cond t (puts bytes) keeps) idle in
+    let answer_is : answer s (set w asks key bytes) ≡ had = ap (λ t. cond t had (cond (stores w (finite.get s key)) done missing)) asking in
+    same_done z (set w asks key bytes) s p now holds said segs segs t0 t1 had change_is answer_is says agrees refl
+    (taken ∙ ap (λ l. t0 ++ l) (kept_pieces w asks key bytes (finite.get s key) (places_at p key) idle))
+
 -- a key that goes
 pub gone_done : (z : Sizes) (operation : Operation) (s : Store) (p : Places) (now : Entries) (holds : List Holding) (said : PartAnswer) (segs : List Seg) (t : List Piece) (says_is : Answer)
     → change_by s operation ≡ removes → answer s operation ≡ says_is → said ≡ shown says_is → Agrees z now holds (finite.remove s (key_of operation)) (finite.remove p (key_of operation))
