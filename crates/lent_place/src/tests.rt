@@ -1,0 +1,45 @@
+ghost use Rattle.std.specs.Prelude.{◌≤◌};
+
+use crate::{Fits, Place};
+use std::test::Fail;
+
+#[derive(Drop)]
+struct Small(u64);
+
+impl Fits<u64> for Small {
+    ghost fits = { λ most small. small.0 ≤ most };
+}
+
+// What is left of a value, which is given back.
+fn taken(place: &Place<Small, u64>) -> Option<u64> {
+    let (Small(n), loan) = place.take()?;
+    loan.give(Small(n / 2));
+    Some(n)
+}
+
+fn filled(place: &Place<Small, u64>) -> bool
+    requires { 7 ≤ place.now }
+{
+    match place.first() {
+        Some(loan) => {
+            loan.give(Small(7));
+            true
+        }
+        None => false,
+    }
+}
+
+#[test]
+fn a_value_is_lent_and_given_back(rt: HostRuntime) -> Result<(), Fail> {
+    let place: Place<Small, u64> = Place::new(rt.alloc(), &9)?;
+    assert!(rt; taken(&place).is_none());
+    assert!(rt; filled(&place) && !filled(&place));
+    assert!(rt; taken(&place) == Some(7) && taken(&place) == Some(3));
+    let Some((_, loan)) = place.take() else {
+        panic!(rt; "it was given back")
+    };
+    assert!(rt; taken(&place).is_none() && !filled(&place));
+    loan.give(Small(1));
+    assert!(rt; taken(&place) == Some(1));
+    Ok(())
+}
