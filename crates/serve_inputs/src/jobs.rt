@@ -76,6 +76,7 @@ fn serve_here<
     FLUSH: Fn(W) -> (W, bool) + Sync,
 >(
     rt: &R,
+    alloc: Global,
     shop: &Shop<'_, N, P>,
     jobs: Vec<Job<N, P, S, W>>,
     dones: Vec<Done<N, P, S, W>>,
@@ -95,7 +96,7 @@ fn serve_here<
     let mut dones = dones;
     for job in jobs {
         let Job { line, room, wire } = job;
-        let (wire, account) = serve_beside(rt, shop, line, room, gate, wire, put, flush);
+        let (wire, account) = serve_beside(rt, alloc, shop, line, room, gate, wire, put, flush);
         dones.push_reserved(Done { account, wire });
     }
     dones
@@ -134,6 +135,6 @@ pub(crate) fn serve_jobs<
 {
     match serve_all(rt, alloc, shop, jobs, workers, gate, put, flush) {
         Ok(dones) => dones,
-        Err(jobs) => serve_here(rt, shop, jobs, dones, gate, put, flush),
+        Err(jobs) => serve_here(rt, alloc, shop, jobs, dones, gate, put, flush),
     }
 }

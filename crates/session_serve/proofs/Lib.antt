@@ -1,4 +1,5 @@
 pub mod Gathering
+pub mod Between
 pub mod Calling
 pub mod Whole
 pub mod Serving

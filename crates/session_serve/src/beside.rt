@@ -7,17 +7,21 @@ ghost use Rattle.session_serve.specs.Served.{IsServed, HasServed};
 ghost use Rattle.session_serve.specs.Working.{IsFresh};
 
 use crate::inlet::{Ended, Inlet};
+use crate::lending::{OutletPlace, Start};
 use crate::line::{Account, Line};
 use crate::meeting::Meeting;
 use crate::outlet::Outlet;
 use crate::room::Room;
 use crate::serve::serve_in_turns;
 use crate::waiting::Remains;
+use crate::wiring::{Calls, Wiring};
 use command_exec::Shop;
 use flake_base::{End, SessionEnd, Source};
+use lent_place::Place;
 use order_book::BookName;
 use pinned_pool::PoolName;
 use session_pass::{Gate, laws};
+use std::alloc::{AllocError, Global};
 use std::sync::Wait;
 use std::thread;
 use std::thread::Threads;
@@ -37,6 +41,7 @@ pub fn serve_beside<
     FLUSH: Fn(W) -> (W, bool) + Sync,
 >(
     rt: &R,
+    alloc: Global,
     shop: &Shop<'_, N, P>,
     line: Line<N, P, S>,
     room: Room,
@@ -74,7 +79,7 @@ pub fn serve_beside<
         wire,
         sent: 0,
     };
-    serve_sides(rt, shop, inlet, gate, outlet, put, flush)
+    serve_sides(rt, alloc, shop, inlet, gate, outlet, put, flush)
 }
 
 // The two sides run beside each other, or where that can't be they take turns.
@@ -89,6 +94,7 @@ fn serve_sides<
     FLUSH: Fn(W) -> (W, bool) + Sync,
 >(
     rt: &R,
+    alloc: Global,
     shop: &Shop<'_, N, P>,
     inlet: Inlet<N, P, S>,
     gate: &G,
@@ -105,7 +111,8 @@ fn serve_sides<
         inlet.session inlet.pump outlet.wire result.1.end result.1.sent result.1.mine result.1.seat
         result.1.pump result.0 }
 {
-    let (went, came) = both_sides(rt, shop, inlet, gate, outlet, put, flush, &Meeting::new());
+    let calls = Calls { put, flush };
+    let ((went, came), _) = both_sides(rt, alloc, shop, inlet, gate, outlet, calls);
     match came {
         Ok(ended) => match went {
             Ok(outlet) => settled(ended, outlet),
@@ -125,7 +132,8 @@ fn serve_sides<
     }
 }
 
-// Both run until the session has ended and its device has found the ring closed; or neither begins.
+// Both run until the session has ended and its device has found the ring closed; or neither begins. The outlet lies
+// between them, for either to take.
 fn both_sides<
     R: Threads + Wait + Sync,
     N: BookName,
@@ -133,27 +141,82 @@ fn both_sides<
     S: Source + Drop,
     G: Gate,
     W: Send + Drop,
-    PUT: Fn(W, &[u8]) -> (W, bool) + Sync,
-    FLUSH: Fn(W) -> (W, bool) + Sync,
+    Q: Wiring<W> + Sync,
+>(
+    rt: &R,
+    alloc: Global,
+    shop: &Shop<'_, N, P>,
+    inlet: Inlet<N, P, S>,
+    gate: &G,
+    outlet: Outlet<P, W>,
+    wiring: Q,
+) -> (
+    (
+        Result<Outlet<P, W>, Outlet<P, W>>,
+        Result<Ended<N, P, S>, Inlet<N, P, S>>,
+    ),
+    Q,
+)
+    requires ready { Q.ready wiring }
+    requires fresh { IsFresh P.sizes inlet.session inlet.pump }
+    ensures out { IfOk result.0.0 (λ o. (device_ring o.device.end ≡ device_ring outlet.device.end)
+        × (ended o.device.end ≡ true) × ForwardsOut (Q.put_may wiring) (Q.flush_may wiring) outlet.device.failed
+        o.device.failed (completed outlet.device.end) (completed o.device.end) outlet.sent o.sent outlet.wire o.wire) }
+    ensures idle { IfErr result.0.0 (λ o. o ≡ outlet) }
+    ensures ran { IfOk result.0.1 (λ e. RanToTheEnd P.sizes N.sizes.shards inlet.session inlet.pump e.end e.replies
+        e.remains.seat e.remains.mine e.pump e.remains.closed) }
+    ensures back { IfErr result.0.1 (λ i. i ≡ inlet) }
+{
+    let start = Start { outlet, wiring };
+    let made: Result<OutletPlace<P, W, Q>, AllocError> = Place::new(alloc, &start);
+    let Start { outlet, wiring } = start;
+    match made {
+        Ok(place) => {
+            let sides = together(
+                rt,
+                shop,
+                inlet,
+                gate,
+                outlet,
+                &place,
+                &wiring,
+                &Meeting::new(),
+            );
+            (sides, wiring)
+        }
+        Err(AllocError) => ((Err(outlet), Err(inlet)), wiring),
+    }
+}
+
+// The same over a place that is new.
+fn together<
+    R: Threads + Wait + Sync,
+    N: BookName,
+    P: PoolName + Send + Sync,
+    S: Source + Drop,
+    G: Gate,
+    W: Send + Drop,
+    Q: Wiring<W> + Sync,
 >(
     rt: &R,
     shop: &Shop<'_, N, P>,
     inlet: Inlet<N, P, S>,
     gate: &G,
     outlet: Outlet<P, W>,
-    put: &PUT,
-    flush: &FLUSH,
+    place: &OutletPlace<P, W, Q>,
+    wiring: &Q,
     meeting: &Meeting,
 ) -> (
     Result<Outlet<P, W>, Outlet<P, W>>,
     Result<Ended<N, P, S>, Inlet<N, P, S>>,
 )
-    requires calls { PUT.IsAlwaysCallable put.now × FLUSH.IsAlwaysCallable flush.now }
+    requires ready { Q.ready wiring.now }
     requires fresh { IsFresh P.sizes inlet.session inlet.pump }
+    requires start { (place.now.outlet ≡ outlet) × (place.now.wiring ≡ wiring.now) }
     ensures out { IfOk result.0 (λ o. (device_ring o.device.end ≡ device_ring outlet.device.end)
-        × (ended o.device.end ≡ true) × ForwardsOut (λ w p r. PUT.post put.now w p r)
-        (λ w r. FLUSH.post flush.now w r) outlet.device.failed o.device.failed (completed outlet.device.end)
-        (completed o.device.end) outlet.sent o.sent outlet.wire o.wire) }
+        × (ended o.device.end ≡ true) × ForwardsOut (Q.put_may wiring.now) (Q.flush_may wiring.now)
+        outlet.device.failed o.device.failed (completed outlet.device.end) (completed o.device.end) outlet.sent o.sent
+        outlet.wire o.wire) }
     ensures idle { IfErr result.0 (λ o. o ≡ outlet) }
     ensures ran { IfOk result.1 (λ e. RanToTheEnd P.sizes N.sizes.shards inlet.session inlet.pump e.end e.replies
         e.remains.seat e.remains.mine e.pump e.remains.closed) }
@@ -163,18 +226,18 @@ fn both_sides<
     thread::join(
         rt,
         move || -> Result<Outlet<P, W>, Outlet<P, W>>
-            requires { PUT.IsAlwaysCallable put.now × FLUSH.IsAlwaysCallable flush.now }
+            requires { Q.ready wiring.now × (place.now.outlet ≡ outlet) × (place.now.wiring ≡ wiring.now) }
             ensures { IfOk result (λ o. (device_ring o.device.end ≡ device_ring outlet.device.end)
-                × (ended o.device.end ≡ true) × ForwardsOut (λ w p r. PUT.post put.entry.now w p r)
-                (λ w r. FLUSH.post flush.entry.now w r) outlet.device.failed o.device.failed
-                (completed outlet.device.end) (completed o.device.end) outlet.sent o.sent outlet.wire o.wire)
-                × IfErr result (λ o. o ≡ outlet) }
-        { outlet.beside(rt, pool, put, flush, meeting) },
+                × (ended o.device.end ≡ true) × ForwardsOut (Q.put_may wiring.entry.now)
+                (Q.flush_may wiring.entry.now) outlet.device.failed o.device.failed (completed outlet.device.end)
+                (completed o.device.end) outlet.sent o.sent outlet.wire o.wire) × IfErr result (λ o. o ≡ outlet) }
+        { outlet.beside(rt, pool, place, wiring, meeting) },
         move || -> Result<Ended<N, P, S>, Inlet<N, P, S>>
-            requires { IsFresh P.sizes inlet.session inlet.pump }
+            requires { IsFresh P.sizes inlet.session inlet.pump × Q.ready wiring.now
+                × (place.now.wiring ≡ wiring.now) }
             ensures { IfOk result (λ e. RanToTheEnd P.sizes N.sizes.shards inlet.session inlet.pump e.end e.replies
                 e.remains.seat e.remains.mine e.pump e.remains.closed) × IfErr result (λ i. i ≡ inlet) }
-        { inlet.beside(rt, shop, gate, meeting) },
+        { inlet.within_reach(rt, shop, gate, place, wiring, meeting) },
     )
 }
 

@@ -7,9 +7,11 @@ ghost use Rattle.session_pass.specs.Views.{SessionView};
 ghost use Rattle.session_serve.specs.Beside.{RanToTheEnd};
 ghost use Rattle.session_serve.specs.Working.{IsFresh, IsWorking, CallsMore, HasStopped};
 
+use crate::lending::OutletPlace;
 use crate::meeting::Meeting;
 use crate::room::Room;
 use crate::waiting::{Remains, call, finish};
+use crate::wiring::Wiring;
 use command_exec::Shop;
 use command_pump::Pump;
 use flake_base::{End, Memory, Source};
@@ -45,8 +47,17 @@ where
 
 impl<N: BookName, P: PoolName + Send, S: Source> Inlet<N, P, S> {
     // Runs the next command; or says how the session ends.
-    fn step<R: Wait, G: Gate>(&mut self, rt: &R, shop: &Shop<'_, N, P>, gate: &G) -> Result<(), End>
+    fn step<R: Wait, G: Gate, W: Drop, Q: Wiring<W>>(
+        &mut self,
+        rt: &R,
+        shop: &Shop<'_, N, P>,
+        gate: &G,
+        place: &OutletPlace<P, W, Q>,
+        wiring: &Q,
+    ) -> Result<(), End>
         requires few { length self.old.session.posted ≤ judged_bytes + 1 }
+        requires ready { Q.ready wiring.now }
+        requires same { place.now.wiring ≡ wiring.now }
         ensures ring { self.new.session.ring ≡ self.old.session.ring }
         ensures call { OnOk result ((first : SessionView) (input : Option (List ℕ)) (before : ℕ)
             (given : List Meaning) (calls : List Outcomes)
@@ -62,7 +73,15 @@ impl<N: BookName, P: PoolName + Send, S: Source> Inlet<N, P, S> {
             Err(end) => return Err(end),
         };
         gate.before(rt, self.session.number(), self.session.calls());
-        let called = call(rt, shop, &mut self.session, &command, &mut self.room);
+        let called = call(
+            rt,
+            shop,
+            &mut self.session,
+            &command,
+            &mut self.room,
+            place,
+            wiring,
+        );
         match called {
             Ok(()) => {}
             Err(Memory) => return Err(End::Memory),
@@ -72,14 +91,23 @@ impl<N: BookName, P: PoolName + Send, S: Source> Inlet<N, P, S> {
     }
 
     // Runs the commands, each behind the gate, to the source's end or until memory is wanting.
-    fn run<R: Wait, G: Gate>(self, rt: &R, shop: &Shop<'_, N, P>, gate: &G) -> Ended<N, P, S>
+    fn run<R: Wait, G: Gate, W: Drop, Q: Wiring<W>>(
+        self,
+        rt: &R,
+        shop: &Shop<'_, N, P>,
+        gate: &G,
+        place: &OutletPlace<P, W, Q>,
+        wiring: &Q,
+    ) -> Ended<N, P, S>
         requires fresh { IsFresh P.sizes self.session self.pump }
+        requires ready { Q.ready wiring.now }
+        requires same { place.now.wiring ≡ wiring.now }
         ensures { RanToTheEnd P.sizes N.sizes.shards self.session self.pump result.end result.replies result.remains.seat
             result.remains.mine result.pump result.remains.closed }
     {
         let mut inlet = self;
         let end = 'calls: loop {
-            if let Err(end) = inlet.step(rt, shop, gate) {
+            if let Err(end) = inlet.step(rt, shop, gate, place, wiring) {
                 break end;
             }
         };
@@ -89,7 +117,7 @@ impl<N: BookName, P: PoolName + Send, S: Source> Inlet<N, P, S> {
             room: _,
         } = inlet;
         let replies = session.calls();
-        let remains = finish(rt, shop, session);
+        let remains = finish(rt, shop, session, place, wiring);
         Ended {
             end,
             replies,
@@ -98,23 +126,26 @@ impl<N: BookName, P: PoolName + Send, S: Source> Inlet<N, P, S> {
         }
     }
 
-    /// The same beside its device; or nothing is done, where that doesn't come.
-    pub fn beside<R: Wait, G: Gate>(
+    /// The same beside its device, whose outlet is within reach; or nothing is done, where the device doesn't come.
+    pub fn within_reach<R: Wait, G: Gate, W: Drop, Q: Wiring<W>>(
         self,
         rt: &R,
         shop: &Shop<'_, N, P>,
         gate: &G,
+        place: &OutletPlace<P, W, Q>,
+        wiring: &Q,
         meeting: &Meeting,
     ) -> Result<Ended<N, P, S>, Self>
         requires fresh { IsFresh P.sizes self.session self.pump }
+        requires ready { Q.ready wiring.now }
+        requires same { place.now.wiring ≡ wiring.now }
         ensures ran { IfOk result (λ e. RanToTheEnd P.sizes N.sizes.shards self.session self.pump e.end e.replies
             e.remains.seat e.remains.mine e.pump e.remains.closed) }
         ensures back { IfErr result (λ i. i ≡ self) }
     {
-        if meeting.wait(rt) {
-            Ok(self.run(rt, shop, gate))
-        } else {
-            Err(self)
+        if !meeting.wait(rt) {
+            return Err(self);
         }
+        Ok(self.run(rt, shop, gate, place, wiring))
     }
 }

@@ -6,6 +6,7 @@ mod close;
 mod counting;
 mod inlet;
 pub mod laws;
+mod lending;
 mod line;
 mod meeting;
 mod naps;
@@ -14,6 +15,7 @@ mod room;
 mod serve;
 mod turn;
 mod waiting;
+mod wiring;
 
 pub use beside::serve_beside;
 pub use line::{Account, Line};

@@ -14,14 +14,27 @@ const SHORT_NAPS: u32 = 100;
 #[derive(Drop)]
 pub(crate) struct Naps {
     looks: u32,
+    // How many microseconds a short sleep takes.
+    short: u32,
     // Nobody writes it, so a sleep on it ends by its time.
     still: AtomicU64,
 }
 
 impl Naps {
+    /// Of one that nobody helps.
     pub fn new() -> Self {
+        Naps::of(20)
+    }
+
+    /// Of one that is seldom missed.
+    pub fn long() -> Self {
+        Naps::of(100)
+    }
+
+    fn of(short: u32) -> Self {
         Naps {
             looks: 0,
+            short,
             still: AtomicU64::new(0),
         }
     }
@@ -36,7 +49,8 @@ impl Naps {
         if self.looks < YIELDS {
             thread::yield_now();
         } else if self.looks < YIELDS + SHORT_NAPS {
-            self.still.park_timeout(rt, 0, Duration::from_micros(20));
+            let short = Duration::from_micros(self.short as u64);
+            self.still.park_timeout(rt, 0, short);
         } else {
             self.still.park_timeout(rt, 0, Duration::from_micros(500));
         }

@@ -1,16 +1,23 @@
 // A device with its wire.
 ghost use Rattle.std.specs.Prelude.{◌≡◌, true, IfOk, IfErr};
 ghost use Rattle.tx_ring.specs.Shown.{device_ring, completed, ended};
-ghost use Rattle.session_serve.specs.Beside.{ForwardsOut};
+ghost use Rattle.any_wire.specs.Sends.{Flushes};
+ghost use Rattle.device_model.specs.Devices.{IfIdle, IsFound};
+ghost use Rattle.session_serve.specs.Beside.{ForwardsMore, ForwardsOut};
 
 use crate::counting::{counted, whole_bytes};
+use crate::lending::OutletPlace;
 use crate::meeting::Meeting;
 use crate::naps::Naps;
+use crate::wiring::Wiring;
 use device_model::{Device, Gathered};
 use pinned_pool::{Pool, PoolName};
 use reply_planner::Parcel;
 use std::sync::Wait;
 use tx_descriptor::Framed;
+
+// So many replies a session gathers before it looks again whether there is room.
+const MOST_AT_ONCE: u32 = 64;
 
 /// Where a session's replies go out.
 #[derive(Drop)]
@@ -59,27 +66,138 @@ impl<P: PoolName + Send, W: Drop> Outlet<P, W> {
         unreachable!()
     }
 
-    /// The same beside its session; or nothing is done, where that has left.
-    pub fn beside<R: Wait, PUT: Fn(W, &[u8]) -> (W, bool), FLUSH: Fn(W) -> (W, bool)>(
+    // Gathers the next reply and puts it. Where no reply is posted the wire is flushed.
+    fn gathered<Q: Wiring<W>>(self, pool: &Pool<P>, wiring: &Q) -> (Self, Gathered)
+        requires { Q.ready wiring.now }
+        ensures ring { device_ring result.0.device.end ≡ device_ring self.device.end }
+        ensures found { IsFound result.1 result.0.device.failed self.device.end result.0.device.end }
+        ensures more { ForwardsMore (Q.put_may wiring.now) (Q.flush_may wiring.now) self.device.failed
+            result.0.device.failed (completed self.device.end) (completed result.0.device.end) self.sent result.0.sent
+            self.wire result.0.wire }
+        ensures flushed { IfIdle result.1 (Flushes (Q.flush_may wiring.now) self.device.failed result.0.device.failed
+            self.wire result.0.wire) }
+    {
+        let Outlet { device, wire, sent } = self;
+        let mut device = device;
+        let (wire, found) = device.gather(
+            pool,
+            wire,
+            &|wire: W, piece: &[u8]| -> (W, bool)
+                requires { Q.ready wiring.now }
+                ensures { Q.put_may wiring.entry.now wire piece.entry result }
+            { wiring.put(wire, piece) },
+            &|wire: W| -> (W, bool)
+                requires { Q.ready wiring.now }
+                ensures { Q.flush_may wiring.entry.now wire result }
+            { wiring.flush(wire) },
+        );
+        let sent = counted(sent, whole_bytes(found));
+        (Outlet { device, wire, sent }, found)
+    }
+
+    // Gathers until nothing is posted; at `Ok` nothing more comes.
+    fn drained<R: Wait, Q: Wiring<W>>(
         self,
         rt: &R,
         pool: &Pool<P>,
-        put: &PUT,
-        flush: &FLUSH,
+        wiring: &Q,
+    ) -> Result<Self, Self>
+        requires { Q.ready wiring.now }
+        ensures closed { IfOk result (λ o. (device_ring o.device.end ≡ device_ring self.device.end)
+            × (ended o.device.end ≡ true) × ForwardsOut (Q.put_may wiring.now) (Q.flush_may wiring.now)
+            self.device.failed o.device.failed (completed self.device.end) (completed o.device.end) self.sent o.sent
+            self.wire o.wire) }
+        ensures empty { IfErr result (λ o. (device_ring o.device.end ≡ device_ring self.device.end)
+            × ForwardsMore (Q.put_may wiring.now) (Q.flush_may wiring.now) self.device.failed o.device.failed
+            (completed self.device.end) (completed o.device.end) self.sent o.sent self.wire o.wire) }
+    {
+        let mut outlet = self;
+        for _ in rt.forever() {
+            let (after, found) = outlet.gathered(pool, wiring);
+            outlet = after;
+            match found {
+                Gathered::Sent { .. } | Gathered::Dropped { .. } => {}
+                Gathered::Empty => return Err(outlet),
+                Gathered::Closed => return Ok(outlet),
+            }
+        }
+        unreachable!()
+    }
+
+    /// Gathers some replies, and answers whether one was posted.
+    pub fn relieved<Q: Wiring<W>>(self, pool: &Pool<P>, wiring: &Q) -> (Self, bool)
+        requires { Q.ready wiring.now }
+        ensures ring { device_ring result.0.device.end ≡ device_ring self.device.end }
+        ensures more { ForwardsMore (Q.put_may wiring.now) (Q.flush_may wiring.now) self.device.failed
+            result.0.device.failed (completed self.device.end) (completed result.0.device.end) self.sent result.0.sent
+            self.wire result.0.wire }
+    {
+        let mut outlet = self;
+        for taken in 0..MOST_AT_ONCE {
+            let (after, found) = outlet.gathered(pool, wiring);
+            outlet = after;
+            match found {
+                Gathered::Sent { .. } | Gathered::Dropped { .. } => {}
+                Gathered::Empty | Gathered::Closed => return (outlet, taken > 0),
+            }
+        }
+        (outlet, true)
+    }
+
+    /// Beside its session: the outlet lies in the place whenever nothing is posted, until the ring is closed. Nothing is
+    /// done where the session has left.
+    pub fn beside<R: Wait, Q: Wiring<W>>(
+        self,
+        rt: &R,
+        pool: &Pool<P>,
+        place: &OutletPlace<P, W, Q>,
+        wiring: &Q,
         meeting: &Meeting,
     ) -> Result<Self, Self>
-        requires calls { PUT.IsAlwaysCallable put.now × FLUSH.IsAlwaysCallable flush.now }
+        requires ready { Q.ready wiring.now }
+        requires start { (place.now.outlet ≡ self) × (place.now.wiring ≡ wiring.now) }
         ensures ring { IfOk result (λ o. device_ring o.device.end ≡ device_ring self.device.end) }
         ensures ended { IfOk result (λ o. ended o.device.end ≡ true) }
-        ensures out { IfOk result (λ o. ForwardsOut (λ w p r. PUT.post put.now w p r)
-            (λ w r. FLUSH.post flush.now w r) self.device.failed o.device.failed (completed self.device.end)
-            (completed o.device.end) self.sent o.sent self.wire o.wire) }
+        ensures out { IfOk result (λ o. ForwardsOut (Q.put_may wiring.now) (Q.flush_may wiring.now)
+            self.device.failed o.device.failed (completed self.device.end) (completed o.device.end) self.sent o.sent
+            self.wire o.wire) }
         ensures back { IfErr result (λ o. o ≡ self) }
     {
-        if meeting.come() {
-            Ok(self.forward_all(rt, pool, put, flush))
-        } else {
-            Err(self)
+        let Some(loan) = place.first() else {
+            return Err(self);
+        };
+        if !meeting.come() {
+            return Err(self);
         }
+        loan.give(self);
+        Ok(tended(rt, pool, place, wiring))
     }
+}
+
+// Empties the ring again and again, until it is closed.
+fn tended<R: Wait, P: PoolName + Send, W: Drop, Q: Wiring<W>>(
+    rt: &R,
+    pool: &Pool<P>,
+    place: &OutletPlace<P, W, Q>,
+    wiring: &Q,
+) -> Outlet<P, W>
+    requires ready { Q.ready wiring.now }
+    requires same { place.now.wiring ≡ wiring.now }
+    ensures ring { device_ring result.device.end ≡ device_ring place.now.outlet.device.end }
+    ensures ended { ended result.device.end ≡ true }
+    ensures out { ForwardsOut (Q.put_may wiring.now) (Q.flush_may wiring.now) place.now.outlet.device.failed
+        result.device.failed (completed place.now.outlet.device.end) (completed result.device.end)
+        place.now.outlet.sent result.sent place.now.outlet.wire result.wire }
+{
+    let mut naps = Naps::long();
+    for _ in rt.forever() {
+        if let Some((outlet, loan)) = place.take() {
+            match outlet.drained(rt, pool, wiring) {
+                Ok(outlet) => return outlet,
+                Err(outlet) => loan.give(outlet),
+            }
+        }
+        naps.wait(rt);
+    }
+    unreachable!()
 }

@@ -5,13 +5,15 @@ ghost use Rattle.tx_ring.specs.Shown.{closed_ring, closed_view};
 ghost use Rattle.session_serve.specs.Beside.{CallsAtLast, BreaksAtLast};
 ghost use Rattle.session_serve.specs.Working.{IsLeft};
 
+use crate::lending::{OutletPlace, relieve};
 use crate::naps::Naps;
 use crate::room::Room;
+use crate::wiring::Wiring;
 use command_exec::Shop;
 use command_parts::Command;
 use flake_base::Memory;
 use order_book::{BookName, SessionSeat};
-use pinned_pool::{PoolName, PoolSeat};
+use pinned_pool::{Pool, PoolName, PoolSeat};
 use reply_planner::Parcel;
 use session_pass::{CallError, Finish, Session};
 use std::sync::Wait;
@@ -29,15 +31,37 @@ where
     pub closed: ClosedDriver<Parcel<P>>,
 }
 
-/// Runs a command and posts its reply. Where ring or stage is full it waits for the device, and makes the call again.
-pub(crate) fn call<R: Wait, N: BookName, P: PoolName + Send>(
+// Replies take all room: some are gathered, or the device does so meanwhile.
+fn rest<R: Wait, P: PoolName + Send, W: Drop, Q: Wiring<W>>(
+    rt: &R,
+    pool: &Pool<P>,
+    place: &OutletPlace<P, W, Q>,
+    wiring: &Q,
+    naps: &mut Naps,
+)
+    requires ready { Q.ready wiring.now }
+    requires same { place.now.wiring ≡ wiring.now }
+{
+    if relieve(pool, place, wiring) {
+        naps.found();
+    } else {
+        naps.wait(rt);
+    }
+}
+
+/// Runs a command and posts its reply. Where ring or stage is full, replies are gathered, and the call is made again.
+pub(crate) fn call<R: Wait, N: BookName, P: PoolName + Send, W: Drop, Q: Wiring<W>>(
     rt: &R,
     shop: &Shop<'_, N, P>,
     session: &mut Session<N, P>,
     command: &Command,
     room: &mut Room,
+    place: &OutletPlace<P, W, Q>,
+    wiring: &Q,
 ) -> Result<(), Memory>
-    requires { length session.old.posted ≤ judged_bytes + 1 }
+    requires few { length session.old.posted ≤ judged_bytes + 1 }
+    requires ready { Q.ready wiring.now }
+    requires same { place.now.wiring ≡ wiring.now }
     ensures posted { OnOk result (CallsAtLast P.sizes N.sizes.shards command.now session.old session.new) }
     ensures memory { OnErr result (BreaksAtLast P.sizes N.sizes.shards command.now session.old session.new) }
 {
@@ -46,19 +70,23 @@ pub(crate) fn call<R: Wait, N: BookName, P: PoolName + Send>(
         match session.call(rt, shop, command, &mut room.sent, &mut room.stored) {
             Ok(_) => return Ok(()),
             Err(CallError::Memory) => return Err(Memory),
-            Err(CallError::RingFull { .. }) => naps.wait(rt),
-            Err(CallError::StageFull { .. }) => naps.wait(rt),
+            Err(CallError::RingFull { .. }) => rest(rt, shop.pool, place, wiring, &mut naps),
+            Err(CallError::StageFull { .. }) => rest(rt, shop.pool, place, wiring, &mut naps),
         }
     }
     unreachable!()
 }
 
 /// Waits until all replies are sent, gives them back, and closes ring and pass.
-pub(crate) fn finish<R: Wait, N: BookName, P: PoolName + Send>(
+pub(crate) fn finish<R: Wait, N: BookName, P: PoolName + Send, W: Drop, Q: Wiring<W>>(
     rt: &R,
     shop: &Shop<'_, N, P>,
     session: Session<N, P>,
+    place: &OutletPlace<P, W, Q>,
+    wiring: &Q,
 ) -> Remains<N, P>
+    requires ready { Q.ready wiring.now }
+    requires same { place.now.wiring ≡ wiring.now }
     ensures left { IsLeft session result.seat result.mine }
     ensures ring { closed_ring result.closed ≡ session.ring }
     ensures posted { (closed_view result.closed).posted ≡ session.posted }
@@ -70,7 +98,7 @@ pub(crate) fn finish<R: Wait, N: BookName, P: PoolName + Send>(
             Finish::Done { seat, mine, closed } => return Remains { seat, mine, closed },
             Finish::NotYet(back) => session = back,
         }
-        naps.wait(rt);
+        rest(rt, shop.pool, place, wiring, &mut naps);
     }
     unreachable!()
 }

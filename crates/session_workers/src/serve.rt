@@ -57,7 +57,7 @@ pub fn serve_all<
             ensures { IsDone (λ w p r. PUT.post put.entry.now w p r) (λ w r. FLUSH.post flush.entry.now w r) P.sizes
                 N.sizes.shards job.line.session job.line.pump job.wire result.account.end result.account.sent
                 result.account.mine result.account.seat result.account.pump result.wire }
-        { serve_job(rt, shop, job, gate, put, flush) },
+        { serve_job(rt, alloc, shop, job, gate, put, flush) },
     );
     match served {
         Ok(dones) => Ok(dones),
@@ -77,6 +77,7 @@ fn serve_job<
     FLUSH: Fn(W) -> (W, bool) + Sync,
 >(
     rt: &R,
+    alloc: Global,
     shop: &Shop<'_, N, P>,
     job: Job<N, P, S, W>,
     gate: &G,
@@ -90,6 +91,6 @@ fn serve_job<
         result.account.seat result.account.pump result.wire }
 {
     let Job { line, room, wire } = job;
-    let (wire, account) = serve_beside(rt, shop, line, room, gate, wire, put, flush);
+    let (wire, account) = serve_beside(rt, alloc, shop, line, room, gate, wire, put, flush);
     Done { account, wire }
 }
