@@ -71,10 +71,13 @@ impl<N: PoolName> Value<N> {
         ensures part { slice_get self.now i ≡ Some ((result.now.hold.buffer, result.now.len)) }
         ensures hold { result.now.hold ≡ loose_key result.now.hold.buffer }
     {
-        match &self.first {
-            Some(first) if i == 0 => first,
-            Some(_) => &self.rest[i - 1],
-            None => unreachable!(),
+        let Some(first) = &self.first else {
+            unreachable!()
+        };
+        // Place 0 wraps to a place that no list has. A test of it would make LLVM peel the loops over the fragments.
+        match self.rest.get(i.wrapping_sub(1)) {
+            Some(frag) => frag,
+            None => first,
         }
     }
 
