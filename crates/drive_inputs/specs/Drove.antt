@@ -32,7 +32,8 @@ module _ {W : Type 0} (put_may : W → Bor (List ℕ) → (W × Bool) → Type 0
     pub own : ℕ → List Deed
     pub shards : List (List Deed)
     pub told_by : IsToldBy (sends_by put_may flush_may)
-        (driven_run z ring threshold (all_commands ran.served.sessions) ends journal closed) olds news own schedule lines
+        (driven_run z ring threshold (all_commands ran.served.sessions) ends journal closed) olds news own schedule
+        lines
     pub sources : AreSources (driven_run z ring threshold (all_commands ran.served.sessions) ends journal closed) shards
         own told_by.stages
     pub apart : AreAllApart

@@ -1,5 +1,6 @@
 -- What a run of `check` does.
-use Rattle.std.specs.Prelude.{◌≡◌, ◌≢◌, ◌⊎◌, ◌≤◌, ℕ, ◌<◌, List, [], Option, Some, None, length, map, option_map, take, slice_get}
+use Rattle.std.specs.Prelude.{◌≡◌, ◌≢◌, ◌⊎◌, ◌≤◌, ℕ, ◌<◌, List, [], Option, Some, None, length, map, option_map}
+use Rattle.std.specs.Prelude.{take, slice_get}
 use Rattle.std.specs.Prelude.{IsNone, IsSome, IsSomeAnd, IfSome}
 use Rattle.std.specs.List.{AllByRecursion}
 use Rattle.flake_base.specs.Causes.{Rose}
@@ -40,7 +41,8 @@ IsReadToEnd lefts source = option_map emptied (slice_get lefts source.file) ≡ 
 
 -- so were the files in front of this one, and those behind it have what they had
 abbrev pub IsReadTo : ℕ → List (Option (List ℕ)) → SourceTold → Type 0
-IsReadTo file lefts source = (source.file < file → IsReadToEnd lefts source) × (file < source.file → IsAsOpened lefts source)
+IsReadTo file lefts source = (source.file < file → IsReadToEnd lefts source)
+    × (file < source.file → IsAsOpened lefts source)
 
 -- What a source has left, by what the files had when they were opened. Where memory was wanting it is free.
 abbrev pub HasLeftBy : Finding → List (Option (List ℕ)) → SourceTold → Type 0
@@ -92,10 +94,12 @@ pub record NoneOpened (old new : HostTold) (sources : List SourceTold) : Type 0 
 abbrev pub WasFound : Finding → Option (List Named) → HostTold → HostTold → List SourceTold → Type 0
 WasFound BadWords task old new sources = IsNone task × NoneOpened old new sources
 WasFound (OpenFault file) task old new sources = IsSomeAnd task (λ words. OneUnopened file words old new sources)
-WasFound (ReadFault file) task old new sources = IsSomeAnd task (λ words. WasRead (ReadFault file) words old new sources)
+WasFound (ReadFault file) task old new sources =
+    IsSomeAnd task (λ words. WasRead (ReadFault file) words old new sources)
 WasFound (TooLarge file) task old new sources = IsSomeAnd task (λ words. WasRead (TooLarge file) words old new sources)
 WasFound (BadLine line) task old new sources = IsSomeAnd task (λ words. WasRead (BadLine line) words old new sources)
-WasFound (Judged verdict) task old new sources = IsSomeAnd task (λ words. WasRead (Judged verdict) words old new sources)
+WasFound (Judged verdict) task old new sources =
+    IsSomeAnd task (λ words. WasRead (Judged verdict) words old new sources)
 WasFound Memory task old new sources =
     NoneOpened old new sources ⊎ IsSomeAnd task (λ words. WasRead Memory words old new sources)
     ⊎ ((file : ℕ) × IsSomeAnd task (λ words. OneUnopened file words old new sources))

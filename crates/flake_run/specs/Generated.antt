@@ -1,5 +1,6 @@
 -- What a run of generated requests does, and what it says.
-use Rattle.std.specs.Prelude.{◌≡◌, ◌≢◌, ◌⊎◌, ◌≤◌, ◌<◌, ℕ, ◌++◌, Bool, List, [], ◌∷◌, Option, Some, None, codes, length, map}
+use Rattle.std.specs.Prelude.{◌≡◌, ◌≢◌, ◌⊎◌, ◌≤◌, ◌<◌, ℕ, ◌++◌, Bool, List, [], ◌∷◌, Option, Some, None, codes}
+use Rattle.std.specs.Prelude.{length, map}
 use Rattle.std.specs.Prelude.{suc, drop, take, All, IfSome, IsSomeAnd}
 use Rattle.std.specs.Fmt.{decimal}
 use Rattle.std.specs.List.{AllByRecursion}
@@ -66,7 +67,8 @@ AllInWhole (replies ∷ more) (count ∷ counts) (old ∷ olds) (new ∷ news) =
 
 -- The generated inputs were served, and so many bytes of each were sent in whole replies, as a `u64` shows it.
 pub record IsGeneratedRun {W : Type 0} (task : GenTask) (lefts : List (Option (List ℕ))) (ends : List SessionEnd)
-    (shown : List ℕ) (journal : List (List Entry)) (pool : End) (olds news : List W) (told : W → WireTold) : Type 0 where
+    (shown : List ℕ) (journal : List (List Entry)) (pool : End) (olds news : List W)
+    (told : W → WireTold) : Type 0 where
   pub run : IsRun (pool_sizes task.sessions (sizes_of task)) (inputs_of task) lefts ends journal pool olds news told
   pub ways : AllByRecursion (λ end. (end.end ≡ Clean) ⊎ (end.end ≡ Memory)) ends
   pub commands : HadMemory ends → all_commands run.run.sessions ≡ commands_in_all task

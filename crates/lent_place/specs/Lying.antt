@@ -10,7 +10,8 @@ module _ {T : Type 0} where
   pub record IsKept (fits : T → Type 0) (words : List ℕ) (homes : List (home.Option (Option T))) : Type 0 where
     pub one : length words ≡ 1
     pub empty : slice_index words 0 ≡ 0 → get_elem? homes 0 ≡ home.some (home.some None)
-    pub full : slice_index words 0 ≡ 2 → (value : T) × (get_elem? homes 0 ≡ home.some (home.some (Some value))) × fits value
+    pub full : slice_index words 0 ≡ 2
+        → (value : T) × (get_elem? homes 0 ≡ home.some (home.some (Some value))) × fits value
 
   module _ {V : Type 0} where
     -- the slot is out, with this in it

@@ -21,7 +21,8 @@ impl<T: Fits<K>, K> Model for Place<T, K> {
     ghost invariant = { λ place. (place.table.shared.table_id.words ≡ 1) × (place.table.shared.table_id.slots ≡ 1) };
 }
 
-/// The right to give a value to a place that lent its own, or that had none yet. Contracts see it as the key of the place.
+/// The right to give a value to a place that lent its own, or that had none yet. Contracts see it as the key of the
+/// place.
 pub struct Loan<'a, T: Fits<K>, K> {
     table: &'a Table<Option<T>, K, K, Kept<T>, Global>,
     seat: Seat<Option<T>, K>,

@@ -1,9 +1,11 @@
-//! Tests of what replies are made over, by public items: the pool, values in fragments, rings, the book of deeds, and
-//! workers.
+//! Tests of what replies are made over, by public items: the pool, values in fragments, rings, the book of deeds,
+//! workers, and places whose value is lent.
 #![tactic(auto)]
 
 #[cfg(test)]
 mod books;
+#[cfg(test)]
+mod places;
 #[cfg(test)]
 mod pool;
 #[cfg(test)]

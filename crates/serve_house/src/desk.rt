@@ -64,7 +64,8 @@ pub(crate) fn open_desks<N: BookName, P: PoolName + Send>(
     requires few { length passes.items ≤ 16 }
     requires descriptors { (1160 ≤ descriptors) × (descriptors ≤ 4096) }
     requires room { (desks.items ≡ []) × (length passes.items ≤ vec_capacity desks) }
-    ensures desks { IfOk result (λ desks. All (λ d. IsDesk P.sizes d.session d.device.end d.device.failed) desks.items) }
+    ensures desks { IfOk result
+        (λ desks. All (λ d. IsDesk P.sizes d.session d.device.end d.device.failed) desks.items) }
     ensures passes { IfOk result (λ desks. map (λ d. d.session.pass) desks.items ≡ passes.items) }
     ensures ring { IfOk result (λ desks. All (λ d. ring_size d.session.ring ≡ descriptors) desks.items) }
 {

@@ -1,5 +1,5 @@
-//! What a run opens before it reads anything, and closes at its end: a pool, a book and a store, and for each of 1 to 16
-//! sources a ring, a session and a device. What the closing says of sessions that ran stands in one record.
+//! What a run opens before it reads anything, and closes at its end: a pool, a book and a store, and for each of 1 to
+//! 16 sources a ring, a session and a device. What the closing says of sessions that ran stands in one record.
 #![tactic(auto)]
 
 mod closing;

@@ -20,7 +20,7 @@ pub(crate) struct Ready {
     alloc: Global,
     list: Option<Segs>,
     left: usize,
-    ghost ready: { IfSome list (λ l. (l.items ≡ []) × (MOST_FRAGS ≤ left) × (left ≤ l.spare)) } by { Prim.hlevel props },
+    ghost room: { IfSome list (λ l. (l.items ≡ []) × (MOST_FRAGS ≤ left) × (left ≤ l.spare)) } by { Prim.hlevel props },
 }
 
 impl Ready {

@@ -41,6 +41,6 @@ module _
 
   -- and a flush behind it leaves that as it is
   abbrev pub FlushIsTold : Type 0
-  FlushIsTold = AreTold → (failed now : Bool) (text : List ℕ) (w mid end : W) → WasSent failed text (tells w) (tells mid)
-      → Flushes flush_may failed now mid end
+  FlushIsTold = AreTold → (failed now : Bool) (text : List ℕ) (w mid end : W)
+      → WasSent failed text (tells w) (tells mid) → Flushes flush_may failed now mid end
       → WasSent now text (tells w) (tells end) × KeptIs now (tells mid).kept (tells end).kept

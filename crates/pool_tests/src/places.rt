@@ -1,6 +1,6 @@
 ghost use Rattle.std.specs.Prelude.{◌≤◌};
 
-use crate::{Fits, Place};
+use lent_place::{Fits, Place};
 use std::test::Fail;
 
 #[derive(Drop)]
