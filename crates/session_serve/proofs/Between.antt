@@ -1,10 +1,10 @@
 -- What both sides do to an outlet that lies between them.
-use Rattle.std.proofs.Common.{◌≡◌, ℕ, Bool, true, false, List, [], ◌∷◌, refl, sym, ap}
+use Rattle.std.proofs.Common.{◌≡◌, ℕ, Bool, true, false, List, [], ◌∷◌, refl}
 use Rattle.std.specs.Borrow.{Bor}
 use Rattle.flake_base.specs.Told.{raised}
-use Rattle.any_wire.specs.Sends.{Step, puts, flushes, Chain, Sends, Flushes}
+use Rattle.any_wire.specs.Sends.{Step, puts, flushes, Chain, Flushes}
 use Rattle.tx_descriptor.specs.declared.framed.Framed.{Ghosts}
-use Rattle.tx_ring.specs.Shown.{completed, FindsClosed}
+use Rattle.tx_ring.specs.Shown.{completed}
 use Rattle.tx_ring.specs.declared.device.DeviceEnd.{DeviceEnd}
 use Rattle.reply_planner.specs.Parcels.{Sent}
 use Rattle.device_model.specs.Devices.{Forwards, PutsTexts, IsFound, IfTaken, IfIdle}

@@ -1,7 +1,7 @@
 -- How many replies a wire was sent whole, reply by reply.
-use Rattle.std.proofs.Common.{◌≡◌, ℕ, ◌+◌, ◌≤◌, Bool, true, false, List, [], ◌∷◌, ◌++◌, length, map, min, take, slice_get, Some, refl, ap, sym, ◌∙◌, subst, arith, length-append, append-nil}
+use Rattle.std.proofs.Common.{◌≡◌, ℕ, ◌+◌, ◌≤◌, Bool, true, false, List, [], ◌∷◌, ◌++◌, length, take, slice_get, Some, refl, ap, sym, ◌∙◌, subst, arith, length-append, append-nil}
 use Rattle.std.specs.Borrow.{Bor}
-use Rattle.std.proofs.Math.Seq.{take-append_seam, take-append-add, take-length}
+use Rattle.std.proofs.Math.Seq.{take-append-add, take-length}
 use Rattle.std.proofs.lemmas.List.{map-append, take-append-le, append_cancel_left}
 use Rattle.std.proofs.lemmas.Grind.{flat_map-append}
 use Rattle.view_sums.specs.Total.{Each}
@@ -16,8 +16,8 @@ use Rattle.device_model.specs.Devices.{texts_of, PutsTexts, IsFound, IfTaken, If
 use Rattle.device_model.specs.declared.gathered.Gathered.{Gathered}
 use Rattle.device_model.specs.declared.gathered.Gathered.TheVariants as found
 use Rattle.device_model.proofs.Puts.{sends-loosened}
-use Rattle.transcript_model.specs.Sessions.{AreWhole, Sending, WireGrew, joined}
-use Rattle.drive_model.specs.Matches.{IsWholeSoFar, texts_in}
+use Rattle.transcript_model.specs.Sessions.{Sending, joined}
+use Rattle.drive_model.specs.Matches.{texts_in}
 use Rattle.drive_model.specs.Wires.{IsSending}
 use Rattle.drive_model.proofs.Wires.{wire_fresh, wire_longer, wire_sent, wire_cut, wire_idle}
 use Rattle.session_serve.specs.Whole.{SentWhole, KeepsWhole, SendsMore, whole_bytes_of}

@@ -53,7 +53,8 @@ pub record RanToTheEnd (z : Sizes) (shards : ℕ) (first : SessionView) (unread 
 
 module _ {W : Type 0} (put_may : W → Bor (List ℕ) → (W × Bool) → Type 0) (flush_may : W → (W × Bool) → Type 0) where
   -- some replies more were completed and put, and their bytes were counted, where they were put whole
-  pub record ForwardsMore (failed now : Bool) (before after : List Sent) (bytes counted : ℕ) (old new : W) : Type 0 where
+  pub record ForwardsMore (failed now : Bool) (before after : List Sent) (bytes counted : ℕ)
+      (old new : W) : Type 0 where
     pub forwards : Forwards put_may flush_may failed now before after old new
     pub whole : KeepsWhole put_may flush_may failed now before after bytes counted old new
 

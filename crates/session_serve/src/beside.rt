@@ -78,6 +78,7 @@ pub fn serve_beside<
         device,
         wire,
         sent: 0,
+        helped: false,
     };
     serve_sides(rt, alloc, shop, inlet, gate, outlet, put, flush)
 }
@@ -277,6 +278,7 @@ fn take_turns<
         device,
         wire,
         sent: _,
+        helped: _,
     } = outlet;
     let line = Line {
         session,
@@ -315,6 +317,7 @@ fn settled<N: BookName, P: PoolName + Send, S: Source, W: Drop>(
         mut device,
         wire,
         sent,
+        helped: _,
     } = outlet;
     device.settle(&mut closed);
     let end = SessionEnd {

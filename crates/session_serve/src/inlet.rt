@@ -102,8 +102,8 @@ impl<N: BookName, P: PoolName + Send, S: Source> Inlet<N, P, S> {
         requires fresh { IsFresh P.sizes self.session self.pump }
         requires ready { Q.ready wiring.now }
         requires same { place.now.wiring ≡ wiring.now }
-        ensures { RanToTheEnd P.sizes N.sizes.shards self.session self.pump result.end result.replies result.remains.seat
-            result.remains.mine result.pump result.remains.closed }
+        ensures { RanToTheEnd P.sizes N.sizes.shards self.session self.pump result.end result.replies
+            result.remains.seat result.remains.mine result.pump result.remains.closed }
     {
         let mut inlet = self;
         let end = 'calls: loop {

@@ -1,7 +1,7 @@
 // Where the outlet of a session lies, so that either side can take it.
 ghost use Rattle.std.specs.Prelude.{◌≡◌};
 
-use crate::outlet::Outlet;
+use crate::outlet::{Outlet, Round};
 use crate::wiring::Wiring;
 use lent_place::{Fits, Place};
 use pinned_pool::{Pool, PoolName};
@@ -37,9 +37,10 @@ pub(crate) fn relieve<P: PoolName + Send, W: Drop, Q: Wiring<W>>(
     match place.take() {
         None => false,
         Some((outlet, loan)) => {
-            let (outlet, some) = outlet.relieved(pool, wiring);
+            let (mut outlet, round) = outlet.round(pool, wiring);
+            outlet.helped = true;
             loan.give(outlet);
-            some
+            round == Round::Busy
         }
     }
 }

@@ -4,7 +4,7 @@ use std::sync::atomic::AtomicU64;
 use std::thread;
 use std::time::Duration;
 
-// The first look behind one that found nothing follows at once: the thread only lets others run.
+// The first look behind one that found nothing follows at once, if nobody helps: the thread only lets others run.
 const YIELDS: u32 = 1;
 
 // So many looks more come after a short sleep each.
@@ -14,6 +14,7 @@ const SHORT_NAPS: u32 = 100;
 #[derive(Drop)]
 pub(crate) struct Naps {
     looks: u32,
+    yields: u32,
     // How many microseconds a short sleep takes.
     short: u32,
     // Nobody writes it, so a sleep on it ends by its time.
@@ -23,17 +24,18 @@ pub(crate) struct Naps {
 impl Naps {
     /// Of one that nobody helps.
     pub fn new() -> Self {
-        Naps::of(20)
+        Naps::of(YIELDS, 20)
     }
 
     /// Of one that is seldom missed.
     pub fn long() -> Self {
-        Naps::of(100)
+        Naps::of(0, 100)
     }
 
-    fn of(short: u32) -> Self {
+    fn of(yields: u32, short: u32) -> Self {
         Naps {
             looks: 0,
+            yields,
             short,
             still: AtomicU64::new(0),
         }
@@ -46,9 +48,9 @@ impl Naps {
 
     /// Waits before the next look: the longer, the more looks found nothing.
     pub fn wait<R: Wait>(&mut self, rt: &R) {
-        if self.looks < YIELDS {
+        if self.looks < self.yields {
             thread::yield_now();
-        } else if self.looks < YIELDS + SHORT_NAPS {
+        } else if self.looks - self.yields < SHORT_NAPS {
             let short = Duration::from_micros(self.short as u64);
             self.still.park_timeout(rt, 0, short);
         } else {

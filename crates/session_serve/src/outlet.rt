@@ -29,6 +29,19 @@ where
     pub wire: W,
     /// So many bytes were put in whole replies; a full count stands still.
     pub sent: u64,
+    /// The session has gathered replies itself since its device last looked.
+    pub helped: bool,
+}
+
+/// What a round of gathers found.
+#[derive(Clone, Copy, PartialEq, Eq, Debug)]
+pub(crate) enum Round {
+    /// No reply was posted.
+    Idle,
+    /// Replies were posted, and there may be more.
+    Busy,
+    /// The ring is closed, and all its replies are gathered.
+    Closed,
 }
 
 impl<P: PoolName + Send, W: Drop> Outlet<P, W> {
@@ -47,10 +60,12 @@ impl<P: PoolName + Send, W: Drop> Outlet<P, W> {
             self.device.failed result.device.failed (completed self.device.end) (completed result.device.end) self.sent
             result.sent self.wire result.wire }
     {
-        let Outlet { device, wire, sent } = self;
-        let mut device = device;
-        let mut wire = wire;
-        let mut sent = sent;
+        let Outlet {
+            mut device,
+            mut wire,
+            mut sent,
+            helped,
+        } = self;
         let mut naps = Naps::new();
         for _ in rt.forever() {
             let (after, found) = device.gather(pool, wire, put, flush);
@@ -60,91 +75,65 @@ impl<P: PoolName + Send, W: Drop> Outlet<P, W> {
                 Gathered::Sent { .. } => naps.found(),
                 Gathered::Dropped { .. } => naps.found(),
                 Gathered::Empty => naps.wait(rt),
-                Gathered::Closed => return Outlet { device, wire, sent },
+                Gathered::Closed => {
+                    return Outlet {
+                        device,
+                        wire,
+                        sent,
+                        helped,
+                    };
+                }
             }
         }
         unreachable!()
     }
 
-    // Gathers the next reply and puts it. Where no reply is posted the wire is flushed.
-    fn gathered<Q: Wiring<W>>(self, pool: &Pool<P>, wiring: &Q) -> (Self, Gathered)
+    /// Gathers some of the replies that are posted. Where none is left the wire is flushed.
+    pub fn round<Q: Wiring<W>>(self, pool: &Pool<P>, wiring: &Q) -> (Self, Round)
         requires { Q.ready wiring.now }
         ensures ring { device_ring result.0.device.end ≡ device_ring self.device.end }
-        ensures found { IsFound result.1 result.0.device.failed self.device.end result.0.device.end }
         ensures more { ForwardsMore (Q.put_may wiring.now) (Q.flush_may wiring.now) self.device.failed
             result.0.device.failed (completed self.device.end) (completed result.0.device.end) self.sent result.0.sent
             self.wire result.0.wire }
-        ensures flushed { IfIdle result.1 (Flushes (Q.flush_may wiring.now) self.device.failed result.0.device.failed
-            self.wire result.0.wire) }
+        ensures closed { result.1 ≡ Round.Closed → (ended result.0.device.end ≡ true)
+            × ForwardsOut (Q.put_may wiring.now) (Q.flush_may wiring.now) self.device.failed result.0.device.failed
+            (completed self.device.end) (completed result.0.device.end) self.sent result.0.sent self.wire
+            result.0.wire }
     {
-        let Outlet { device, wire, sent } = self;
-        let mut device = device;
-        let (wire, found) = device.gather(
-            pool,
+        let Outlet {
+            mut device,
+            mut wire,
+            mut sent,
+            helped,
+        } = self;
+        let mut round = Round::Idle;
+        for _ in 0..MOST_AT_ONCE {
+            let (after, found) = gathered(&mut device, wire, &mut sent, pool, wiring);
+            wire = after;
+            match found {
+                Gathered::Sent { .. } | Gathered::Dropped { .. } => round = Round::Busy,
+                Gathered::Empty => break,
+                Gathered::Closed => {
+                    let outlet = Outlet {
+                        device,
+                        wire,
+                        sent,
+                        helped,
+                    };
+                    return (outlet, Round::Closed);
+                }
+            }
+        }
+        let outlet = Outlet {
+            device,
             wire,
-            &|wire: W, piece: &[u8]| -> (W, bool)
-                requires { Q.ready wiring.now }
-                ensures { Q.put_may wiring.entry.now wire piece.entry result }
-            { wiring.put(wire, piece) },
-            &|wire: W| -> (W, bool)
-                requires { Q.ready wiring.now }
-                ensures { Q.flush_may wiring.entry.now wire result }
-            { wiring.flush(wire) },
-        );
-        let sent = counted(sent, whole_bytes(found));
-        (Outlet { device, wire, sent }, found)
+            sent,
+            helped,
+        };
+        (outlet, round)
     }
 
-    // Gathers until nothing is posted; at `Ok` nothing more comes.
-    fn drained<R: Wait, Q: Wiring<W>>(
-        self,
-        rt: &R,
-        pool: &Pool<P>,
-        wiring: &Q,
-    ) -> Result<Self, Self>
-        requires { Q.ready wiring.now }
-        ensures closed { IfOk result (λ o. (device_ring o.device.end ≡ device_ring self.device.end)
-            × (ended o.device.end ≡ true) × ForwardsOut (Q.put_may wiring.now) (Q.flush_may wiring.now)
-            self.device.failed o.device.failed (completed self.device.end) (completed o.device.end) self.sent o.sent
-            self.wire o.wire) }
-        ensures empty { IfErr result (λ o. (device_ring o.device.end ≡ device_ring self.device.end)
-            × ForwardsMore (Q.put_may wiring.now) (Q.flush_may wiring.now) self.device.failed o.device.failed
-            (completed self.device.end) (completed o.device.end) self.sent o.sent self.wire o.wire) }
-    {
-        let mut outlet = self;
-        for _ in rt.forever() {
-            let (after, found) = outlet.gathered(pool, wiring);
-            outlet = after;
-            match found {
-                Gathered::Sent { .. } | Gathered::Dropped { .. } => {}
-                Gathered::Empty => return Err(outlet),
-                Gathered::Closed => return Ok(outlet),
-            }
-        }
-        unreachable!()
-    }
-
-    /// Gathers some replies, and answers whether one was posted.
-    pub fn relieved<Q: Wiring<W>>(self, pool: &Pool<P>, wiring: &Q) -> (Self, bool)
-        requires { Q.ready wiring.now }
-        ensures ring { device_ring result.0.device.end ≡ device_ring self.device.end }
-        ensures more { ForwardsMore (Q.put_may wiring.now) (Q.flush_may wiring.now) self.device.failed
-            result.0.device.failed (completed self.device.end) (completed result.0.device.end) self.sent result.0.sent
-            self.wire result.0.wire }
-    {
-        let mut outlet = self;
-        for taken in 0..MOST_AT_ONCE {
-            let (after, found) = outlet.gathered(pool, wiring);
-            outlet = after;
-            match found {
-                Gathered::Sent { .. } | Gathered::Dropped { .. } => {}
-                Gathered::Empty | Gathered::Closed => return (outlet, taken > 0),
-            }
-        }
-        (outlet, true)
-    }
-
-    /// Beside its session: the outlet lies in the place whenever nothing is posted, until the ring is closed. Nothing is
+    /// Beside its session: between rounds of gathers the outlet lies in the place, until the ring is closed. Nothing is
     /// done where the session has left.
     pub fn beside<R: Wait, Q: Wiring<W>>(
         self,
@@ -174,7 +163,40 @@ impl<P: PoolName + Send, W: Drop> Outlet<P, W> {
     }
 }
 
-// Empties the ring again and again, until it is closed.
+// Gathers the next reply and puts it. Where no reply is posted the wire is flushed.
+fn gathered<P: PoolName + Send, W: Drop, Q: Wiring<W>>(
+    device: &mut Device<P>,
+    wire: W,
+    sent: &mut u64,
+    pool: &Pool<P>,
+    wiring: &Q,
+) -> (W, Gathered)
+    requires { Q.ready wiring.now }
+    ensures ring { device_ring device.new.end ≡ device_ring device.old.end }
+    ensures found { IsFound result.1 device.new.failed device.old.end device.new.end }
+    ensures more { ForwardsMore (Q.put_may wiring.now) (Q.flush_may wiring.now) device.old.failed device.new.failed
+        (completed device.old.end) (completed device.new.end) sent.old sent.new wire result.0 }
+    ensures flushed { IfIdle result.1
+        (Flushes (Q.flush_may wiring.now) device.old.failed device.new.failed wire result.0) }
+{
+    let (wire, found) = device.gather(
+        pool,
+        wire,
+        &|wire: W, piece: &[u8]| -> (W, bool)
+            requires { Q.ready wiring.now }
+            ensures { Q.put_may wiring.entry.now wire piece.entry result }
+        { wiring.put(wire, piece) },
+        &|wire: W| -> (W, bool)
+            requires { Q.ready wiring.now }
+            ensures { Q.flush_may wiring.entry.now wire result }
+        { wiring.flush(wire) },
+    );
+    *sent = counted(*sent, whole_bytes(found));
+    (wire, found)
+}
+
+// Gathers a round again and again, until the ring is closed. What a session gathers itself is left to it, since replies
+// that stay on one processor cost less.
 fn tended<R: Wait, P: PoolName + Send, W: Drop, Q: Wiring<W>>(
     rt: &R,
     pool: &Pool<P>,
@@ -191,10 +213,18 @@ fn tended<R: Wait, P: PoolName + Send, W: Drop, Q: Wiring<W>>(
 {
     let mut naps = Naps::long();
     for _ in rt.forever() {
-        if let Some((outlet, loan)) = place.take() {
-            match outlet.drained(rt, pool, wiring) {
-                Ok(outlet) => return outlet,
-                Err(outlet) => loan.give(outlet),
+        if let Some((mut outlet, loan)) = place.take() {
+            if outlet.helped {
+                outlet.helped = false;
+                loan.give(outlet);
+            } else {
+                let (outlet, round) = outlet.round(pool, wiring);
+                match round {
+                    Round::Idle => {}
+                    Round::Busy => naps.found(),
+                    Round::Closed => return outlet,
+                }
+                loan.give(outlet);
             }
         }
         naps.wait(rt);

@@ -16,8 +16,8 @@ use session_pass::{Gate, laws};
 use std::sync::Wait;
 
 /// Runs the commands of a source in order, each behind the gate, and puts each reply before the next command is read,
-/// to the source's end or until memory is wanting; then the wire is flushed. After a failed put or flush nothing more is
-/// put, and all commands are still run.
+/// to the source's end or until memory is wanting; then the wire is flushed. After a failed put or flush nothing more
+/// is put, and all commands are still run.
 pub(crate) fn serve_in_turns<
     R: Wait,
     N: BookName,

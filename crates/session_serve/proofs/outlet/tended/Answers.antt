@@ -2,14 +2,14 @@ use Rattle.std.proofs.Common.{◌∙◌}
 use Rattle.session_serve.proofs.Between.{more-on, out-on}
 use Rattle.session_serve.proofs.outlet.tended.Goals as goal
 
-pub give-requires : goal.give-requires
-give-requires g c =
+pub give-requires-else-outlet : goal.give-requires-else-outlet
+give-requires-else-outlet g c =
     let taken = c.in-Some-take.ensures in
     let before = rw c.requires.same at taken.0 in
-    let e = c.in-Err.ensures.empty in
-    rw (taken.1, c.requires.same) (e.0 ∙ before.0, more-on _ _ _ _ _ _ _ _ _ _ _ _ _ _ before.1 e.1)
+    let e = c.round-outlet.ensures in
+    rw (taken.1, c.requires.same) (e.ring ∙ before.0, more-on _ _ _ _ _ _ _ _ _ _ _ _ _ _ before.1 e.more)
 
-pub returns-in-Ok-clause-out : goal.returns-in-Ok-clause-out
-returns-in-Ok-clause-out g c =
+pub returns-in-Closed-clause-out : goal.returns-in-Closed-clause-out
+returns-in-Closed-clause-out g c =
     let before = rw c.requires.same at c.in-Some-take.ensures.0 in
-    out-on _ _ _ _ _ _ _ _ _ _ _ _ _ _ before.1 c.in-Ok.ensures.closed.2
+    out-on _ _ _ _ _ _ _ _ _ _ _ _ _ _ before.1 (c.round-outlet.ensures.closed c.in-Closed.is).1
