@@ -18,6 +18,7 @@ use shard_store::PartAnswer;
 use std::sync::Wait;
 
 /// Runs the part of a command that an entry names. A value that it answers goes to the plan.
+#[inline(always)]
 pub(crate) fn run_part<R: Wait, N: BookName, P: PoolName>(
     rt: &R,
     shop: &Shop<'_, N, P>,

@@ -103,6 +103,7 @@ impl<N: BookName, P: PoolName> Pass<N, P> {
     }
 
     /// Takes a reply back, when it was sent. The answer is how many of its holds were the last of their buffers.
+    #[inline(always)]
     pub fn give_back(&mut self, pool: &Pool<P>, parcel: Parcel<P>) -> u64
         requires { length self.old.free + length parcel.staged ≤ stage_size }
         ensures pass { self.new ≡ pass_of self.old.list self.new.seat self.old.stage

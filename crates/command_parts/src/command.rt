@@ -31,6 +31,7 @@ impl Model for Command {
 
 impl Command {
     /// What a request asks for.
+    #[inline(always)]
     pub fn of(request: Request) -> Command
         ensures { result ≡ command_of request }
     {

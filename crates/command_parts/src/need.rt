@@ -10,6 +10,7 @@ use shard_part::Setting;
 
 impl Command {
     /// What the command can need, whatever its parts answer.
+    #[inline(always)]
     pub fn need(&self) -> Need
         ensures need { result ≡ need_of self.now }
         ensures modest { IsModest result }

@@ -123,6 +123,7 @@ impl<S: Source> Pump<S> {
 
     /// The next command, or how the input ended, which later calls answer again and change nothing. A byte that no
     /// request has there makes one command of its own.
+    #[inline(always)]
     pub fn next(&mut self) -> Result<Command, End>
         ensures command { IfOk result (λ command. (input : Option (List ℕ)) (before : ℕ) (given : List Meaning)
             → IsPump input before given self.old

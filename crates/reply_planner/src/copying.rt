@@ -11,6 +11,7 @@ use pinned_pool::{Pool, PoolName, PoolSeat};
 use resp_text::line;
 
 /// Puts bytes at the end, where there is room for them.
+#[inline(always)]
 pub(crate) fn append(text: &mut Vec<u8>, bytes: &[u8])
     requires { length text.old.items + length bytes.now ≤ vec_capacity text.old }
     ensures items { text.new.items ≡ text.old.items ++ bytes.now }

@@ -56,6 +56,7 @@ pub struct Stage<N: PoolName> {
 }
 
 // Puts a hold at a place of a list with room. Most come back to the end, and that costs less.
+#[inline(always)]
 fn insert_reserved<N: PoolName>(list: &mut Vec<Hold<N>>, place: usize, hold: Hold<N>)
     requires place { place ≤ length list.old.items }
     requires room { vec_len list.old < vec_capacity list.old }
@@ -168,6 +169,7 @@ impl<N: PoolName> Stage<N> {
     }
 
     // Puts a hold in its place.
+    #[inline(always)]
     pub(crate) fn put(&mut self, hold: Hold<N>)
         requires staging { IsStaging N.sizes hold }
         requires room { length self.old + 1 ≤ stage_size }
@@ -193,6 +195,7 @@ impl<N: PoolName> Stage<N> {
     }
 
     /// Takes lists back, with the staging buffers in them.
+    #[inline(always)]
     pub(crate) fn restore(&mut self, lists: Box<Lists<N>>)
         requires staging { Each (IsStaging N.sizes) lists.value.staged.items }
         requires room { length self.old + length lists.value.staged.items ≤ stage_size }

@@ -206,6 +206,7 @@ impl<'a, N: PoolName> Taker<N> for Plan<'a, N> {
         self.history.add(Step::BeganPart { len });
     }
 
+    #[inline(always)]
     fn take_part(
         &mut self,
         pool: &Pool<N>,

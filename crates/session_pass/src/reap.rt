@@ -18,6 +18,7 @@ pub struct Reaped {
 
 impl<N: BookName, P: PoolName + Send> Session<N, P> {
     /// Gives the oldest reply back, if it was sent.
+    #[inline(always)]
     pub fn reap_one(&mut self, shop: &Shop<'_, N, P>) -> Option<Reaped>
         ensures one { IfSome result (λ reaped. ReapsOne self.old self.new reaped.call reaped.recycled) }
         ensures none { IfNone result (ReapsNone self.old self.new) }

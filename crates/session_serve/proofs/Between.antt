@@ -105,15 +105,3 @@ module _ {W : Type 0} (put_may : W → Bor (List ℕ) → (W × Bool) → Type 0
     flushed = then.flushed;
     whole = λ start was. then.whole start (first.whole start was);
   }
-
-  -- the last call, which found the ring closed
-  pub out-last : (failed between now : Bool) (before middle after : List Sent) (bytes some counted : ℕ) (old mid new : W) → middle ≡ after
-      → ForwardsMore put_may flush_may failed between before middle bytes some old mid → ForwardsMore put_may flush_may between now middle after some counted mid new
-      → Flushes flush_may between now mid new → ForwardsOut put_may flush_may failed now before after bytes counted old new
-  out-last failed between now before middle after bytes some counted old mid new same first then flush = record {
-    between = between;
-    middle = mid;
-    forwards = forwards-as put_may flush_may failed failed between between before before middle after old mid refl refl refl same first.forwards;
-    flushed = flush;
-    whole = λ start was. then.whole start (first.whole start was);
-  }

@@ -18,6 +18,7 @@ use pinned_pool::{Pool, PoolName};
 use range_pick::{Span, span};
 
 /// The value of a key, which was looked up, goes to the taker. Its holds stay.
+#[inline(always)]
 pub(crate) fn get<P: PoolName, T: Taker<P>>(
     pool: &Pool<P>,
     kept: &mut Kept<P>,

@@ -137,6 +137,7 @@ impl<N: BookName, P: PoolName> Store<N, P> {
 
     /// Does a part in the shard of its key, and enters it there and in the session's list. What it stores is claimed on
     /// the caller's seat, which has its holds and credits again behind the call.
+    #[inline(always)]
     pub fn run_part<R: Wait, T: Taker<P>>(
         &self,
         rt: &R,
