@@ -13,7 +13,7 @@ use Rattle.device_model.specs.declared.gathered.Gathered.TheVariants as found
 use Rattle.device_model.proofs.Forwarding.{forwards-on}
 use Rattle.session_serve.specs.Whole.{whole_bytes_of}
 use Rattle.session_serve.specs.Beside.{ForwardsMore, ForwardsOut}
-use Rattle.session_serve.proofs.Serving.{forwards-nothing, forwards-as}
+use Rattle.session_serve.proofs.Serving.{forwards-nothing}
 use Rattle.session_serve.proofs.Whole.{gathered-more, keeps-on}
 
 -- what a put and a flush may do, and what they may do at most

@@ -118,7 +118,7 @@ fn serve_sides<
         Ok(ended) => match went {
             Ok(outlet) => settled(ended, outlet),
             Err(outlet) => {
-                let outlet = outlet.forward_all(rt, shop.pool, put, flush);
+                let outlet = outlet.forward_all(rt, shop.pool, &Calls { put, flush });
                 settled(ended, outlet)
             }
         },

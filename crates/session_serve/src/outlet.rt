@@ -46,43 +46,23 @@ pub(crate) enum Round {
 
 impl<P: PoolName + Send, W: Drop> Outlet<P, W> {
     /// Puts each reply that is posted, until the ring is closed. The wire is flushed before each wait and at the end.
-    pub fn forward_all<R: Wait, PUT: Fn(W, &[u8]) -> (W, bool), FLUSH: Fn(W) -> (W, bool)>(
-        self,
-        rt: &R,
-        pool: &Pool<P>,
-        put: &PUT,
-        flush: &FLUSH,
-    ) -> Self
-        requires calls { PUT.IsAlwaysCallable put.now × FLUSH.IsAlwaysCallable flush.now }
+    pub fn forward_all<R: Wait, Q: Wiring<W>>(self, rt: &R, pool: &Pool<P>, wiring: &Q) -> Self
+        requires { Q.ready wiring.now }
         ensures ring { device_ring result.device.end ≡ device_ring self.device.end }
         ensures ended { ended result.device.end ≡ true }
-        ensures out { ForwardsOut (λ w p r. PUT.post put.now w p r) (λ w r. FLUSH.post flush.now w r)
-            self.device.failed result.device.failed (completed self.device.end) (completed result.device.end) self.sent
-            result.sent self.wire result.wire }
+        ensures out { ForwardsOut (Q.put_may wiring.now) (Q.flush_may wiring.now) self.device.failed
+            result.device.failed (completed self.device.end) (completed result.device.end) self.sent result.sent
+            self.wire result.wire }
     {
-        let Outlet {
-            mut device,
-            mut wire,
-            mut sent,
-            helped,
-        } = self;
+        let mut outlet = self;
         let mut naps = Naps::new();
         for _ in rt.forever() {
-            let (after, found) = device.gather(pool, wire, put, flush);
-            wire = after;
-            sent = counted(sent, whole_bytes(found));
-            match found {
-                Gathered::Sent { .. } => naps.found(),
-                Gathered::Dropped { .. } => naps.found(),
-                Gathered::Empty => naps.wait(rt),
-                Gathered::Closed => {
-                    return Outlet {
-                        device,
-                        wire,
-                        sent,
-                        helped,
-                    };
-                }
+            let (after, round) = outlet.round(pool, wiring);
+            outlet = after;
+            match round {
+                Round::Idle => naps.wait(rt),
+                Round::Busy => naps.found(),
+                Round::Closed => return outlet,
             }
         }
         unreachable!()
