@@ -4,7 +4,7 @@ use Rattle.std.proofs.lemmas.List.{map-append, take-map, take_more}
 use Rattle.flake_base.specs.Calls.{counted}
 use Rattle.flake_base.specs.Told.{HostTold}
 use Rattle.check_files.specs.File.{are_there, faults_in, faults_of, is_there, left_in, lefts_of}
-use Rattle.check_files.specs.Named.{Named, AreDistinct, AreOther, OpensOne, OpensName, FailsOne, FilesOpened, FileFails, NoneFailed, counted_times, named, names_in, held_by, are_named}
+use Rattle.check_files.specs.Named.{Named, AreDistinct, AreOther, AreEmptyUnnamed, OpensOne, OpensName, FailsOne, FilesOpened, FileFails, NoneFailed, counted_times, named, names_in, held_by, are_named}
 use Rattle.check_files.specs.declared.file.File.{File}
 use Rattle.check_files.proofs.Places.{shown_at}
 
@@ -30,6 +30,14 @@ names_more [] word = refl
 names_more (None ∷ words) word = names_more words word
 names_more (Some name ∷ words) word = ap (λ rest. name ∷ rest) (names_more words word)
 
+empty_more : (words : List Named) (word : Named) (lefts : List (Option (List ℕ))) (left : Option (List ℕ)) → length lefts ≡ length words → AreEmptyUnnamed words lefts → AreEmptyUnnamed (word ∷ []) (left ∷ [])
+    → AreEmptyUnnamed (words ++ word ∷ []) (lefts ++ left ∷ [])
+empty_more [] word [] left same so one = one
+empty_more [] word (other ∷ lefts) left same so one = absurd (cc same)
+empty_more (first ∷ words) word [] left same so one = absurd (cc same)
+empty_more (None ∷ words) word (other ∷ lefts) left same so one = (so.0, empty_more words word lefts left (omega (arith, same)) so.1 one)
+empty_more (Some name ∷ words) word (other ∷ lefts) left same so one = empty_more words word lefts left (omega (arith, same)) so one
+
 -- what is so, while files are opened
 pub record SoFar (words : List Named) (old new : HostTold) (lefts : List (Option (List ℕ))) (faults : List ℕ) (there : List Bool) : Type 0 where
   pub opened : FilesOpened words old new lefts
@@ -40,7 +48,7 @@ pub record SoFar (words : List Named) (old new : HostTold) (lefts : List (Option
 
 pub none_so_far : (host : HostTold) → SoFar [] host host [] [] []
 none_so_far host = record {
-  opened = record { as_many = refl; lefts_are = λ distinct. refl; holds = λ other all. refl; opens = refl; open_faults = λ name. refl };
+  opened = record { as_many = refl; lefts_are = λ distinct. refl; unnamed = tt; holds = λ other all. refl; opens = refl; open_faults = λ name. refl };
   fresh = tt;
   there_is = refl;
   said = refl;
@@ -53,6 +61,7 @@ opened_none words old mid lefts o =
     record {
       as_many = omega (arith, o.as_many, length-append lefts (Some [] ∷ []), length-append words (None ∷ []));
       lefts_are = λ distinct. ap (λ (ls : List (Option (List ℕ))). ls ++ Some [] ∷ []) (o.lefts_are (subst AreDistinct names distinct)) ∙ sym (map-append (held_by old) words (None ∷ []));
+      unnamed = empty_more words None lefts (Some []) o.as_many o.unnamed (refl, tt);
       holds = λ other all. o.holds other (subst (AreOther other) names all);
       opens = o.opens ∙ ap (λ ns. counted_times (length ns) old.opens) (sym names);
       open_faults = o.open_faults;
@@ -67,6 +76,7 @@ opened_some words name old mid new lefts left o one =
       lefts_are = λ distinct.
           let split = distinct_split name (names_in words) (subst AreDistinct names distinct) in
           ap₂ (λ (ls : List (Option (List ℕ))) (l : Option (List ℕ)). ls ++ l ∷ []) (o.lefts_are split.0) (one.left_is ∙ o.holds name split.1) ∙ sym (map-append (held_by old) words (Some name ∷ []));
+      unnamed = empty_more words (Some name) lefts left o.as_many o.unnamed tt;
       holds = λ other all.
           let split = others_split other name (names_in words) (subst (AreOther other) names all) in
           one.others other (λ same. split.1 (sym same)) ∙ o.holds other split.0;

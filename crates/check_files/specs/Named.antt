@@ -29,6 +29,13 @@ abbrev pub held_by : HostTold → Named → Option (List ℕ)
 held_by host None = Some []
 held_by host (Some name) = host.holds name
 
+-- where no name stands there are no bytes
+abbrev pub AreEmptyUnnamed : List Named → List (Option (List ℕ)) → Type 0
+AreEmptyUnnamed [] lefts = Unit {0}
+AreEmptyUnnamed (word ∷ words) [] = Unit {0}
+AreEmptyUnnamed (None ∷ words) (left ∷ lefts) = (left ≡ Some []) × AreEmptyUnnamed words lefts
+AreEmptyUnnamed (Some name ∷ words) (left ∷ lefts) = AreEmptyUnnamed words lefts
+
 -- none of the names is this one
 abbrev pub AreOther : List ℕ → List (List ℕ) → Type 0
 AreOther name names = AllByRecursion (λ other. other ≢ name) names
@@ -77,6 +84,7 @@ FailsOne (Some name) old new = NotOpened name old new
 pub record FilesOpened (words : List Named) (old new : HostTold) (lefts : List (Option (List ℕ))) : Type 0 where
   pub as_many : length lefts ≡ length words
   pub lefts_are : AreDistinct (names_in words) → lefts ≡ map (held_by old) words
+  pub unnamed : AreEmptyUnnamed words lefts
   pub holds : (other : List ℕ) → AreOther other (names_in words) → new.holds other ≡ old.holds other
   pub opens : new.opens ≡ counted_times (length (names_in words)) old.opens
   pub open_faults : (name : List ℕ) → new.open_faults name ≡ old.open_faults name
