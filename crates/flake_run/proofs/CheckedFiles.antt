@@ -120,6 +120,7 @@ module _ {S : Type 0} (left : S → Option (List ℕ)) (faults : S → ℕ) wher
   opened_since words old mid new lefts opened leaves = record {
     as_many = opened.as_many;
     lefts_are = opened.lefts_are;
+    unnamed = opened.unnamed;
     holds = λ other all. leaves.holds other ∙ opened.holds other all;
     opens = leaves.opens ∙ opened.opens;
     open_faults = λ name. leaves.open_faults name ∙ opened.open_faults name;

@@ -1,5 +1,5 @@
 -- What is known of a run that served its files, and the clauses that this gives.
-use Rattle.std.proofs.Common.{◌≡◌, ◌≢◌, ◌⊎◌, ◌≤◌, ◌<◌, ℕ, Bool, false, true, List, [], ◌∷◌, Option, Some, All, length, map, refl, sym, ap, ◌∙◌, subst}
+use Rattle.std.proofs.Common.{◌≡◌, ◌≢◌, ◌⊎◌, inl, inr, ◌≤◌, ◌<◌, ℕ, Bool, false, true, List, [], ◌∷◌, Option, Some, All, length, map, refl, sym, ap, ◌∙◌, subst}
 use Rattle.std.specs.List.{range_with_len, list_any}
 use Rattle.std.proofs.lemmas.List.{length-map}
 use Rattle.std.proofs.lemmas.List.FromFn.{length-range_with_len}
@@ -24,7 +24,7 @@ use Rattle.flake_run.specs.Served.{Served}
 use Rattle.flake_run.specs.Untouched.{Untouched}
 use Rattle.flake_run.specs.Causes.{Causes, AreCountsOf, highest_by}
 use Rattle.flake_run.specs.Complete.{Complete}
-use Rattle.flake_run.specs.Said.{Said, Says, served_text}
+use Rattle.flake_run.specs.Said.{Said, Says, SaysOrLacksRoom, served_text}
 
 -- the statuses of what was served
 abbrev pub IsServedStatus : ℕ → Type 0
@@ -53,7 +53,7 @@ pub record Ran {W : Type 0} (tells : W → WireTold) (job : Job) (host now : Hos
   pub shards : length done.journal ≡ job.sizes.shards
   pub reads : AreCountsOf (ways done.ends) (read_faults_of done.sources)
   pub to_the_end : All (λ way. way ≢ Left) (ways done.ends)
-  pub said : done.status ≢ 6 → Says (served_text job.journal done.journal done.ends done.held) host now
+  pub said : SaysOrLacksRoom done.status (served_text job.journal done.journal done.ends done.held) host now
   pub statuses : IsServedStatus done.status
   pub by_end : done.status ≢ 5 → done.status ≢ 6 → (done.status ≡ highest_by (ways done.ends))
       × (list_any (λ (end : SessionEnd). end.failed) done.ends ≡ false) × (now.say_faults ≡ host.say_faults)
@@ -87,6 +87,10 @@ says_since text old mid new said count says = record {
   whole = λ quiet. subst (λ o. Grew false text o new.said) said (says.whole (λ rose. quiet (subst (λ n. Rose n new.say_faults) count rose)));
 }
 
+pub told_since : (status : ℕ) (text : List ℕ) (old mid new : HostTold) → mid.said ≡ old.said → mid.say_faults ≡ old.say_faults → SaysOrLacksRoom status text mid new → SaysOrLacksRoom status text old new
+told_since status text old mid new said count (inl says) = inl (says_since text old mid new said count says)
+told_since status text old mid new said count (inr lacks) = inr (lacks.0, record { said = lacks.1.said ∙ said; none_failed = lacks.1.none_failed ∙ count })
+
 -- sources whose reads had not failed before
 pub counts_from : {A : Type 0} (ends : List SessionEnd) (names : List A) (nows : List ℕ) → AreReads ends (map (λ (_ : A). 0) names) nows → AreCountsOf (ways ends) nows
 counts_from [] [] [] reads = refl
@@ -98,7 +102,7 @@ counts_from (end ∷ ends) (name ∷ names) (now ∷ nows) reads = (reads.0, cou
 
 -- what a report of sessions has said and answered
 pub record Reported (old new : HostTold) (status : ℕ) (shows : Bool) (journal : List (List Entry)) (ends : List SessionEnd) (held : Held) : Type 0 where
-  pub said : status ≢ 6 → Says (served_text shows journal ends held) old new
+  pub said : SaysOrLacksRoom status (served_text shows journal ends held) old new
   pub statuses : IsServedStatus status
   pub by_end : status ≢ 5 → status ≢ 6 → (status ≡ highest_by (ways ends))
       × (list_any (λ (end : SessionEnd). end.failed) ends ≡ false) × (new.say_faults ≡ old.say_faults)

@@ -27,7 +27,7 @@ use Rattle.flake_run.specs.Generated.{AllInWhole, Generated, IsGeneratedRun, IsU
 use Rattle.flake_run.specs.Outcome.{Done, ways}
 use Rattle.flake_run.specs.Outside.{Outside, LeavesFiles, outside}
 use Rattle.flake_run.specs.Refusals.{IsRefused}
-use Rattle.flake_run.specs.Said.{Says}
+use Rattle.flake_run.specs.Said.{SaysOrLacksRoom}
 use Rattle.flake_run.specs.declared.outcome.Detail.TheVariants.{Nothing}
 use Rattle.flake_run.specs.declared.outcome.Refusal.{Refusal}
 use Rattle.flake_run.specs.declared.outcome.Refusal.TheVariants.{BadWords, Memory as NoMemory}
@@ -195,7 +195,7 @@ module _ {W : Type 0} (task : Option GenTask) (before after : Outside W) (done :
 
 -- what was said, and the status
 pub record Reported (host now : HostTold) (status : ℕ) (ends : List SessionEnd) (bytes : ℕ) (held : Held) : Type 0 where
-  pub said : status ≢ 6 → Says (total_line (replies_in ends) bytes held) host now
+  pub said : SaysOrLacksRoom status (total_line (replies_in ends) bytes held) host now
   pub by_end : status ≢ 5 → status ≢ 6 → (status ≡ highest_by (ways ends)) × (list_any (λ (end : SessionEnd). end.failed) ends ≡ false) × (now.say_faults ≡ host.say_faults)
   pub failed : status ≡ 5 → (highest_by (ways ends) ≢ 6) × ((list_any (λ (end : SessionEnd). end.failed) ends ≡ true) ⊎ Rose host.say_faults now.say_faults)
   pub statuses : (status ≡ 0) ⊎ (status ≡ 3) ⊎ (status ≡ 4) ⊎ (status ≡ 5) ⊎ (status ≡ 6)
@@ -241,7 +241,7 @@ answered_all {W} task tells host now wires after done a = record {
       shards = a.shards;
       counts = a.run.counts;
       wholes = a.run.wholes;
-      said = λ six. subst (λ bytes. Says (total_line (replies_in done.ends) bytes done.held) host now) a.run.sums (a.reported.said six);
+      said = subst (λ bytes. SaysOrLacksRoom done.status (total_line (replies_in done.ends) bytes done.held) host now) a.run.sums a.reported.said;
     },
   );
   some = λ status. there;

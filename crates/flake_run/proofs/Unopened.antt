@@ -107,6 +107,7 @@ module _ {W : Type 0} (tells : W → WireTold) (task : Task) (job : Job) (host m
     text = λ other. subst (λ text. Says text host now) (sym text_is)
         (says_since _ host mid now (u.fails.unopened.said ∙ u.fails.opened.said) (u.fails.unopened.say_faults ∙ u.fails.opened.say_faults) u.refused.said);
     no_memory = λ six. absurd (omega (arith, six, two));
+    served = λ some. absurd (some u.refused.ends);
   }
 
   pub unopened_all : Clauses tells task host now wires after (record before { sources = sources })

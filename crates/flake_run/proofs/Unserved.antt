@@ -81,5 +81,6 @@ module _ {W : Type 0} (tells : W → WireTold) (task : Task) (job : Job) (host m
     said = record {
       text = λ other. absurd (other six);
       no_memory = λ is none. says_since _ host mid now u.opened.said u.opened.say_faults u.refused.said;
+      served = λ some. absurd (some u.refused.ends);
     };
   })

@@ -25,7 +25,7 @@ use Rattle.serve_generated.specs.Generated.{HadMemory, IsTooMuch, commands_in_al
 use Rattle.flake_run.specs.Causes.{SomePutFailed, status_by, highest_by}
 use Rattle.flake_run.specs.Outside.{Outside, LeavesFiles, sent_by, bytes_of, kept_by, faults_of}
 use Rattle.flake_run.specs.Outcome.{Done, none_held, ways}
-use Rattle.flake_run.specs.Said.{Says}
+use Rattle.flake_run.specs.Said.{Says, SaysOrLacksRoom}
 use Rattle.flake_run.specs.Serving.{IsRun}
 use Rattle.flake_run.specs.declared.outcome.Detail.TheVariants.{Nothing}
 
@@ -108,8 +108,8 @@ pub record ServedRequests {W : Type 0} (task : GenTask) (before after : Outside 
   pub counts : List ℕ
   pub wholes : AllInWhole (all_replies run.sessions done.journal) counts (map before.tells before.wires)
       (map after.tells after.wires)
-  -- and that is said, unless memory was wanting: all replies, all these bytes, and what is held
-  pub said : done.status ≢ 6 → Says (total_line (replies_in done.ends) (raised 0 (sum_of counts)) done.held)
+  -- and that is said: all replies, all these bytes, and what is held
+  pub said : SaysOrLacksRoom done.status (total_line (replies_in done.ends) (raised 0 (sum_of counts)) done.held)
       before.host after.host
 
 -- there is no task, or not a wire for each session, or no pool can have as many buffers as it needs

@@ -1,5 +1,5 @@
 -- What a run says to its host.
-use Rattle.std.specs.Prelude.{◌≡◌, ◌≢◌, ℕ, ◌==◌, ◌++◌, ◌∷◌, Bool, if◌then◌else◌, true, false, List, [], codes}
+use Rattle.std.specs.Prelude.{◌≡◌, ◌≢◌, ◌⊎◌, ℕ, ◌==◌, ◌++◌, ◌∷◌, Bool, if◌then◌else◌, true, false, List, [], codes}
 use Rattle.std.specs.Fmt.{decimal}
 use Rattle.flake_base.specs.Causes.{Rose}
 use Rattle.flake_base.specs.Growth.{Grew}
@@ -19,6 +19,15 @@ use Rattle.flake_run.specs.declared.outcome.Detail.TheVariants.{File}
 pub record Says (text : List ℕ) (old new : HostTold) : Type 0 where
   pub front : Grew true text old.said new.said
   pub whole : (Rose old.say_faults new.say_faults → ⊥) → Grew false text old.said new.said
+
+-- nothing was said
+pub record SaysNothing (old new : HostTold) : Type 0 where
+  pub said : new.said ≡ old.said
+  pub none_failed : new.say_faults ≡ old.say_faults
+
+-- A text was said. Or nothing was, where memory was wanting for the text itself, which has a status of its own.
+abbrev pub SaysOrLacksRoom : ℕ → List ℕ → HostTold → HostTold → Type 0
+SaysOrLacksRoom status text old new = Says text old new ⊎ ((status ≡ 6) × SaysNothing old new)
 
 -- how many small and large buffers are held at the end
 abbrev pub held_line : Held → List ℕ
@@ -50,3 +59,7 @@ pub record Said {W : Type 0} (task : Task) (before after : Outside W) (done : Do
       before.host after.host
   -- and where it was wanting before anything was served, that
   pub no_memory : done.status ≡ 6 → done.ends ≡ [] → Says (said_line (codes "out of memory")) before.host after.host
+  -- where something was served the same is said of it, also where memory was wanting
+  pub served : done.ends ≢ []
+      → SaysOrLacksRoom done.status (served_text (shows_journal task) done.journal done.ends done.held)
+      before.host after.host

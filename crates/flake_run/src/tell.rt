@@ -8,7 +8,7 @@ ghost use Rattle.flake_run.specs.Generated.{replies_in, total_line};
 ghost use Rattle.flake_run.specs.Outside.{LeavesFiles, outside};
 ghost use Rattle.flake_run.specs.Outcome.{done, source_told, ways};
 ghost use Rattle.flake_run.specs.Refusals.{IsNumbered, IsRefused};
-ghost use Rattle.flake_run.specs.Said.{Says, served_text};
+ghost use Rattle.flake_run.specs.Said.{Says, SaysOrLacksRoom, served_text};
 ghost use Rattle.shard_store.specs.Journals.{histories};
 
 use crate::outcome::{
@@ -130,7 +130,7 @@ pub fn report<H: Host>(
     held: Held,
 ) -> u8
     requires { length ends.now ≤ 16 }
-    ensures said { result ≢ 6 → Says (served_text shows_journal (histories journal.now.items) ends.now held)
+    ensures said { SaysOrLacksRoom result (served_text shows_journal (histories journal.now.items) ends.now held)
         (H.host_told host.old) (H.host_told host.new) }
     ensures files { LeavesFiles (H.host_told host.old) (H.host_told host.new) }
     ensures by_end { result ≢ 5 → result ≢ 6 → (result ≡ highest_by (ways ends.now))
@@ -155,7 +155,7 @@ pub fn report_total<H: Host>(
     held: Held,
 ) -> u8
     requires { length ends.now ≤ 16 }
-    ensures said { result ≢ 6 → Says (total_line (replies_in ends.now) bytes held) (H.host_told host.old)
+    ensures said { SaysOrLacksRoom result (total_line (replies_in ends.now) bytes held) (H.host_told host.old)
         (H.host_told host.new) }
     ensures files { LeavesFiles (H.host_told host.old) (H.host_told host.new) }
     ensures by_end { result ≢ 5 → result ≢ 6 → (result ≡ highest_by (ways ends.now))

@@ -20,7 +20,7 @@ use Rattle.flake_run.specs.Refusals.{IsRefused}
 use Rattle.flake_run.specs.Serving.{IsRun}
 use Rattle.flake_run.specs.Task.{shown_task, task_of}
 use Rattle.flake_run.proofs.Numbers.{are_numbered}
-use Rattle.flake_run.proofs.Ran.{IsTask, Reported, counts_from, says_since}
+use Rattle.flake_run.proofs.Ran.{IsTask, Reported, counts_from, told_since}
 use Rattle.flake_run.proofs.RanAll.{ran_all}
 use Rattle.flake_run.proofs.Unopened.{unopened_all}
 use Rattle.flake_run.proofs.Unserved.{unserved_all}
@@ -120,7 +120,7 @@ returns-in-Ok-serve_sources g c =
       reads = subst (AreCountsOf (ways ran.ends.items)) (sym numbers.faults_are)
           (counts_from ran.ends.items job.names _ (subst (λ ns. AreReads ran.ends.items ns (map (λ s. g.H.In.Source.read_faults s) ran.sources.items)) opened.fresh said.reads));
       to_the_end = All-map (λ (way : End). way ≢ Left) (λ (end : SessionEnd). end.end) ran.ends.items said.to_the_end;
-      said = λ other. says_since _ _ _ _ opened.said opened.say_faults (reported.said other);
+      said = told_since _ _ _ _ _ opened.said opened.say_faults reported.said;
       statuses = reported.statuses;
       by_end = λ five six. let so = reported.by_end five six in (so.0, so.1, so.2 ∙ opened.say_faults);
       failed = λ five.
