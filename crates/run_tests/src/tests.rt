@@ -75,7 +75,7 @@ const CANNOT_OPEN: Row = Row {
     ..SERVED
 };
 
-/// What the tests compare of a run, as plain values.
+/// What the tests compare of a run, as plain values, and its wires.
 #[derive(Drop)]
 struct Seen {
     status: u8,
@@ -86,6 +86,8 @@ struct Seen {
     journal: Bytes,
     /// What each wire tells that it was sent; nothing of one that doesn't tell it.
     sent: Vec<Bytes>,
+    /// All wires, for a further run.
+    wires: Vec<Box<dyn Wire>>,
 }
 
 fn text_of(alloc: Global, journal: &Journal) -> Result<Bytes, Fail> {
@@ -113,6 +115,7 @@ fn make_seen<S: Drop>(alloc: Global, outcome: Outcome<S>) -> Result<Seen, Fail> 
         sources: outcome.sources.len(),
         journal: text_of(alloc, &outcome.journal)?,
         sent: sent_by(alloc, outcome.wires.as_slice())?,
+        wires: outcome.wires,
     })
 }
 
@@ -273,11 +276,11 @@ fn repeated(alloc: Global, text: &[u8], count: usize) -> Result<Bytes, Fail> {
 const PING: &[u8] = b"*1\r\n$4\r\nPING\r\n";
 
 /// The files that several sessions serve.
-static NAMES: [&str; 3] = ["in0.resp", "in1.resp", "in2.resp"];
+static NAMES: [&str; 4] = ["in0.resp", "in1.resp", "in2.resp", "in3.resp"];
 
 // A host that holds these inputs under the names, in order.
 fn files_host(alloc: Global, inputs: &[&[u8]]) -> Result<MemoryHost, Fail> {
-    let mut files = Files::with_room(alloc, 3)?;
+    let mut files = Files::with_room(alloc, 4)?;
     for (name, input) in NAMES.iter().zip(inputs) {
         files.push((
             String::from_str(alloc, name)?,
@@ -290,7 +293,7 @@ fn files_host(alloc: Global, inputs: &[&[u8]]) -> Result<MemoryHost, Fail> {
 fn memory_wires(alloc: Global, count: usize) -> Result<Vec<Box<dyn Wire>>, Fail> {
     let mut wires: Vec<Box<dyn Wire>> = Vec::new(alloc);
     for _ in 0..count {
-        let wire = MemoryWire::new(alloc, 4096, Fails::new(alloc))?;
+        let wire = MemoryWire::new(alloc, 65_536, Fails::new(alloc))?;
         wires.push(Box::new(alloc, wire)?)?;
     }
     Ok(wires)

@@ -40,7 +40,12 @@ const SAME: Row = Row {
 };
 
 // A file of a check.
-fn add_file(alloc: Global, files: &mut Files, name: &str, bytes: Bytes) -> Result<(), Fail> {
+pub(super) fn add_file(
+    alloc: Global,
+    files: &mut Files,
+    name: &str,
+    bytes: Bytes,
+) -> Result<(), Fail> {
     files.push((String::from_str(alloc, name)?, bytes))?;
     Ok(())
 }

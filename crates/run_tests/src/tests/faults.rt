@@ -171,7 +171,7 @@ fn files_that_do_not_open(rt: HostRuntime) -> Result<(), Fail> {
 
 /// Words that are no command, sizes that are too small, too large or no multiple of 8, too few or too many workers, and
 /// two files for one wire.
-static NO_COMMANDS: [&[&str]; 14] = [
+static NO_COMMANDS: [&[&str]; 15] = [
     &[],
     &["serve"],
     &["FLY"],
@@ -181,6 +181,7 @@ static NO_COMMANDS: [&[&str]; 14] = [
     &["serve", "--large", "0", "in.resp"],
     &["serve", "--small", "127", "in.resp"],
     &["serve", "--shards", "17", "in.resp"],
+    &["serve", "--ring", "513", "in.resp"],
     &["serve", "--ring", "1164", "in.resp"],
     &["serve", "--threshold", "in.resp"],
     &["serve", "--fly", "1", "in.resp"],

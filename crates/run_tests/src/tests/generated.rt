@@ -1,6 +1,8 @@
-// What `gen` says.
-use super::{expect, fails, ran};
-use flake_base::{CountWire, Files, MemoryHost, Wire};
+// What `gen` says, and what `check` says of its journal and replies.
+use super::checks::add_file;
+use super::{Detail, Seen, expect, fails, memory_wires, ran};
+use flake_base::{Bytes, CountWire, Fails, Files, MemoryHost, Wire};
+use request_gen::session_input;
 use std::alloc::Global;
 use std::process::Abort;
 use std::sync::Wait;
@@ -53,4 +55,110 @@ fn counted(rt: HostRuntime) -> Result<(), Fail> {
         check_counted(&rt, rt.alloc(), words, said)?;
     }
     Ok(())
+}
+
+// What a session is asked. It is the only call of `session_input`, and has no clauses, so that nothing else carries
+// those of `session_input`.
+fn asked(alloc: Global, session: u16) -> Result<Bytes, Fail> {
+    Ok(session_input(alloc, 7, session.min(15), 40)?)
+}
+
+// A run of the two sessions that are asked so.
+fn generated<R: Abort + Threads + Wait + Sync>(rt: &R, alloc: Global) -> Result<Seen, Fail> {
+    let words = ["gen", "7", "--sessions", "2", "--requests", "40"];
+    let mut host = MemoryHost::new(alloc, Files::new(alloc), 4096, Fails::new(alloc))?;
+    let seen = ran(rt, alloc, &words, &mut host, memory_wires(alloc, 2)?)?;
+    assert_eq!(rt; seen.status, 0);
+    Ok(seen)
+}
+
+// The files that replies of the two sessions are checked by.
+fn check_host(alloc: Global, journal: &[u8], zero: &[u8], one: &[u8]) -> Result<MemoryHost, Fail> {
+    let mut files = Files::with_room(alloc, 5)?;
+    for (name, bytes) in [("j", journal), ("r0", zero), ("r1", one)] {
+        add_file(alloc, &mut files, name, Bytes::from_slice(alloc, bytes)?)?;
+    }
+    for (name, session) in [("i0", 0), ("i1", 1)] {
+        add_file(alloc, &mut files, name, asked(alloc, session)?)?;
+    }
+    Ok(MemoryHost::new(alloc, files, 4096, Fails::new(alloc))?)
+}
+
+// Checks the files of such a host.
+fn check_verdict<R: Abort + Threads + Wait + Sync>(
+    rt: &R,
+    alloc: Global,
+    host: &mut MemoryHost,
+    status: u8,
+    detail: Detail,
+    said: &str,
+) -> Result<(), Fail> {
+    let words = ["check", "j", "i0", "r0", "i1", "r1"];
+    let seen = ran(rt, alloc, &words, host, Vec::new(alloc))?;
+    expect(rt, host, &seen, status, said.as_bytes(), b"");
+    assert_eq!(rt; seen.detail, detail);
+    Ok(())
+}
+
+/// Replies of which one byte is another one.
+#[derive(Drop)]
+struct Changed {
+    bytes: Bytes,
+    place: usize,
+    expected: u8,
+    found: u8,
+}
+
+// The byte in the middle is another one.
+fn change_middle(alloc: Global, replies: &[u8]) -> Result<Changed, Fail> {
+    let place = replies.len() / 2;
+    let (front, back) = replies.split_at_checked(place).ok_or("no replies")?;
+    let [expected, rest @ ..] = back else {
+        return Err("no replies".into());
+    };
+    let found = *expected ^ 1;
+    let mut bytes = Bytes::from_slice(alloc, front)?;
+    bytes.push(found)?;
+    bytes.append(rest)?;
+    Ok(Changed {
+        bytes,
+        place,
+        expected: *expected,
+        found,
+    })
+}
+
+// Checks such replies of session 1.
+fn check_changed<R: Abort + Threads + Wait + Sync>(
+    rt: &R,
+    alloc: Global,
+    host: &mut MemoryHost,
+    replies: &Changed,
+) -> Result<(), Fail> {
+    let (place, expected, found) = (replies.place, replies.expected, replies.found);
+    let detail = Detail::Differs {
+        session: 1,
+        place: place as u64,
+        expected: Some(expected),
+        found: Some(found),
+    };
+    let said = format!(in alloc;
+        "differs session 1 place {place} expected {expected} found {found}\n"
+    )?;
+    check_verdict(rt, alloc, host, 8, detail, said.as_str())
+}
+
+#[test]
+fn a_generated_run_that_is_checked(rt: HostRuntime) -> Result<(), Fail> {
+    let alloc = rt.alloc();
+    let seen = generated(&rt, alloc)?;
+    let journal = seen.journal.as_slice();
+    let [zero, one] = seen.sent.as_slice() else {
+        return Err("there are two wires".into());
+    };
+    let mut host = check_host(alloc, journal, zero.as_slice(), one.as_slice())?;
+    check_verdict(&rt, alloc, &mut host, 0, Detail::Nothing, "same\n")?;
+    let replies = change_middle(alloc, one.as_slice())?;
+    let mut host = check_host(alloc, journal, zero.as_slice(), replies.bytes.as_slice())?;
+    check_changed(&rt, alloc, &mut host, &replies)
 }

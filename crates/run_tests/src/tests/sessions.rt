@@ -1,5 +1,6 @@
 //! Several files at once.
-use super::{expect, files_host, memory_wires, ran};
+use super::{PAIR, PING, Seen, expect, files_host, memory_wires, ran};
+use flake_base::MemoryHost;
 use flake_run::Detail;
 use std::alloc::Global;
 use std::process::Abort;
@@ -99,5 +100,49 @@ fn fewer_wires_than_files(rt: HostRuntime) -> Result<(), Fail> {
     let seen = ran(&rt, alloc, &words, &mut host, wires)?;
     expect(&rt, &host, &seen, 1, b"bad words\n", b"");
     assert_eq!(rt; host.opens(), 0);
+    Ok(())
+}
+
+/// What two runs of two sessions are asked: SET a 1 and GET a, PING; then GET a and SET a 2, PING hi.
+static OF_TWO_RUNS: [&[u8]; 4] = [
+    PAIR,
+    PING,
+    b"*2\r\n$3\r\nGET\r\n$1\r\na\r\n*3\r\n$3\r\nSET\r\n$1\r\na\r\n$1\r\n2\r\n",
+    b"*2\r\n$4\r\nPING\r\n$2\r\nhi\r\n",
+];
+
+// A run of two sessions, and one over the host and the wires that it leaves.
+fn ran_twice<R: Threads + Wait + Sync>(
+    rt: &R,
+    alloc: Global,
+    host: &mut MemoryHost,
+) -> Result<Seen, Fail> {
+    let wires = memory_wires(alloc, 2)?;
+    let words = ["serve", "in0.resp", "in1.resp"];
+    let first = ran(rt, alloc, &words, host, wires)?;
+    let words = ["serve", "in2.resp", "in3.resp"];
+    ran(rt, alloc, &words, host, first.wires)
+}
+
+// The second run's store is empty again. What it sends and says stands behind what the first run sent and said.
+#[test]
+fn a_run_behind_another(rt: HostRuntime) -> Result<(), Fail> {
+    let alloc = rt.alloc();
+    let mut host = files_host(alloc, &OF_TWO_RUNS)?;
+    let seen = ran_twice(&rt, alloc, &mut host)?;
+    let said = b"session 0 clean taken 47 replies 2 wire whole\n\
+        session 1 clean taken 14 replies 1 wire whole\nheld 1 0\n\
+        session 0 clean taken 47 replies 2 wire whole\n\
+        session 1 clean taken 22 replies 1 wire whole\nheld 1 0\n";
+    assert_eq!(rt; host.said(), said.as_slice());
+    assert_eq!(rt; (seen.status, host.opens()), (0, 4));
+    let [zero, one] = seen.sent.as_slice() else {
+        return Err("there are two wires".into());
+    };
+    assert_eq!(rt;
+        zero.as_slice(),
+        b"+OK\r\n$1\r\n1\r\n$-1\r\n+OK\r\n".as_slice()
+    );
+    assert_eq!(rt; one.as_slice(), b"+PONG\r\n$2\r\nhi\r\n".as_slice());
     Ok(())
 }
