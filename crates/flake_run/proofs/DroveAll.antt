@@ -180,6 +180,7 @@ module _ {W : Type 0} (tells : W → WireTold) (task : Option Drive) (job : Driv
         left = left;
         inputs = inputs;
         inputs_are = opened.lefts_are;
+        own = opened.own;
         opened = all;
         driven = driven_since left inputs done opened.said opened.say_faults (came.driven some);
       }))

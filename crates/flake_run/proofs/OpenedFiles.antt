@@ -7,7 +7,7 @@ use Rattle.flake_base.specs.Calls.{counted}
 use Rattle.flake_base.specs.Told.{HostTold}
 use Rattle.shard_core.specs.Keys.{same_bytes}
 use Rattle.check_files.specs.Named.{AreDistinct, AreOther, counted_times}
-use Rattle.flake_run.specs.Opening.{AreOpened, FailsToOpen, IsUnopened}
+use Rattle.flake_run.specs.Opening.{AreOpened, FailsToOpen, HaveTheirOwn, IsUnopened}
 
 -- one name more
 others_split : (name last : List ℕ) (names : List (List ℕ)) → AreOther name (names ++ last ∷ []) → AreOther name names × (last ≢ name)
@@ -20,6 +20,24 @@ distinct_split last (name ∷ names) all =
     let here = others_split name last names all.0 in
     let rest = distinct_split last names all.1 in
     ((here.0, rest.0), ((λ same. here.1 (sym same)), rest.1))
+
+-- the names in front of what comes behind these
+onto : List (List ℕ) → List (List ℕ) → List (List ℕ)
+onto [] before = before
+onto (name ∷ names) before = onto names (name ∷ before)
+
+others_onto : (name : List ℕ) (names before : List (List ℕ)) → AreOther name (onto names before) → AreOther name names × AreOther name before
+unfolding onto
+others_onto name [] before all = (tt, all)
+others_onto name (other ∷ names) before all = let rest = others_onto name names (other ∷ before) all in ((rest.1.0, rest.0), rest.1.1)
+
+own_more : (holds : List ℕ → Option (List ℕ)) (before names : List (List ℕ)) (name : List ℕ) (lefts : List (Option (List ℕ))) (left : Option (List ℕ)) → length lefts ≡ length names → HaveTheirOwn holds before names lefts
+    → (AreOther name (onto names before) → left ≡ holds name) → HaveTheirOwn holds before (names ++ name ∷ []) (lefts ++ left ∷ [])
+unfolding onto
+own_more holds before [] name [] left same own one = (one, tt)
+own_more holds before [] name (other ∷ lefts) left same own one = absurd (cc same)
+own_more holds before (first ∷ names) name [] left same own one = absurd (cc same)
+own_more holds before (first ∷ names) name (other ∷ lefts) left same own one = (own.0, own_more holds (first ∷ before) names name lefts left (omega (arith, same)) own.1 one)
 
 longer : (names : List (List ℕ)) (name : List ℕ) → length (names ++ name ∷ []) ≡ suc (length names)
 longer [] name = refl
@@ -34,6 +52,7 @@ opened_more names name old mid new lefts left faults fault o is none others open
   lefts_are = λ distinct.
       let split = distinct_split name names distinct in
       ap₂ (λ (ls : List (Option (List ℕ))) (l : Option (List ℕ)). ls ++ l ∷ []) (o.lefts_are split.0) (is ∙ o.holds name split.1) ∙ sym (map-append old.holds names (name ∷ []));
+  own = own_more old.holds [] names name lefts left o.as_many o.own (λ all. is ∙ o.holds name (others_onto name names [] all).0);
   fresh = ap₂ (λ (ns : List ℕ) (n : ℕ). ns ++ n ∷ []) o.fresh none ∙ sym (map-append (λ (n : List ℕ). 0) names (name ∷ []));
   holds = λ other all.
       let split = others_split other name names all in

@@ -35,6 +35,7 @@ pub ran_served : {W : Type 0} (tells : W → WireTold) (task : Task) (job : Job)
 ran_served tells task job host now wires after done t r = subst (λ t. Served t (outside host wires tells) (outside now after tells) done) (sym t.task_is) (record {
   inputs = r.inputs;
   inputs_are = r.opened.lefts_are;
+  own = r.opened.own;
   run = r.run.run;
   pool = r.pool;
   pool_is = r.pool_is;

@@ -13,7 +13,7 @@ use Rattle.flake_run.specs.Checked.{IsConcluded, NoneOpened}
 use Rattle.flake_run.specs.Complete.{IsWhole}
 use Rattle.flake_run.specs.Driven.{WasDriven}
 use Rattle.flake_run.specs.DriveTask.{Drive, IsUndrivable, served_names}
-use Rattle.flake_run.specs.Opening.{AreOpened, FailsToOpen}
+use Rattle.flake_run.specs.Opening.{AreOpened, FailsToOpen, HaveTheirOwn}
 use Rattle.flake_run.specs.Outcome.{Done, SourceTold, files_of, lefts_of, read_faults_of}
 use Rattle.flake_run.specs.Outside.{Outside, LeavesFiles}
 use Rattle.flake_run.specs.Schedule.{IsUndriven, schedule_limit}
@@ -87,10 +87,12 @@ pub record NothingServed {W : Type 0} (task : Option Drive) (before after : Outs
 
 -- The files were opened, and those behind the schedule's were driven by it.
 pub record DroveFiles {W : Type 0} (job : Drive) (before after : Outside W) (done : Done) : Type 0 where
-  -- what the schedule's source had left, and the inputs: they were held under the names, where no name stands twice
+  -- what the schedule's source had left, and the inputs: they were held under the names, where no name stands twice;
+  -- else each was that stands under its name first
   pub left : Option (List ℕ)
   pub inputs : List (Option (List ℕ))
   pub inputs_are : AreDistinct job.names → left ∷ inputs ≡ map before.host.holds job.names
+  pub own : HaveTheirOwn before.host.holds [] job.names (left ∷ inputs)
   -- each file was opened once, none failed to open, and each source comes back
   pub opened : AllOpened job.names before.host after.host left inputs done.sources
   -- the headline, and what was said of it

@@ -1,5 +1,5 @@
 -- What a run says of what it served.
-use Rattle.std.specs.Prelude.{◌≡◌, ◌≢◌, ◌≤◌, ℕ, List, Option, Some, length, map, drop, All}
+use Rattle.std.specs.Prelude.{◌≡◌, ◌≢◌, ◌≤◌, ℕ, List, [], Option, Some, length, map, drop, All}
 use Rattle.std.specs.List.{range_with_len}
 use Rattle.flake_base.specs.Told.{HostTold}
 use Rattle.flake_base.specs.declared.session.End.TheVariants.{Left}
@@ -11,6 +11,7 @@ use Rattle.pinned_pool.specs.Ends.{End}
 use Rattle.serve_model.specs.Demand.{demand_of}
 use Rattle.serve_model.specs.Shown.{IsCounted}
 use Rattle.check_files.specs.Named.{AreDistinct, counted_times}
+use Rattle.flake_run.specs.Opening.{HaveTheirOwn}
 use Rattle.flake_run.specs.Task.{Task, names_of, pool_of, shards_of}
 use Rattle.flake_run.specs.Outside.{Outside, sent_by, bytes_of, kept_by, faults_of}
 use Rattle.flake_run.specs.Outcome.{Done, ways, files_of, lefts_of}
@@ -20,9 +21,10 @@ abbrev pub inputs_of : Task → HostTold → List (Option (List ℕ))
 inputs_of task host = map host.holds (names_of task)
 
 pub record Served {W : Type 0} (task : Task) (before after : Outside W) (done : Done) : Type 0 where
-  -- the inputs were held under the names, where no name stands twice
+  -- the inputs were held under the names, where no name stands twice; else each was that stands under its name first
   pub inputs : List (Option (List ℕ))
   pub inputs_are : AreDistinct (names_of task) → inputs ≡ inputs_of task before.host
+  pub own : HaveTheirOwn before.host.holds [] (names_of task) inputs
   -- the journal has the parts that were run, in one history, and the wires were sent the texts of the replies that it
   -- gives
   pub run : WasServed inputs (lefts_of done.sources) done.ends done.journal (sent_by before) (sent_by after)
