@@ -4,23 +4,23 @@ use Rattle.std.specs.Borrow.{Bor}
 use Rattle.view_sums.specs.Total.{Each}
 
 -- what is done to a wire
-pub data Step : Type 0 where
-  puts : List ℕ → Step
-  flushes : Step
+pub data WireStep : Type 0 where
+  puts : List ℕ → WireStep
+  flushes : WireStep
 
-abbrev pub bytes_put : Step → List ℕ
-bytes_put (puts piece) = piece
-bytes_put flushes = []
+abbrev pub step_bytes : WireStep → List ℕ
+step_bytes (puts piece) = piece
+step_bytes flushes = []
 
 -- the bytes that the steps put, joined
-abbrev pub joined : List Step → List ℕ
-joined [] = []
-joined (step ∷ steps) = bytes_put step ++ joined steps
+abbrev pub steps_bytes : List WireStep → List ℕ
+steps_bytes [] = []
+steps_bytes (step ∷ steps) = step_bytes step ++ steps_bytes steps
 
 -- a put has from 1 to 512 bytes
-abbrev pub IsShort : Step → Type 0
-IsShort (puts piece) = (0 < length piece) × (length piece ≤ 512)
-IsShort flushes = Unit {0}
+abbrev pub IsShortPut : WireStep → Type 0
+IsShortPut (puts piece) = (0 < length piece) × (length piece ≤ 512)
+IsShortPut flushes = Unit {0}
 
 module _ {W : Type 0} (put_may : W → Bor (List ℕ) → (W × Bool) → Type 0) where
   -- the piece is put, where nothing has failed
@@ -39,7 +39,7 @@ module _
     (put_may : W → Bor (List ℕ) → (W × Bool) → Type 0)
     (flush_may : W → (W × Bool) → Type 0) where
   -- one is done after another, and none after one that failed
-  abbrev pub Chain : List Step → Bool → Bool → W → W → Type 0
+  abbrev pub Chain : List WireStep → Bool → Bool → W → W → Type 0
   Chain [] failed now w end = (end ≡ w) × (now ≡ failed)
   Chain (step ∷ steps) true now w end = Chain steps true now w end
   Chain (puts piece ∷ steps) false now w end =
@@ -48,7 +48,7 @@ module _
 
   -- the text is put in short pieces, with flushes between them
   pub record Sends (failed now : Bool) (text : List ℕ) (w end : W) : Type 0 where
-    pub steps : List Step
-    pub whole : text ≡ joined steps
-    pub short : Each IsShort steps
+    pub steps : List WireStep
+    pub whole : text ≡ steps_bytes steps
+    pub short : Each IsShortPut steps
     pub chain : Chain steps failed now w end

@@ -3,7 +3,8 @@ use Rattle.std.proofs.Common.{◌≡◌, ℕ, List, refl}
 use Rattle.flake_model.specs.Store.{key_of}
 use Rattle.shard_part.specs.Parts.{operation_by}
 use Rattle.shard_part.specs.declared.part.PartOp.{PartOp}
-use Rattle.shard_part.specs.declared.part.PartOp.TheVariants.{Get, Set, SetNx, SetXx, SetGet, SetNxGet, SetXxGet, Append, Del, Exists, StrLen, GetRange}
+use Rattle.shard_part.specs.declared.part.PartOp.TheVariants.{Get, Set, SetNx, SetXx, SetGet, SetNxGet, SetXxGet}
+use Rattle.shard_part.specs.declared.part.PartOp.TheVariants.{Append, Del, Exists, StrLen, GetRange}
 
 pub key_is : (op : PartOp) (key value : List ℕ) → key_of (operation_by op key value) ≡ key
 key_is Get key value = refl

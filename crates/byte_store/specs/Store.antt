@@ -5,7 +5,7 @@ use Rattle.std.specs.HashMap.{HashMap}
 use Rattle.std.specs.FinMap as finite
 use Rattle.flake_model.specs.Store.{Store, Answer, value, missing, done, length_is, did, too_long}
 use Rattle.flake_model.specs.Journal.{shard_of}
-use Rattle.byte_store.specs.Table.{bytes_at}
+use Rattle.byte_store.specs.Table.{table_bytes}
 use Rattle.byte_store.specs.declared.store.PartAnswer.{PartAnswer}
 use Rattle.byte_store.specs.declared.store.PartAnswer.TheVariants.{Bulk, Null, Done, Length, Did, TooLong}
 
@@ -16,10 +16,10 @@ abbrev pub entries_of_tables : {S : Type 0} → List (HashMap (Vec ℕ) (Vec ℕ
 entries_of_tables tables = map (λ table. table.entries) tables
 
 -- each shard's table has the keys of its shard, as the store has them
-pub record Holds (tables : Tables) (store : Store) : Type 0 where
+pub record HoldsStore (tables : Tables) (store : Store) : Type 0 where
   pub count : length tables ≡ 8
   pub each : (shard : ℕ) (entries : List (Vec ℕ × Vec ℕ)) → slice_get tables shard ≡ Some entries
-      → (key : List ℕ) → shard_of (length tables) key ≡ shard → bytes_at key entries ≡ finite.get store key
+      → (key : List ℕ) → shard_of (length tables) key ≡ shard → table_bytes key entries ≡ finite.get store key
 
 -- what a part's answer stands for
 abbrev pub answer_meant : PartAnswer → Answer

@@ -6,25 +6,25 @@ use Rattle.std.specs.Option.{option_map}
 use Rattle.std.specs.Cmp.Lexicographic.{pointwise}
 use Rattle.flake_model.specs.Store.{Operation, Change, keeps, puts, removes, bytes_of, has_room, change_on}
 
-abbrev pub Entries : Type 0
-Entries = List (Vec ℕ × Vec ℕ)
+abbrev pub TableEntries : Type 0
+TableEntries = List (Vec ℕ × Vec ℕ)
 
-abbrev pub same_bytes : List ℕ → List ℕ → Bool
-same_bytes = pointwise nat_eq
+abbrev pub equal_bytes : List ℕ → List ℕ → Bool
+equal_bytes = pointwise nat_eq
 
 -- the bytes at a key
-abbrev pub bytes_at : List ℕ → Entries → Option (List ℕ)
-bytes_at key entries =
-    option_map (λ (value : Vec ℕ). value.items) (lookup (λ (name : Vec ℕ). same_bytes key name.items) entries)
+abbrev pub table_bytes : List ℕ → TableEntries → Option (List ℕ)
+table_bytes key entries =
+    option_map (λ (value : Vec ℕ). value.items) (lookup (λ (name : Vec ℕ). equal_bytes key name.items) entries)
 
 -- the new entries have this at the key, and at each other key what the old ones have
-abbrev pub HasChanged : List ℕ → Option (List ℕ) → Entries → Entries → Type 0
+abbrev pub HasChanged : List ℕ → Option (List ℕ) → TableEntries → TableEntries → Type 0
 HasChanged key value old new = (other : List ℕ)
-    → bytes_at other new ≡ (if same_bytes key other then value else bytes_at other old)
+    → table_bytes other new ≡ (if equal_bytes key other then value else table_bytes other old)
 
 -- the new entries have at each key what the old ones have
-abbrev pub HasKept : Entries → Entries → Type 0
-HasKept old new = (key : List ℕ) → bytes_at key new ≡ bytes_at key old
+abbrev pub HasKept : TableEntries → TableEntries → Type 0
+HasKept old new = (key : List ℕ) → table_bytes key new ≡ table_bytes key old
 
 -- the length of a value once bytes are put behind it, where it isn't too long
 abbrev pub appended_length : Option (List ℕ) → List ℕ → Option ℕ
@@ -35,14 +35,14 @@ abbrev pub after_append : Option (List ℕ) → List ℕ → Option (List ℕ)
 after_append old bytes = if has_room old bytes then Some (bytes_of old ++ bytes) else old
 
 -- what a key has that a change was made to
-abbrev pub left_by : Change → Option (List ℕ) → Option (List ℕ)
-left_by keeps old = old
-left_by (puts bytes) old = Some bytes
-left_by removes old = None
+abbrev pub value_left : Change → Option (List ℕ) → Option (List ℕ)
+value_left keeps old = old
+value_left (puts bytes) old = Some bytes
+value_left removes old = None
 
 abbrev pub value_after : Option (List ℕ) → Operation → Option (List ℕ)
-value_after old operation = left_by (change_on old operation) old
+value_after old operation = value_left (change_on old operation) old
 
 -- the entries after an operation at its key
-abbrev pub HasDone : List ℕ → Operation → Entries → Entries → Type 0
-HasDone key operation old new = HasChanged key (value_after (bytes_at key old) operation) old new
+abbrev pub HasDone : List ℕ → Operation → TableEntries → TableEntries → Type 0
+HasDone key operation old new = HasChanged key (value_after (table_bytes key old) operation) old new

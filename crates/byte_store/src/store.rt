@@ -6,8 +6,8 @@ ghost use Rattle.flake_model.specs.Store.{Store as Meaning, Operation, value, fo
 ghost use Rattle.flake_model.specs.Range.{range_of};
 ghost use Rattle.shard_part.specs.Parts.{operation_of};
 ghost use Rattle.shard_part.specs.Settings.{set_by};
-ghost use Rattle.byte_store.specs.Table.{bytes_at, HasDone, HasKept};
-ghost use Rattle.byte_store.specs.Store.{Holds, answer_meant};
+ghost use Rattle.byte_store.specs.Table.{table_bytes, HasDone, HasKept};
+ghost use Rattle.byte_store.specs.Store.{HoldsStore, answer_meant};
 
 use crate::table::{Table, append, contains, get, put, remove};
 use flake_base::{Bytes, Memory};
@@ -55,7 +55,7 @@ impl Model for Store {
 
 impl Store {
     pub fn new(alloc: Global) -> Result<Store, Memory>
-        ensures { IfOk result (λ s. Holds s finite.empty) }
+        ensures { IfOk result (λ s. HoldsStore s finite.empty) }
     {
         let mut tables = Vec::with_capacity(alloc, SHARDS as usize)?;
         for _shard in 0..SHARDS {
@@ -66,11 +66,11 @@ impl Store {
 
     /// Does a part in the table of its key's shard. After want of memory the store is as it was.
     pub fn run(&mut self, alloc: Global, part: &Part<'_>) -> Result<PartAnswer, Memory>
-        ensures answer { (store : Meaning) → Holds self.old store
+        ensures answer { (store : Meaning) → HoldsStore self.old store
             → IfOk result (λ a. answer_meant a ≡ answer store (operation_of part.now)) }
-        ensures after { (store : Meaning) → Holds self.old store
-            → OnOk result (Holds self.new (after store (operation_of part.now))) }
-        ensures memory { (store : Meaning) → Holds self.old store → OnErr result (Holds self.new store) }
+        ensures after { (store : Meaning) → HoldsStore self.old store
+            → OnOk result (HoldsStore self.new (after store (operation_of part.now))) }
+        ensures memory { (store : Meaning) → HoldsStore self.old store → OnErr result (HoldsStore self.new store) }
     {
         let shard = shard_of(part.key, SHARDS) as usize;
         let answer = run_on(alloc, &mut self.tables[shard], part)?;
@@ -81,7 +81,7 @@ impl Store {
 // Does a part in a table.
 fn run_on(alloc: Global, table: &mut Table, part: &Part<'_>) -> Result<PartAnswer, Memory>
     ensures answer { IfOk result (λ a. answer_meant a
-        ≡ answer_on (bytes_at part.now.key.now table.old.entries) (operation_of part.now)) }
+        ≡ answer_on (table_bytes part.now.key.now table.old.entries) (operation_of part.now)) }
     ensures after { OnOk result
         (HasDone part.now.key.now (operation_of part.now) table.old.entries table.new.entries) }
     ensures memory { OnErr result (HasKept table.old.entries table.new.entries) }
@@ -112,7 +112,7 @@ fn set_as(
     setting: Setting,
 ) -> Result<PartAnswer, Memory>
     ensures answer { IfOk result (λ a. answer_meant a
-        ≡ answer_on (bytes_at key.now table.old.entries) (set_by setting key.now value.now)) }
+        ≡ answer_on (table_bytes key.now table.old.entries) (set_by setting key.now value.now)) }
     ensures after { OnOk result
         (HasDone key.now (set_by setting key.now value.now) table.old.entries table.new.entries) }
     ensures memory { OnErr result (HasKept table.old.entries table.new.entries) }
@@ -131,7 +131,7 @@ fn set_as(
 
 // A copy of a key's value.
 fn copied(alloc: Global, table: &Table, key: &[u8]) -> Result<PartAnswer, Memory>
-    ensures { IfOk result (λ a. answer_meant a ≡ found (bytes_at key.now table.now.entries)) }
+    ensures { IfOk result (λ a. answer_meant a ≡ found (table_bytes key.now table.now.entries)) }
 {
     match get(table, key) {
         Some(value) => Ok(PartAnswer::Bulk(Bytes::from_slice(alloc, value.as_slice())?)),
@@ -141,7 +141,7 @@ fn copied(alloc: Global, table: &Table, key: &[u8]) -> Result<PartAnswer, Memory
 
 // The bytes of a key's value; a missing key has none.
 fn bytes_of<'a>(table: &'a Table, key: &[u8]) -> &'a [u8]
-    ensures { result.now ≡ model.bytes_of (bytes_at key.now table.now.entries) }
+    ensures { result.now ≡ model.bytes_of (table_bytes key.now table.now.entries) }
 {
     match get(table, key) {
         Some(value) => value.as_slice(),
@@ -158,7 +158,7 @@ fn range_copied(
     end: i64,
 ) -> Result<PartAnswer, Memory>
     ensures { IfOk result (λ a. answer_meant a
-        ≡ value (range_of (model.bytes_of (bytes_at key.now table.now.entries)) start end)) }
+        ≡ value (range_of (model.bytes_of (table_bytes key.now table.now.entries)) start end)) }
 {
     let bytes = bytes_of(table, key);
     let Span { from, len } = span(bytes.len() as u64, start, end);

@@ -1,7 +1,7 @@
 // The values of a shard's keys.
 ghost use Rattle.std.specs.Prelude.{◌≡◌, IfOk, OnOk, OnErr, Some, None, is_some};
 ghost use Rattle.std.specs.Option.{option_map};
-ghost use Rattle.byte_store.specs.Table.{bytes_at, appended_length, after_append, HasChanged, HasKept};
+ghost use Rattle.byte_store.specs.Table.{table_bytes, appended_length, after_append, HasChanged, HasKept};
 
 use flake_base::Memory;
 use indexmap::IndexMap;
@@ -12,13 +12,13 @@ use std::alloc::Global;
 pub type Table = IndexMap<Vec<u8>, Vec<u8>>;
 
 pub fn get<'a>(table: &'a Table, key: &[u8]) -> Option<&'a Vec<u8>>
-    ensures { option_map (λ value. value.now.items) result ≡ bytes_at key.now table.now.entries }
+    ensures { option_map (λ value. value.now.items) result ≡ table_bytes key.now table.now.entries }
 {
     table.get(key)
 }
 
 pub fn contains(table: &Table, key: &[u8]) -> bool
-    ensures { result ≡ is_some (bytes_at key.now table.now.entries) }
+    ensures { result ≡ is_some (table_bytes key.now table.now.entries) }
 {
     table.contains_key(key)
 }
@@ -58,8 +58,8 @@ pub fn append(
     key: &[u8],
     bytes: &[u8],
 ) -> Result<Option<u64>, Memory>
-    ensures length { IfOk result (λ count. count ≡ appended_length (bytes_at key.now table.old.entries) bytes.now) }
-    ensures ok { OnOk result (HasChanged key.now (after_append (bytes_at key.now table.old.entries) bytes.now)
+    ensures length { IfOk result (λ count. count ≡ appended_length (table_bytes key.now table.old.entries) bytes.now) }
+    ensures ok { OnOk result (HasChanged key.now (after_append (table_bytes key.now table.old.entries) bytes.now)
         table.old.entries table.new.entries) }
     ensures err { OnErr result (HasKept table.old.entries table.new.entries) }
 {
@@ -91,7 +91,7 @@ fn extend(value: &mut Vec<u8>, bytes: &[u8]) -> Result<Option<u64>, Memory>
 
 /// Takes a key out, and answers whether it was there.
 pub fn remove(table: &mut Table, key: &[u8]) -> bool
-    ensures was { result ≡ is_some (bytes_at key.now table.old.entries) }
+    ensures was { result ≡ is_some (table_bytes key.now table.old.entries) }
     ensures removed { HasChanged key.now None table.old.entries table.new.entries }
 {
     table.swap_remove(key).is_some()

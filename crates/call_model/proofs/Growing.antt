@@ -5,18 +5,19 @@ use Rattle.std.proofs.lemmas.List.{append_assoc}
 use Rattle.flake_base.specs.declared.segment.Seg.{Seg}
 use Rattle.flake_model.specs.Store.{Operation}
 use Rattle.flake_model.specs.Deed.{Deed}
-use Rattle.call_model.specs.Outcomes.{Done, Outcomes, Told, entry_at, part_told, IsOutcome, AreOutcomes}
+use Rattle.call_model.specs.Outcomes.{PartOutcome, Outcomes, SessionDeeds, entry_at, part_told, IsOutcome, AreOutcomes}
 use Rattle.call_model.specs.Outcomes.{call_told, call_deeds}
 use Rattle.call_model.specs.Parts.{segs_told, call_segs}
 use Rattle.call_model.specs.Steps.{deed_told, PartsAdd}
 
 -- one part, whatever came of it
-one_is : (operation : Operation) (operations : List Operation) (outcome : Option Done)
+one_is : (operation : Operation) (operations : List Operation) (outcome : Option PartOutcome)
     → IsOutcome operation outcome → AreOutcomes (operation ∷ operations) (outcome ∷ [])
 one_is operation operations None is = (is, tt)
 one_is operation operations (Some done) is = tt
 
-pub more_are : (operations : List Operation) (outcomes : Outcomes) (operation : Operation) (outcome : Option Done)
+pub more_are : (operations : List Operation) (outcomes : Outcomes) (operation : Operation)
+    (outcome : Option PartOutcome)
     → slice_get operations (length outcomes) ≡ Some operation → AreOutcomes operations outcomes
     → IsOutcome operation outcome → AreOutcomes operations (outcomes ++ outcome ∷ [])
 more_are [] [] operation outcome is are one = absurd (let no : ⊥ = cc in no)
@@ -30,14 +31,14 @@ more_are (first ∷ operations) (Some done ∷ outcomes) operation outcome is ar
     more_are operations outcomes operation outcome is are one
 
 module _ (shards session call : ℕ) where
-  one_told : (part : ℕ) (operation : Operation) (operations : List Operation) (outcome : Option Done)
+  one_told : (part : ℕ) (operation : Operation) (operations : List Operation) (outcome : Option PartOutcome)
       → call_told shards session call part (operation ∷ operations) (outcome ∷ [])
       ≡ part_told shards (entry_at session call part) operation outcome
   one_told part operation operations None = refl
   one_told part operation operations (Some done) = refl
 
   pub more_told : (part : ℕ) (operations : List Operation) (outcomes : Outcomes) (operation : Operation)
-      (outcome : Option Done) → slice_get operations (length outcomes) ≡ Some operation
+      (outcome : Option PartOutcome) → slice_get operations (length outcomes) ≡ Some operation
       → call_told shards session call part operations (outcomes ++ outcome ∷ [])
       ≡ call_told shards session call part operations outcomes
       ++ part_told shards (entry_at session call (part + length outcomes)) operation outcome
@@ -57,17 +58,17 @@ module _ (shards session call : ℕ) where
       let e : part + 1 + length outcomes ≡ part + suc (length outcomes) = omega arith in
       let next = more_told (part + 1) operations outcomes operation outcome is
       ∙ ap (λ n. rest ++ part_told shards (entry_at session call n) operation outcome) e in
-      ap (λ (told : Told). part_told shards (entry_at session call part) first (Some done) ++ told) next
+      ap (λ (told : SessionDeeds). part_told shards (entry_at session call part) first (Some done) ++ told) next
 
 module _ (session call : ℕ) where
-  one_deed : (part : ℕ) (operation : Operation) (operations : List Operation) (outcome : Option Done)
+  one_deed : (part : ℕ) (operation : Operation) (operations : List Operation) (outcome : Option PartOutcome)
       → call_deeds session call part (operation ∷ operations) (outcome ∷ [])
       ≡ deed_told (entry_at session call part) operation outcome ∷ []
   one_deed part operation operations None = refl
   one_deed part operation operations (Some done) = refl
 
   pub more_deeds : (part : ℕ) (operations : List Operation) (outcomes : Outcomes) (operation : Operation)
-      (outcome : Option Done) → slice_get operations (length outcomes) ≡ Some operation
+      (outcome : Option PartOutcome) → slice_get operations (length outcomes) ≡ Some operation
       → call_deeds session call part operations (outcomes ++ outcome ∷ [])
       ≡ call_deeds session call part operations outcomes
       ++ deed_told (entry_at session call (part + length outcomes)) operation outcome ∷ []
@@ -91,7 +92,8 @@ module _ (session call : ℕ) where
       ∙ ap (λ n. rest ++ deed_told (entry_at session call n) operation outcome ∷ []) e in
       ap (λ (deeds : List (Option Deed)). deed_told (entry_at session call part) first (Some done) ∷ deeds) next
 
-pub more_segs : (operations : List Operation) (outcomes : Outcomes) (operation : Operation) (outcome : Option Done)
+pub more_segs : (operations : List Operation) (outcomes : Outcomes) (operation : Operation)
+    (outcome : Option PartOutcome)
     → slice_get operations (length outcomes) ≡ Some operation
     → call_segs operations (outcomes ++ outcome ∷ []) ≡ call_segs operations outcomes ++ segs_told operation outcome
 more_segs [] [] operation outcome is = absurd (let no : ⊥ = cc in no)

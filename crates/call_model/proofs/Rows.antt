@@ -10,7 +10,7 @@ use Rattle.pinned_pool.specs.declared.view.View.{View}
 use Rattle.pinned_pool.proofs.SoughtLaws.{sought_within}
 use Rattle.flake_model.specs.Store.{Operation}
 use Rattle.shard_core.specs.Demand.{part_row}
-use Rattle.call_model.specs.Outcomes.{Done, Outcomes, missed_in}
+use Rattle.call_model.specs.Outcomes.{PartOutcome, Outcomes, missed_in}
 use Rattle.call_model.specs.Demand.{parts_row}
 
 -- one part more is one row more
@@ -21,7 +21,7 @@ take_more (first ∷ operations) zero operation is = let same : first ≡ operat
 take_more (first ∷ operations) (suc n) operation is =
     ap (λ (l : List Operation). first ∷ l) (take_more operations n operation is)
 
-pub row_more : (class : Class) (operations : List Operation) (outcomes : Outcomes) (outcome : Option Done)
+pub row_more : (class : Class) (operations : List Operation) (outcomes : Outcomes) (outcome : Option PartOutcome)
     (operation : Operation) → slice_get operations (length outcomes) ≡ Some operation
     → parts_row class (take (length (outcomes ++ outcome ∷ [])) operations)
     ≡ parts_row class (take (length outcomes) operations) + part_row class operation
@@ -32,7 +32,7 @@ row_more class operations outcomes outcome operation is =
     ∙ ap (parts_row class) (take_more operations n operation is) in
     omega (arith, now, total-append (part_row class) (take n operations) (operation ∷ []))
 
-pub missed_more : (outcomes : Outcomes) (outcome : Option Done)
+pub missed_more : (outcomes : Outcomes) (outcome : Option PartOutcome)
     → missed_in (outcomes ++ outcome ∷ []) ≡ missed_in outcomes + missed_in (outcome ∷ [])
 missed_more outcomes outcome = total-append _ outcomes (outcome ∷ [])
 

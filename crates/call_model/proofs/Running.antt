@@ -6,7 +6,7 @@ use Rattle.pin_core.specs.declared.class.Class.{Class}
 use Rattle.pinned_pool.proofs.SoughtLaws.{sought_then, sought_nothing, sought_still}
 use Rattle.flake_model.specs.Command.{parts}
 use Rattle.shard_core.specs.Demand.{part_row}
-use Rattle.call_model.specs.Outcomes.{Told, entry_at, part_told, call_told, missed_in}
+use Rattle.call_model.specs.Outcomes.{SessionDeeds, entry_at, part_told, call_told, missed_in}
 use Rattle.call_model.specs.Demand.{parts_row}
 use Rattle.call_model.specs.Steps.{RunningStarts, PartStep, RunningRests, CutsBefore, CutsBehind, CutsRest}
 use Rattle.call_model.proofs.Growing.{parts_add}
@@ -28,8 +28,8 @@ part_step z shards session call operations outcomes operation outcome old mid ne
     let rows = λ (class : Class). parts_row class (take (length outcomes) operations) in
     record {
       are = one.are running.are done.is;
-      told = done.told ∙ ap (λ (told : Told). told ++ next) running.told ∙ append_assoc old here next
-          ∙ ap (λ (told : Told). old ++ told) (sym one.told);
+      told = done.told ∙ ap (λ (told : SessionDeeds). told ++ next) running.told ∙ append_assoc old here next
+          ∙ ap (λ (told : SessionDeeds). old ++ told) (sym one.told);
       sought = sought_as z _ _ _ _ seat after
           (sought_then z rows (λ class. part_row class operation) (missed_in outcomes) (missed_in (outcome ∷ [])) seat
           later after running.sought done.sought)

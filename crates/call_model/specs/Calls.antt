@@ -11,20 +11,21 @@ use Rattle.flake_model.specs.Store.{Operation}
 use Rattle.flake_model.specs.Command.{Command, parts}
 use Rattle.flake_model.specs.Reply.{reply_of, reply_text}
 use Rattle.shard_core.specs.Demand.{part_row}
-use Rattle.call_model.specs.Outcomes.{Done, Outcomes, Told, part_told, IsOutcome, AreOutcomes, call_told, answers_told}
+use Rattle.call_model.specs.Outcomes.{PartOutcome, Outcomes, SessionDeeds, part_told, IsOutcome, AreOutcomes, call_told}
+use Rattle.call_model.specs.Outcomes.{answers_told}
 use Rattle.call_model.specs.Outcomes.{missed_in}
 use Rattle.call_model.specs.Demand.{parts_row, long_in}
 
 -- One part was run at an entry, with this outcome: what it adds to the session's list, and what the seat claimed.
-pub record IsPartRun (z : Sizes) (shards : ℕ) (entry : Entry) (operation : Operation) (outcome : Option Done)
-    (old new : Told) (seat after : View) : Type 0 where
+pub record IsPartRun (z : Sizes) (shards : ℕ) (entry : Entry) (operation : Operation) (outcome : Option PartOutcome)
+    (old new : SessionDeeds) (seat after : View) : Type 0 where
   pub is : IsOutcome operation outcome
   pub told : new ≡ old ++ part_told shards entry operation outcome
   pub sought : Sought z (λ (class : Class). part_row class operation) (missed_in (outcome ∷ [])) seat after
 
 -- the first parts of a call were run
 pub record AreRunning (z : Sizes) (shards session call : ℕ) (operations : List Operation) (outcomes : Outcomes)
-    (old new : Told) (seat after : View) : Type 0 where
+    (old new : SessionDeeds) (seat after : View) : Type 0 where
   pub are : AreOutcomes operations outcomes
   pub told : new ≡ old ++ call_told shards session call 0 operations outcomes
   pub sought : Sought z (λ (class : Class). parts_row class (take (length outcomes) operations)) (missed_in outcomes)
@@ -32,7 +33,7 @@ pub record AreRunning (z : Sizes) (shards session call : ℕ) (operations : List
 
 -- A call was executed: its reply has this text, and takes so many pins.
 pub record IsExecuted (z : Sizes) (shards session call : ℕ) (command : Command) (outcomes : Outcomes)
-    (text : List ℕ) (pins : ℕ) (old new : Told) (seat after : View) : Type 0 where
+    (text : List ℕ) (pins : ℕ) (old new : SessionDeeds) (seat after : View) : Type 0 where
   pub running : AreRunning z shards session call (parts command) outcomes old new seat after
   pub whole : length outcomes ≡ length (parts command)
   pub text_is : text ≡ reply_text (reply_of command (answers_told outcomes))
@@ -41,7 +42,7 @@ pub record IsExecuted (z : Sizes) (shards session call : ℕ) (command : Command
 -- Memory was wanting in a call: some of its parts ran, and never the last. The part in which it was wanting may have
 -- claimed buffers, and has given them back.
 pub record IsCutShort (z : Sizes) (shards session call : ℕ) (command : Command) (outcomes : Outcomes)
-    (old new : Told) (seat after : View) : Type 0 where
+    (old new : SessionDeeds) (seat after : View) : Type 0 where
   pub are : AreOutcomes (parts command) outcomes
   pub short : (length outcomes ≡ 0) ⊎ (length outcomes < length (parts command))
   pub told : new ≡ old ++ call_told shards session call 0 (parts command) outcomes

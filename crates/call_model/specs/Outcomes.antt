@@ -9,7 +9,7 @@ use Rattle.flake_model.specs.Journal.{shard_of}
 
 -- What became of one part that was entered: its answer, where the value lies that it answered from, the place in it of
 -- the first byte that was answered, and where the value lies that it stored.
-pub record Done : Type 0 where
+pub record PartOutcome : Type 0 where
   pub answer : Answer
   pub found : List ℕ
   pub first : ℕ
@@ -17,26 +17,26 @@ pub record Done : Type 0 where
 
 -- one outcome for each of a call's first parts; a part that found no buffer has none
 abbrev pub Outcomes : Type 0
-Outcomes = List (Option Done)
+Outcomes = List (Option PartOutcome)
 
 -- what a session is told: deeds, each with the shard in which it stands
-abbrev pub Told : Type 0
-Told = List (ℕ × Deed)
+abbrev pub SessionDeeds : Type 0
+SessionDeeds = List (ℕ × Deed)
 
 abbrev pub entry_at : ℕ → ℕ → ℕ → Entry
 entry_at session call part = record { session = session; call = call; part = part }
 
-abbrev pub deed_of : Entry → Operation → Done → Deed
+abbrev pub deed_of : Entry → Operation → PartOutcome → Deed
 deed_of entry operation done = deed_at entry operation done.answer done.found done.first done.stored
 
 -- what a part adds to the session's list
-abbrev pub part_told : ℕ → Entry → Operation → Option Done → Told
+abbrev pub part_told : ℕ → Entry → Operation → Option PartOutcome → SessionDeeds
 part_told shards entry operation None = []
 part_told shards entry operation (Some done) =
     (shard_of shards (key_of operation), deed_of entry operation done) ∷ []
 
 -- only a write may find no buffer
-abbrev pub IsOutcome : Operation → Option Done → Type 0
+abbrev pub IsOutcome : Operation → Option PartOutcome → Type 0
 IsOutcome operation None = IsWrite operation
 IsOutcome operation (Some done) = Unit {0}
 
@@ -48,7 +48,7 @@ AreOutcomes (operation ∷ operations) (None ∷ outcomes) = IsWrite operation �
 AreOutcomes (operation ∷ operations) (Some done ∷ outcomes) = AreOutcomes operations outcomes
 
 -- what a call's parts add, from a number on
-abbrev pub call_told : ℕ → ℕ → ℕ → ℕ → List Operation → Outcomes → Told
+abbrev pub call_told : ℕ → ℕ → ℕ → ℕ → List Operation → Outcomes → SessionDeeds
 call_told shards session call part operations [] = []
 call_told shards session call part [] (outcome ∷ outcomes) = []
 call_told shards session call part (operation ∷ operations) (None ∷ outcomes) =
@@ -67,12 +67,12 @@ call_deeds session call part (operation ∷ operations) (Some done ∷ outcomes)
     Some (deed_of (entry_at session call part) operation done)
     ∷ call_deeds session call (part + 1) operations outcomes
 
-abbrev pub answer_told : Option Done → Option Answer
-answer_told outcome = option_map (λ (done : Done). done.answer) outcome
+abbrev pub answer_told : Option PartOutcome → Option Answer
+answer_told outcome = option_map (λ (done : PartOutcome). done.answer) outcome
 
 abbrev pub answers_told : Outcomes → List (Option Answer)
 answers_told outcomes = map answer_told outcomes
 
 -- how many parts found no buffer
 abbrev pub missed_in : Outcomes → ℕ
-missed_in outcomes = total (λ (outcome : Option Done). if is_none outcome then 1 else 0) outcomes
+missed_in outcomes = total (λ (outcome : Option PartOutcome). if is_none outcome then 1 else 0) outcomes

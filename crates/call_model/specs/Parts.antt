@@ -14,24 +14,24 @@ use Rattle.pinned_pool.specs.Sought.{Sought}
 use Rattle.pinned_pool.specs.declared.pool.NoBuffer.{NoBuffer}
 use Rattle.pinned_pool.specs.declared.view.View.{View}
 use Rattle.frag_value.specs.Fragments.{class_for}
-use Rattle.frag_value.specs.Taken.{Piece}
+use Rattle.frag_value.specs.Taken.{TakenPiece}
 use Rattle.order_book.specs.Pages.{SessionList}
-use Rattle.shard_core.specs.Answers.{shown}
+use Rattle.shard_core.specs.Answers.{answer_shown}
 use Rattle.shard_core.specs.Demand.{part_row}
 use Rattle.shard_core.specs.Paid.{HasNone}
-use Rattle.shard_core.specs.Pieces.{pieces_of, segs_at, size_stored}
+use Rattle.shard_core.specs.Pieces.{answer_pieces, segs_at, size_stored}
 use Rattle.shard_core.specs.declared.answer.PartAnswer.{PartAnswer}
 use Rattle.shard_core.specs.declared.answer.PartAnswer.TheVariants as say
 use Rattle.call_model.specs.Calls.{IsPartRun}
-use Rattle.call_model.specs.Outcomes.{Done, Outcomes}
+use Rattle.call_model.specs.Outcomes.{PartOutcome, Outcomes}
 
 -- what the taker has more: the bytes that were answered, at the addresses where they were found
-abbrev pub pieces_told : Operation → Option Done → List Piece
+abbrev pub pieces_told : Operation → Option PartOutcome → List TakenPiece
 pieces_told operation None = []
-pieces_told operation (Some done) = pieces_of operation done.answer done.found done.first
+pieces_told operation (Some done) = answer_pieces operation done.answer done.found done.first
 
 -- the fragments of the value that was stored
-abbrev pub segs_told : Operation → Option Done → List Seg
+abbrev pub segs_told : Operation → Option PartOutcome → List Seg
 segs_told operation None = []
 segs_told operation (Some done) = segs_at done.stored (size_stored operation done.answer)
 
@@ -43,28 +43,28 @@ call_segs (operation ∷ operations) (outcome ∷ outcomes) =
     segs_told operation outcome ++ call_segs operations outcomes
 
 -- The answer that the caller gets: where no buffer was found, each of the class was found held.
-abbrev pub Says : Sizes → Operation → Option Done → PartAnswer → View → View → Type 0
-Says z operation None said seat after =
+abbrev pub AnswersPart : Sizes → Operation → Option PartOutcome → PartAnswer → View → View → Type 0
+AnswersPart z operation None said seat after =
     (none : NoBuffer) × (said ≡ say.NoBuffer none) × HasNone z operation none seat after
-Says z operation (Some done) said seat after = said ≡ shown done.answer
+AnswersPart z operation (Some done) said seat after = said ≡ answer_shown done.answer
 
 -- all bytes that were answered, if there are any, lie in the fragments that were found
 abbrev pub Reach : Answer → ℕ → List ℕ → Type 0
 Reach (value bytes) first found = 0 < length bytes → first + length bytes ≤ fragment_limit * length found
 Reach answer first found = Unit {0}
 
-abbrev pub Reaches : Option Done → Type 0
+abbrev pub Reaches : Option PartOutcome → Type 0
 Reaches None = Unit {0}
 Reaches (Some done) = Reach done.answer done.first done.found
 
 -- the answer, and what goes with it, are the operation's on what its key had
-pub record IsAnswered (operation : Operation) (done : Done) : Type 0 where
+pub record IsAnswered (operation : Operation) (done : PartOutcome) : Type 0 where
   pub had : Option (List ℕ)
   pub answer_is : done.answer ≡ answer_on had operation
   pub first_is : done.first ≡ first_on had operation
   pub stored_is : bytes_put (change_on had operation) ≡ None → done.stored ≡ []
 
-abbrev pub Answered : Operation → Option Done → Type 0
+abbrev pub Answered : Operation → Option PartOutcome → Type 0
 Answered operation None = Unit {0}
 Answered operation (Some done) = IsAnswered operation done
 
@@ -77,14 +77,14 @@ pub record IsInBuffer (z : Sizes) (seg : Seg) : Type 0 where
 
 -- A part was run at an entry: its outcome is what the session's list, the answer, the taker and the stored segments
 -- show.
-pub record IsTold (z : Sizes) (shards : ℕ) (entry : Entry) (operation : Operation) (said : PartAnswer)
-    (old new : SessionList) (seat after : View) (segs_before segs : List Seg) (taken_before taken : List Piece)
+pub record PartShows (z : Sizes) (shards : ℕ) (entry : Entry) (operation : Operation) (said : PartAnswer)
+    (old new : SessionList) (seat after : View) (segs_before segs : List Seg) (taken_before taken : List TakenPiece)
     : Type 0 where
-  pub outcome : Option Done
+  pub outcome : Option PartOutcome
   pub run : IsPartRun z shards entry operation outcome old.told new.told seat after
   pub number : new.number ≡ old.number
   pub looks : new.looks ≡ old.looks
-  pub says : Says z operation outcome said seat after
+  pub says : AnswersPart z operation outcome said seat after
   pub pieces : taken ≡ taken_before ++ pieces_told operation outcome
   pub reaches : Reaches outcome
   pub answered : Answered operation outcome
@@ -93,7 +93,7 @@ pub record IsTold (z : Sizes) (shards : ℕ) (entry : Entry) (operation : Operat
 
 -- Memory was wanting: nothing was entered, taken or stored. Buffers may have been claimed, and were given back.
 pub record IsUntold (z : Sizes) (operation : Operation) (old new : SessionList) (seat after : View)
-    (segs_before segs : List Seg) (taken_before taken : List Piece) : Type 0 where
+    (segs_before segs : List Seg) (taken_before taken : List TakenPiece) : Type 0 where
   pub list : new ≡ old
   pub taken_is : taken ≡ taken_before
   pub segs_are : segs ≡ segs_before

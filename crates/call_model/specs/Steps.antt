@@ -11,18 +11,19 @@ use Rattle.flake_model.specs.Store.{Operation}
 use Rattle.flake_model.specs.Command.{Command, parts}
 use Rattle.flake_model.specs.Deed.{Deed}
 use Rattle.shard_core.specs.Demand.{part_row}
-use Rattle.call_model.specs.Outcomes.{Done, Outcomes, Told, entry_at, deed_of, part_told, IsOutcome, AreOutcomes}
+use Rattle.call_model.specs.Outcomes.{PartOutcome, Outcomes, SessionDeeds, entry_at, deed_of, part_told, IsOutcome}
+use Rattle.call_model.specs.Outcomes.{AreOutcomes}
 use Rattle.call_model.specs.Outcomes.{call_told, call_deeds, answers_told}
 use Rattle.call_model.specs.Calls.{IsPartRun, AreRunning, IsCutShort}
 use Rattle.call_model.specs.Parts.{segs_told, call_segs}
 
 -- the deed of one part, if it did one
-abbrev pub deed_told : Entry → Operation → Option Done → Option Deed
+abbrev pub deed_told : Entry → Operation → Option PartOutcome → Option Deed
 deed_told entry operation outcome = option_map (deed_of entry operation) outcome
 
 -- what is said of the first parts of a call, and of one part more
 pub record HasOneMore (shards session call : ℕ) (operations : List Operation) (outcomes : Outcomes)
-    (operation : Operation) (outcome : Option Done) : Type 0 where
+    (operation : Operation) (outcome : Option PartOutcome) : Type 0 where
   pub are : AreOutcomes operations outcomes → IsOutcome operation outcome
       → AreOutcomes operations (outcomes ++ outcome ∷ [])
   pub told : call_told shards session call 0 operations (outcomes ++ outcome ∷ [])
@@ -36,7 +37,7 @@ pub record HasOneMore (shards session call : ℕ) (operations : List Operation) 
 
 abbrev pub PartsAdd : Type 0
 PartsAdd = (shards session call : ℕ) (operations : List Operation) (outcomes : Outcomes) (operation : Operation)
-    (outcome : Option Done) → slice_get operations (length outcomes) ≡ Some operation
+    (outcome : Option PartOutcome) → slice_get operations (length outcomes) ≡ Some operation
     → HasOneMore shards session call operations outcomes operation outcome
 
 -- the deeds of a call's parts: one place for each outcome, with its answer; those that were done are told
@@ -54,14 +55,15 @@ DeedsAreTold = (shards session call part : ℕ) (operations : List Operation) (o
 
 -- no part was run yet
 abbrev pub RunningStarts : Type 0
-RunningStarts = (z : Sizes) (shards session call : ℕ) (operations : List Operation) (told : Told) (seat after : View)
+RunningStarts = (z : Sizes) (shards session call : ℕ) (operations : List Operation) (told : SessionDeeds)
+    (seat after : View)
     → after.claims ≡ seat.claims → after.looks ≡ seat.looks
     → AreRunning z shards session call operations [] told told seat after
 
 -- one part more
 abbrev pub PartStep : Type 0
 PartStep = (z : Sizes) (shards session call : ℕ) (operations : List Operation) (outcomes : Outcomes)
-    (operation : Operation) (outcome : Option Done) (old mid new : Told) (seat later after : View)
+    (operation : Operation) (outcome : Option PartOutcome) (old mid new : SessionDeeds) (seat later after : View)
     → slice_get operations (length outcomes) ≡ Some operation
     → AreRunning z shards session call operations outcomes old mid seat later
     → IsPartRun z shards (entry_at session call (length outcomes)) operation outcome mid new later after
@@ -70,20 +72,20 @@ PartStep = (z : Sizes) (shards session call : ℕ) (operations : List Operation)
 -- what changes neither claims nor looks, as a pin or a credit given back, may come between
 abbrev pub RunningRests : Type 0
 RunningRests = (z : Sizes) (shards session call : ℕ) (operations : List Operation) (outcomes : Outcomes)
-    (old new : Told) (seat later after : View) → after.claims ≡ later.claims → after.looks ≡ later.looks
+    (old new : SessionDeeds) (seat later after : View) → after.claims ≡ later.claims → after.looks ≡ later.looks
     → AreRunning z shards session call operations outcomes old new seat later
     → AreRunning z shards session call operations outcomes old new seat after
 
 -- memory was wanting before the first part
 abbrev pub CutsBefore : Type 0
-CutsBefore = (z : Sizes) (shards session call : ℕ) (command : Command) (told : Told) (seat after : View)
+CutsBefore = (z : Sizes) (shards session call : ℕ) (command : Command) (told : SessionDeeds) (seat after : View)
     → after.claims ≡ seat.claims → after.looks ≡ seat.looks
     → IsCutShort z shards session call command [] told told seat after
 
 -- memory was wanting in the part behind those that ran
 abbrev pub CutsBehind : Type 0
 CutsBehind = (z : Sizes) (shards session call : ℕ) (command : Command) (outcomes : Outcomes) (operation : Operation)
-    (old new : Told) (seat later after : View)
+    (old new : SessionDeeds) (seat later after : View)
     → slice_get (parts command) (length outcomes) ≡ Some operation
     → AreRunning z shards session call (parts command) outcomes old new seat later
     → Sought z (λ (class : Class). part_row class operation) 0 later after
@@ -91,7 +93,7 @@ CutsBehind = (z : Sizes) (shards session call : ℕ) (command : Command) (outcom
 
 -- what was begun is undone with neither claims nor looks
 abbrev pub CutsRest : Type 0
-CutsRest = (z : Sizes) (shards session call : ℕ) (command : Command) (outcomes : Outcomes) (old new : Told)
+CutsRest = (z : Sizes) (shards session call : ℕ) (command : Command) (outcomes : Outcomes) (old new : SessionDeeds)
     (seat later after : View) → after.claims ≡ later.claims → after.looks ≡ later.looks
     → IsCutShort z shards session call command outcomes old new seat later
     → IsCutShort z shards session call command outcomes old new seat after

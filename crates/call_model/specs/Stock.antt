@@ -8,7 +8,7 @@ use Rattle.flake_model.specs.Deed.{Deed, IsLegal, places_at, final_store, final_
 use Rattle.flake_model.specs.Fragments.{fragments_of}
 use Rattle.pin_core.specs.declared.sizes.Sizes.{Sizes}
 use Rattle.pinned_pool.specs.Addresses.{address_of}
-use Rattle.pinned_pool.specs.Moves.{key_of}
+use Rattle.pinned_pool.specs.Moves.{hold_key}
 use Rattle.pinned_pool.specs.declared.view.View.{View}
 use Rattle.frag_value.specs.Values.{IsPlaced, keys_of}
 use Rattle.order_book.specs.Pages.{ShardList}
@@ -28,7 +28,7 @@ fragments_left shards = flat_map (λ (shard : ShardList). fragments_by shard.tol
 pub record IsStock (z : Sizes) (shards : List ShardList) (seat : View) : Type 0 where
   -- the fragments, each as its buffer and its length
   pub kept : List (ℕ × ℕ)
-  pub holds : SameItems (map key_of seat.holds) (keys_of kept)
+  pub holds : SameItems (map hold_key seat.holds) (keys_of kept)
   -- each lies in a buffer of its class
   pub placed : Each (IsPlaced z) kept
   pub fragments : SameItems (map (λ (p : ℕ × ℕ). (address_of z p.0, p.1)) kept) (fragments_left shards)

@@ -1,11 +1,12 @@
 -- What opened files come to.
-use Rattle.std.proofs.Common.{◌≡◌, ℕ, zero, suc, Bool, List, [], ◌∷◌, ◌++◌, Option, Some, Result, Ok, Err, IfErr, length, take, slice_get, refl, sym, ap, ◌∙◌, subst}
+use Rattle.std.proofs.Common.{◌≡◌, ℕ, zero, suc, Bool, List, [], ◌∷◌, ◌++◌, Option, Some, Result, Ok, Err, IfErr}
+use Rattle.std.proofs.Common.{length, take, slice_get, refl, sym, ap, ◌∙◌, subst}
 use Rattle.flake_base.specs.Causes.{Rose}
 use Rattle.flake_base.specs.Told.{HostTold}
 use Rattle.replay_check.specs.declared.verdict.Verdict.{Verdict}
 use Rattle.check_files.specs.Named.{Named, FilesOpened, NoneFailed, are_named}
 use Rattle.check_files.specs.Answer.{FailedBy, HasCauseIn}
-use Rattle.check_files.specs.Stopped.{IsStopped, FaultsBy, LeftsBy}
+use Rattle.check_files.specs.Stopped.{WhyStopped, FaultsBy, LeftsBy}
 use Rattle.check_files.specs.declared.error.CheckError.{CheckError}
 use Rattle.check_files.specs.declared.error.CheckError.TheVariants.{OpenFault, ReadFault, TooLarge, BadLine, Memory}
 
@@ -22,16 +23,23 @@ zero_at [] k n none is = absurd (cc is)
 zero_at (first ∷ faults) zero n none is = let same : first ≡ n = cc is in sym same ∙ none.0
 zero_at (first ∷ faults) (suc k) n none is = zero_at faults k n none.1 is
 
-pub cause_in : (result : Result Verdict CheckError) (words : List Named) (old new : HostTold) (there : List Bool) (lefts rests : List (Option (List ℕ))) → FilesOpened words old new lefts → there ≡ are_named words
-    → IfErr result (λ e. IsStopped lefts e) → IfErr result (λ e. LeftsBy e lefts rests) → IfErr result (λ e. HasCauseIn words old new there rests e)
+pub cause_in : (result : Result Verdict CheckError) (words : List Named) (old new : HostTold) (there : List Bool)
+    (lefts rests : List (Option (List ℕ))) → FilesOpened words old new lefts → there ≡ are_named words
+    → IfErr result (λ e. WhyStopped lefts e) → IfErr result (λ e. LeftsBy e lefts rests)
+    → IfErr result (λ e. HasCauseIn words old new there rests e)
 cause_in (Ok verdict) words old new there lefts rests opened is stopped by = tt
 cause_in (Err (OpenFault file)) words old new there lefts rests opened is stopped by = absurd stopped
-cause_in (Err (ReadFault file)) words old new there lefts rests opened is stopped by = record { lefts = lefts; opened = opened; there_is = is; stopped = stopped; rests_are = by }
-cause_in (Err (TooLarge file)) words old new there lefts rests opened is stopped by = record { lefts = lefts; opened = opened; there_is = is; stopped = stopped; rests_are = by }
-cause_in (Err (BadLine line)) words old new there lefts rests opened is stopped by = record { lefts = lefts; opened = opened; there_is = is; stopped = stopped; rests_are = by }
-cause_in (Err Memory) words old new there lefts rests opened is stopped by = record { lefts = lefts; opened = opened; there_is = is; stopped = stopped; rests_are = by }
+cause_in (Err (ReadFault file)) words old new there lefts rests opened is stopped by =
+    record { lefts = lefts; opened = opened; there_is = is; stopped = stopped; rests_are = by }
+cause_in (Err (TooLarge file)) words old new there lefts rests opened is stopped by =
+    record { lefts = lefts; opened = opened; there_is = is; stopped = stopped; rests_are = by }
+cause_in (Err (BadLine line)) words old new there lefts rests opened is stopped by =
+    record { lefts = lefts; opened = opened; there_is = is; stopped = stopped; rests_are = by }
+cause_in (Err Memory) words old new there lefts rests opened is stopped by =
+    record { lefts = lefts; opened = opened; there_is = is; stopped = stopped; rests_are = by }
 
-pub failed_by : (result : Result Verdict CheckError) (olds news : List ℕ) → NoneFailed olds → IfErr result (λ e. FaultsBy e olds news) → IfErr result (λ e. FailedBy e news)
+pub failed_by : (result : Result Verdict CheckError) (olds news : List ℕ) → NoneFailed olds
+    → IfErr result (λ e. FaultsBy e olds news) → IfErr result (λ e. FailedBy e news)
 failed_by (Ok verdict) olds news none by = tt
 failed_by (Err (OpenFault file)) olds news none by = subst NoneFailed (sym by) none
 failed_by (Err (ReadFault file)) olds news none by = record {

@@ -1,8 +1,10 @@
 -- Lists of which one item was replaced, as a map of them shows.
-use Rattle.std.proofs.Common.{◌≡◌, ◌≢◌, ◌<◌, ℕ, zero, suc, List, [], ◌∷◌, Some, length, map, slice_get, slice_set, get_or, arith, refl, ap}
+use Rattle.std.proofs.Common.{◌≡◌, ◌≢◌, ◌<◌, ℕ, zero, suc, List, [], ◌∷◌, Some, length, map, slice_get, slice_set}
+use Rattle.std.proofs.Common.{get_or, arith, refl, ap}
 
 module _ {A B : Type 0} (f : A → B) where
-  pub other_places : (xs : List A) (k : ℕ) (y : A) (j : ℕ) → j ≢ k → slice_get (map f (slice_set xs k y)) j ≡ slice_get (map f xs) j
+  pub other_places : (xs : List A) (k : ℕ) (y : A) (j : ℕ) → j ≢ k → slice_get (map f (slice_set xs k y)) j
+      ≡ slice_get (map f xs) j
   other_places [] k y j other = refl
   other_places (x ∷ xs) zero y zero other = absurd (other refl)
   other_places (x ∷ xs) zero y (suc j) other = refl

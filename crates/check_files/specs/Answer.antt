@@ -5,7 +5,7 @@ use Rattle.flake_base.specs.Told.{HostTold}
 use Rattle.replay_check.specs.declared.verdict.Verdict.{Verdict}
 use Rattle.check_files.specs.Judged.{IsJudged}
 use Rattle.check_files.specs.Named.{Named, FilesOpened, FileFails, NoneFailed, are_named}
-use Rattle.check_files.specs.Stopped.{IsStopped, LeftsBy}
+use Rattle.check_files.specs.Stopped.{WhyStopped, LeftsBy}
 use Rattle.check_files.specs.Whole.{emptied}
 use Rattle.check_files.specs.declared.error.CheckError.{CheckError}
 use Rattle.check_files.specs.declared.error.CheckError.TheVariants.{OpenFault, ReadFault, TooLarge, BadLine, Memory}
@@ -40,7 +40,7 @@ pub record WereStopped (words : List Named) (old new : HostTold) (there : List B
   pub lefts : List (Option (List ℕ))
   pub opened : FilesOpened words old new lefts
   pub there_is : there ≡ are_named words
-  pub stopped : IsStopped lefts error
+  pub stopped : WhyStopped lefts error
   pub rests_are : LeftsBy error lefts rests
 
 -- those in front of one that did not open were, and have what they had when they were opened

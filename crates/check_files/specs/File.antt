@@ -18,11 +18,11 @@ is_there (Opened source) = true
 is_there Absent = false
 
 -- the same of each file
-abbrev pub lefts_of : {S : Type 0} → (S → Option (List ℕ)) → List (File S) → List (Option (List ℕ))
-lefts_of left files = map (λ file. left_in left file) files
+abbrev pub file_lefts : {S : Type 0} → (S → Option (List ℕ)) → List (File S) → List (Option (List ℕ))
+file_lefts left files = map (λ file. left_in left file) files
 
-abbrev pub faults_of : {S : Type 0} → (S → ℕ) → List (File S) → List ℕ
-faults_of faults files = map (λ file. faults_in faults file) files
+abbrev pub file_faults : {S : Type 0} → (S → ℕ) → List (File S) → List ℕ
+file_faults faults files = map (λ file. faults_in faults file) files
 
 abbrev pub are_there : {S : Type 0} → List (File S) → List Bool
 are_there files = map (λ file. is_there file) files

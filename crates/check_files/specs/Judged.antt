@@ -2,7 +2,7 @@
 use Rattle.std.specs.Prelude.{ℕ, List, Option}
 use Rattle.flake_base.specs.declared.journal.Entry.{Entry}
 use Rattle.journal_text.specs.Lines.{lines_of}
-use Rattle.journal_text.specs.Reading.{AreLines}
+use Rattle.journal_text.specs.Reading.{AreJournalLines}
 use Rattle.replay_check.specs.Differs.{IsVerdict}
 use Rattle.replay_check.specs.declared.verdict.Verdict.{Verdict}
 use Rattle.check_files.specs.Files.{AreContents}
@@ -14,5 +14,5 @@ pub record IsJudged (lefts : List (Option (List ℕ))) (verdict : Verdict) : Typ
   pub replies : List (List ℕ)
   pub contents : AreContents lefts text inputs replies
   pub journal : List (List Entry)
-  pub lines : AreLines (lines_of text) journal
+  pub lines : AreJournalLines (lines_of text) journal
   pub verdict_is : IsVerdict inputs journal replies verdict

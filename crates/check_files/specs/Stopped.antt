@@ -2,11 +2,11 @@
 use Rattle.std.specs.Prelude.{◌≡◌, ◌≢◌, ℕ, ◌<◌, List, Option, Some, length, map, option_map, slice_get, IsSomeAnd}
 use Rattle.flake_base.specs.Causes.{Rose}
 use Rattle.journal_text.specs.Lines.{lines_of}
-use Rattle.journal_text.specs.Reading.{IsBadLine}
+use Rattle.journal_text.specs.Reading.{IsBadJournalLine}
 use Rattle.journal_text.specs.declared.error.JournalError.{JournalError}
 use Rattle.journal_text.specs.declared.error.JournalError.TheVariants as journal
 use Rattle.check_files.specs.Whole.{IsPast, emptied}
-use Rattle.check_files.specs.Files.{limit_of, IsTextOf, AreWithin}
+use Rattle.check_files.specs.Files.{file_limit, IsTextOf, AreWithin}
 use Rattle.check_files.specs.declared.error.CheckError.{CheckError}
 use Rattle.check_files.specs.declared.error.CheckError.TheVariants.{OpenFault, ReadFault, TooLarge, BadLine, Memory}
 
@@ -18,23 +18,23 @@ of_journal journal.Memory = Memory
 pub record IsBadLineOf (lefts : List (Option (List ℕ))) (line : ℕ) : Type 0 where
   pub bytes : List ℕ
   pub bytes_are : IsTextOf lefts 0 bytes
-  pub bad : IsBadLine (lines_of bytes) line
+  pub bad : IsBadJournalLine (lines_of bytes) line
 
 -- The files are read in order, before any line is. What was read before is within its limits.
-abbrev pub IsStopped : List (Option (List ℕ)) → CheckError → Type 0
-IsStopped lefts (OpenFault file) = ⊥
-IsStopped lefts (ReadFault file) = (file < length lefts) × AreWithin lefts file
-IsStopped lefts (TooLarge file) =
-    IsSomeAnd (slice_get lefts file) (λ left. IsPast (limit_of file) left) × AreWithin lefts file
-IsStopped lefts (BadLine line) = IsBadLineOf lefts line × AreWithin lefts (length lefts)
-IsStopped lefts Memory = Unit {0}
+abbrev pub WhyStopped : List (Option (List ℕ)) → CheckError → Type 0
+WhyStopped lefts (OpenFault file) = ⊥
+WhyStopped lefts (ReadFault file) = (file < length lefts) × AreWithin lefts file
+WhyStopped lefts (TooLarge file) =
+    IsSomeAnd (slice_get lefts file) (λ left. IsPast (file_limit file) left) × AreWithin lefts file
+WhyStopped lefts (BadLine line) = IsBadLineOf lefts line × AreWithin lefts (length lefts)
+WhyStopped lefts Memory = Unit {0}
 
 -- so it is at one place
 abbrev pub IsStoppedAt : List (Option (List ℕ)) → ℕ → CheckError → Type 0
 IsStoppedAt lefts place (OpenFault file) = ⊥
 IsStoppedAt lefts place (ReadFault file) = file ≡ place
 IsStoppedAt lefts place (TooLarge file) =
-    (file ≡ place) × IsSomeAnd (slice_get lefts place) (λ left. IsPast (limit_of place) left)
+    (file ≡ place) × IsSomeAnd (slice_get lefts place) (λ left. IsPast (file_limit place) left)
 IsStoppedAt lefts place (BadLine line) = ⊥
 IsStoppedAt lefts place Memory = Unit {0}
 

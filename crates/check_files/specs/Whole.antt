@@ -5,7 +5,7 @@ use Rattle.check_files.specs.declared.error.Unread.{Unread}
 use Rattle.check_files.specs.declared.error.Unread.TheVariants.{Fault, TooLarge, Memory}
 
 -- these are all bytes that were left, where that is told, and they are no more than the limit
-pub record IsWhole (limit : ℕ) (left : Option (List ℕ)) (bytes : List ℕ) : Type 0 where
+pub record IsReadWhole (limit : ℕ) (left : Option (List ℕ)) (bytes : List ℕ) : Type 0 where
   pub all : IfSome left (λ told. told ≡ bytes)
   pub within : length bytes ≤ limit
 

@@ -2,9 +2,9 @@
 ghost use Rattle.std.specs.Prelude.{◌≡◌, ◌≢◌, ◌<◌, ◌≤◌, ◌+◌, ◌*◌, ◌%◌, ◌++◌, ◌∷◌, [], ℕ};
 ghost use Rattle.std.specs.Prelude.{length, map, option_map, slice_get, IfOk, IfErr, OnOk};
 ghost use Rattle.replay_check.specs.Inputs.{contents};
-ghost use Rattle.check_files.specs.File.{are_there, faults_of, lefts_of};
-ghost use Rattle.check_files.specs.Files.{limit_of, AreContents, AreWithin, IsTextOf};
-ghost use Rattle.check_files.specs.Stopped.{FaultsBy, IsStopped, IsStoppedAt, LeftsBy};
+ghost use Rattle.check_files.specs.File.{are_there, file_faults, file_lefts};
+ghost use Rattle.check_files.specs.Files.{file_limit, AreContents, AreWithin, IsTextOf};
+ghost use Rattle.check_files.specs.Stopped.{FaultsBy, WhyStopped, IsStoppedAt, LeftsBy};
 ghost use Rattle.check_files.specs.Whole.{emptied};
 
 use crate::file::read_file;
@@ -19,7 +19,7 @@ const INPUT: usize = 67_108_864;
 const TEXT: usize = 134_217_728;
 
 fn limit_of(place: usize) -> usize
-    ensures { result ≡ limit_of place }
+    ensures { result ≡ file_limit place }
 {
     if place % 2 == 1 { INPUT } else { TEXT }
 }
@@ -32,15 +32,15 @@ pub fn read_at<S: Source>(
 ) -> Result<Bytes, CheckError>
     requires within { place < length files.old }
     requires few { length files.old ≤ 33 }
-    ensures text { IfOk result (λ bytes. IsTextOf (lefts_of S.left files.old) place bytes.items) }
-    ensures left { OnOk result (slice_get (lefts_of S.left files.new) place
-        ≡ option_map emptied (slice_get (lefts_of S.left files.old) place)) }
-    ensures faults { OnOk result (faults_of S.read_faults files.new ≡ faults_of S.read_faults files.old) }
+    ensures text { IfOk result (λ bytes. IsTextOf (file_lefts S.left files.old) place bytes.items) }
+    ensures left { OnOk result (slice_get (file_lefts S.left files.new) place
+        ≡ option_map emptied (slice_get (file_lefts S.left files.old) place)) }
+    ensures faults { OnOk result (file_faults S.read_faults files.new ≡ file_faults S.read_faults files.old) }
     ensures others { (k : ℕ) → k ≢ place
-        → slice_get (lefts_of S.left files.new) k ≡ slice_get (lefts_of S.left files.old) k }
-    ensures err { IfErr result (λ e. IsStoppedAt (lefts_of S.left files.old) place e) }
-    ensures counts { IfErr result (λ e. FaultsBy e (faults_of S.read_faults files.old)
-        (faults_of S.read_faults files.new)) }
+        → slice_get (file_lefts S.left files.new) k ≡ slice_get (file_lefts S.left files.old) k }
+    ensures err { IfErr result (λ e. IsStoppedAt (file_lefts S.left files.old) place e) }
+    ensures counts { IfErr result (λ e. FaultsBy e (file_faults S.read_faults files.old)
+        (file_faults S.read_faults files.new)) }
     ensures there { are_there files.new ≡ are_there files.old }
 {
     let file = place as u16;
@@ -72,15 +72,15 @@ pub struct Contents {
 pub fn read_all<S: Source>(alloc: Global, files: &mut [File<S>]) -> Result<Contents, CheckError>
     requires pairs { length files.old % 2 ≡ 1 }
     requires few { length files.old ≤ 33 }
-    ensures contents { IfOk result (λ texts. AreContents (lefts_of S.left files.old) texts.journal.items
+    ensures contents { IfOk result (λ texts. AreContents (file_lefts S.left files.old) texts.journal.items
         (contents texts.inputs.items) (contents texts.replies.items)) }
-    ensures within { OnOk result (AreWithin (lefts_of S.left files.old) (length files.old)) }
-    ensures emptied { OnOk result (lefts_of S.left files.new ≡ map emptied (lefts_of S.left files.old)) }
-    ensures faults { OnOk result (faults_of S.read_faults files.new ≡ faults_of S.read_faults files.old) }
-    ensures err { IfErr result (λ e. IsStopped (lefts_of S.left files.old) e) }
-    ensures lefts { IfErr result (λ e. LeftsBy e (lefts_of S.left files.old) (lefts_of S.left files.new)) }
-    ensures counts { IfErr result (λ e. FaultsBy e (faults_of S.read_faults files.old)
-        (faults_of S.read_faults files.new)) }
+    ensures within { OnOk result (AreWithin (file_lefts S.left files.old) (length files.old)) }
+    ensures emptied { OnOk result (file_lefts S.left files.new ≡ map emptied (file_lefts S.left files.old)) }
+    ensures faults { OnOk result (file_faults S.read_faults files.new ≡ file_faults S.read_faults files.old) }
+    ensures err { IfErr result (λ e. WhyStopped (file_lefts S.left files.old) e) }
+    ensures lefts { IfErr result (λ e. LeftsBy e (file_lefts S.left files.old) (file_lefts S.left files.new)) }
+    ensures counts { IfErr result (λ e. FaultsBy e (file_faults S.read_faults files.old)
+        (file_faults S.read_faults files.new)) }
     ensures there { are_there files.new ≡ are_there files.old }
 {
     let journal = read_at(alloc, files, 0)?;

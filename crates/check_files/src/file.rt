@@ -1,6 +1,6 @@
 ghost use Rattle.std.specs.Prelude.{◌≡◌, IfOk, IfErr, OnOk};
 ghost use Rattle.check_files.specs.File.{faults_in, is_there, left_in};
-ghost use Rattle.check_files.specs.Whole.{IsUnread, IsWhole, emptied};
+ghost use Rattle.check_files.specs.Whole.{IsUnread, IsReadWhole, emptied};
 
 use crate::Unread;
 use crate::whole::read_whole;
@@ -20,7 +20,7 @@ pub(crate) fn read_file<S: Source>(
     file: &mut File<S>,
     limit: usize,
 ) -> Result<Bytes, Unread>
-    ensures ok { IfOk result (λ bytes. IsWhole limit (left_in S.left file.old) bytes.items) }
+    ensures ok { IfOk result (λ bytes. IsReadWhole limit (left_in S.left file.old) bytes.items) }
     ensures left { OnOk result (left_in S.left file.new ≡ emptied (left_in S.left file.old)) }
     ensures faults { OnOk result (faults_in S.read_faults file.new ≡ faults_in S.read_faults file.old) }
     ensures err { IfErr result (λ unread. IsUnread unread limit (left_in S.left file.old)

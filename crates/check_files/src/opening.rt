@@ -1,6 +1,6 @@
 // Files that are opened by their names, in order.
 ghost use Rattle.std.specs.Prelude.{◌≡◌, ◌≤◌, [], length, map, take, vec_capacity, is_some, IfOk, IfErr, OnErr};
-ghost use Rattle.check_files.specs.File.{are_there, faults_in, faults_of, is_there, left_in, lefts_of};
+ghost use Rattle.check_files.specs.File.{are_there, faults_in, file_faults, is_there, left_in, file_lefts};
 ghost use Rattle.check_files.specs.Named.{are_named, FailsOne, FileFails, FilesOpened, named, NoneFailed, OpensOne};
 
 use crate::File;
@@ -31,14 +31,14 @@ pub fn open_named<H: Host>(
 ) -> Result<Vec<File<H::In>>, Vec<File<H::In>>>
     requires { (room.items ≡ []) × (length names.now ≤ vec_capacity room) }
     ensures opened { IfOk result (λ files. FilesOpened (map named names.entry.now)
-        (H.host_told host.old) (H.host_told host.new) (lefts_of H.In.left files.items)) }
+        (H.host_told host.old) (H.host_told host.new) (file_lefts H.In.left files.items)) }
     ensures there { IfOk result (λ files. are_there files.items ≡ are_named (map named names.entry.now)) }
-    ensures fresh { IfOk result (λ files. NoneFailed (faults_of H.In.read_faults files.items)) }
+    ensures fresh { IfOk result (λ files. NoneFailed (file_faults H.In.read_faults files.items)) }
     ensures failed { IfErr result (λ files. FileFails (map named names.entry.now) (length files.items)
-        (H.host_told host.old) (H.host_told host.new) (lefts_of H.In.left files.items)) }
+        (H.host_told host.old) (H.host_told host.new) (file_lefts H.In.left files.items)) }
     ensures failed_there { IfErr result (λ files. are_there files.items
         ≡ are_named (take (length files.items) (map named names.entry.now))) }
-    ensures failed_fresh { IfErr result (λ files. NoneFailed (faults_of H.In.read_faults files.items)) }
+    ensures failed_fresh { IfErr result (λ files. NoneFailed (file_faults H.In.read_faults files.items)) }
     ensures said { (H.host_told host.new).said ≡ (H.host_told host.old).said }
     ensures say_faults { (H.host_told host.new).say_faults ≡ (H.host_told host.old).say_faults }
 {

@@ -1,8 +1,8 @@
 // The verdict on files.
 ghost use Rattle.std.specs.Prelude.{◌≡◌, ◌≤◌, ◌%◌, length, map, IfOk, IfErr, OnOk};
-ghost use Rattle.check_files.specs.File.{are_there, faults_of, lefts_of};
+ghost use Rattle.check_files.specs.File.{are_there, file_faults, file_lefts};
 ghost use Rattle.check_files.specs.Judged.{IsJudged};
-ghost use Rattle.check_files.specs.Stopped.{FaultsBy, IsStopped, LeftsBy};
+ghost use Rattle.check_files.specs.Stopped.{FaultsBy, WhyStopped, LeftsBy};
 ghost use Rattle.check_files.specs.Whole.{emptied};
 
 use crate::contents::read_all;
@@ -17,15 +17,15 @@ use std::alloc::Global;
 pub fn check_files<S: Source>(alloc: Global, files: &mut [File<S>]) -> Result<Verdict, CheckError>
     requires pairs { length files.old % 2 ≡ 1 }
     requires few { length files.old ≤ 33 }
-    ensures verdict { IfOk result (IsJudged (lefts_of S.left files.old)) }
-    ensures emptied { OnOk result (lefts_of S.left files.new ≡ map emptied (lefts_of S.left files.old)) }
-    ensures faults { OnOk result (faults_of S.read_faults files.new ≡ faults_of S.read_faults files.old) }
+    ensures verdict { IfOk result (IsJudged (file_lefts S.left files.old)) }
+    ensures emptied { OnOk result (file_lefts S.left files.new ≡ map emptied (file_lefts S.left files.old)) }
+    ensures faults { OnOk result (file_faults S.read_faults files.new ≡ file_faults S.read_faults files.old) }
 
     // Each error has its cause.
-    ensures err { IfErr result (IsStopped (lefts_of S.left files.old)) }
-    ensures lefts { IfErr result (λ e. LeftsBy e (lefts_of S.left files.old) (lefts_of S.left files.new)) }
-    ensures counts { IfErr result (λ e. FaultsBy e (faults_of S.read_faults files.old)
-        (faults_of S.read_faults files.new)) }
+    ensures err { IfErr result (WhyStopped (file_lefts S.left files.old)) }
+    ensures lefts { IfErr result (λ e. LeftsBy e (file_lefts S.left files.old) (file_lefts S.left files.new)) }
+    ensures counts { IfErr result (λ e. FaultsBy e (file_faults S.read_faults files.old)
+        (file_faults S.read_faults files.new)) }
 
     // The same files are there.
     ensures there { are_there files.new ≡ are_there files.old }

@@ -1,6 +1,6 @@
 // A source that is read whole.
 ghost use Rattle.std.specs.Prelude.{◌<◌, ◌^◌, IfOk, IfErr, ◌≡◌, OnOk};
-ghost use Rattle.check_files.specs.Whole.{IsWhole, IsUnread, emptied};
+ghost use Rattle.check_files.specs.Whole.{IsReadWhole, IsUnread, emptied};
 
 use crate::Unread;
 use flake_base::{Bytes, Source};
@@ -11,7 +11,7 @@ const PIECE: usize = 4096;
 
 /// All that a source has left, if that is no more than so many bytes.
 pub fn read_whole<S: Source>(alloc: Global, source: &mut S, limit: usize) -> Result<Bytes, Unread>
-    ensures ok { IfOk result (λ bytes. IsWhole limit (S.left source.old) bytes.items) }
+    ensures ok { IfOk result (λ bytes. IsReadWhole limit (S.left source.old) bytes.items) }
     ensures left { OnOk result (S.left source.new ≡ emptied (S.left source.old)) }
     ensures faults { OnOk result (S.read_faults source.new ≡ S.read_faults source.old) }
     ensures err { IfErr result (λ unread. IsUnread unread limit (S.left source.old)

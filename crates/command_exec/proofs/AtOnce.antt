@@ -2,7 +2,8 @@
 use Rattle.std.proofs.Common.{◌≡◌, ℕ, List, [], None, length, refl, ap, sym, subst, arith}
 use Rattle.pin_core.specs.declared.sizes.Sizes.{Sizes}
 use Rattle.flake_base.specs.declared.segment.Seg.{Seg}
-use Rattle.flake_model.specs.Command.{Command, ping, ping_with, get, set, mget, del, exists, append, str_len, get_range, fault, parts}
+use Rattle.flake_model.specs.Command.{Command, ping, ping_with, get, set, mget, del, exists, append, str_len, get_range}
+use Rattle.flake_model.specs.Command.{fault, parts}
 use Rattle.reply_layout.specs.Pieces.{pieces_of}
 use Rattle.reply_planner.specs.Laid.{pieces_in}
 use Rattle.reply_planner.specs.Planned.{Planned}
@@ -26,7 +27,9 @@ no_parts (append key bytes) none = absurd none
 no_parts (str_len key) none = absurd none
 no_parts (get_range key first last) none = absurd none
 
-pub at_once : (z : Sizes) (shards call : ℕ) (command : Command) (pass : PassView) (segs : List Seg) (p q : Planned) → HasNoParts command → q.base ≡ p.base → q.begun ≡ None → Alike p.base.threshold (pieces_in q.taken) (pieces_of command [])
+pub at_once : (z : Sizes) (shards call : ℕ) (command : Command) (pass : PassView) (segs : List Seg) (p q : Planned)
+    → HasNoParts command → q.base ≡ p.base → q.begun ≡ None → Alike p.base.threshold (pieces_in q.taken)
+    (pieces_of command [])
     → HasReply z shards call command pass pass segs segs q
 at_once z shards call command pass segs p q none base begun alike = record {
   outcomes = [];

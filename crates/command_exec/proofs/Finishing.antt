@@ -1,5 +1,6 @@
 -- A call's reply becomes a parcel, or is given up.
-use Rattle.std.proofs.Common.{◌≡◌, ℕ, ◌+◌, ◌≤◌, Bool, true, false, cond, List, [], ◌∷◌, ◌++◌, None, length, take, drop, map, refl, ap, sym, ◌∙◌, subst, arith, append-nil}
+use Rattle.std.proofs.Common.{◌≡◌, ℕ, ◌+◌, ◌≤◌, Bool, true, false, cond, List, [], ◌∷◌, ◌++◌, None, length, take, drop}
+use Rattle.std.proofs.Common.{map, refl, ap, sym, ◌∙◌, subst, arith, append-nil}
 use Rattle.std.proofs.lemmas.List.{map-append, length-take-le}
 use Rattle.std.specs.Prelude.{nat_le}
 use Rattle.view_sums.specs.Total.{total, same}
@@ -9,7 +10,7 @@ use Rattle.pin_core.specs.declared.class.Class.{Class}
 use Rattle.pin_core.specs.declared.sizes.Sizes.{Sizes}
 use Rattle.pinned_pool.specs.Addresses.{address_of}
 use Rattle.pinned_pool.specs.Classes.{buffers_in}
-use Rattle.pinned_pool.specs.Moves.{left_by, split_old}
+use Rattle.pinned_pool.specs.Moves.{without_keys, split_old}
 use Rattle.pinned_pool.specs.Sought.{Sought}
 use Rattle.pinned_pool.specs.Views.{among, looked_at}
 use Rattle.pinned_pool.specs.declared.view.View.{View}
@@ -17,12 +18,13 @@ use Rattle.flake_base.specs.declared.segment.Seg.{Seg}
 use Rattle.flake_model.specs.Command.{Command, parts}
 use Rattle.flake_model.specs.Resp.{crlf}
 use Rattle.flake_model.specs.Reply.{reply_of, reply_text}
-use Rattle.frag_value.specs.Taken.{Placed, copied, whole}
+use Rattle.frag_value.specs.Taken.{PlacedRun, copied, whole}
 use Rattle.frag_value.specs.Taken as taken
 use Rattle.reply_layout.specs.declared.need.Need.{Need}
 use Rattle.reply_layout.specs.Frames.{Frame}
 use Rattle.reply_layout.specs.Layout as layout
-use Rattle.reply_layout.specs.Layout.{Placing, placing_of, placings_of, copied_of, pinned_of, layout_of, buffers_for}
+use Rattle.reply_layout.specs.Layout.{Placing, placing_of, placings_of, copied_of, pinned_of, layout_of}
+use Rattle.reply_layout.specs.Layout.{staging_buffers_for}
 use Rattle.reply_layout.specs.Need.{need_of}
 use Rattle.reply_layout.specs.Pieces.{Piece, plain, reply_from, pieces_of}
 use Rattle.reply_layout.proofs.Texts.{pieces_text}
@@ -30,8 +32,9 @@ use Rattle.reply_layout.specs.Gathered.{copied_text}
 use Rattle.reply_planner.specs.Laid.{stored_run, begun_pieces, pieces_in, pieces_so_far}
 use Rattle.reply_planner.specs.Owned.{AreOwn, own_at, bare_all, keys_for}
 use Rattle.reply_planner.specs.Parcels.{Sent, lent}
-use Rattle.reply_planner.specs.Places.{addresses_of}
-use Rattle.reply_planner.specs.Planned.{Planned, planned, terms, paid_of, long_of, paid_by, paid_begun, paid_in, copied_in}
+use Rattle.reply_planner.specs.Places.{buffer_addresses}
+use Rattle.reply_planner.specs.Planned.{Planned, planned, terms, paid_of, long_of, paid_by, paid_begun, paid_in}
+use Rattle.reply_planner.specs.Planned.{copied_in}
 use Rattle.reply_planner.specs.Sealed.{used_of, IsSealed, Keeps, Cancels}
 use Rattle.reply_planner.specs.Stages.{IsOrdered, merged}
 use Rattle.call_model.specs.Outcomes.{call_deeds}
@@ -39,14 +42,15 @@ use Rattle.reply_planner.specs.declared.terms.Terms.{Terms}
 use Rattle.command_exec.specs.Alike.{Alike}
 use Rattle.command_exec.specs.Executed.{Executes, FallsShort}
 use Rattle.command_exec.specs.Passes.{PassView, pass_of, IsPass}
-use Rattle.command_exec.specs.Running.{KeepsPass, HasReply, HasStopped}
+use Rattle.command_exec.specs.Running.{KeepsPass, HasReply, LacksMemory}
 use Rattle.command_exec.proofs.AlikePieces.{layout_alike, copied_alike, pinned_alike, pinned_laid}
 use Rattle.command_exec.proofs.Ordered.{merged-rest, take-fewer, take-map, total-parts}
 use Rattle.command_exec.proofs.SoFar.{answers_from}
 use Rattle.command_exec.proofs.Staged.{layout_first, copied_length, pieces_some}
 
 -- what was sought between seats whose claims and looks are those of others
-moved : (z : Sizes) (rows : Class → ℕ) (n : ℕ) (u v u' v' : View) → Sought z rows n u v → u.claims ≡ u'.claims → u.looks ≡ u'.looks → v'.claims ≡ v.claims → v'.looks ≡ v.looks → Sought z rows n u' v'
+moved : (z : Sizes) (rows : Class → ℕ) (n : ℕ) (u v u' v' : View) → Sought z rows n u v → u.claims ≡ u'.claims
+    → u.looks ≡ u'.looks → v'.claims ≡ v.claims → v'.looks ≡ v.looks → Sought z rows n u' v'
 moved z rows n u v u' v' one claims looks now_claims now_looks = record {
   missed = one.missed;
   missed_are = one.missed_are;
@@ -60,8 +64,10 @@ pinned-append [] qs = omega arith
 pinned-append (layout.copied n ∷ ps) qs = pinned-append ps qs
 pinned-append (layout.pinned seg ∷ ps) qs = omega (arith, pinned-append ps qs)
 
-pinned-pieces : (t : ℕ) (xs ys : List Piece) → pinned_of (placings_of t (xs ++ ys)) ≡ pinned_of (placings_of t xs) + pinned_of (placings_of t ys)
-pinned-pieces t xs ys = ap pinned_of (map-append (placing_of t) xs ys) ∙ pinned-append (placings_of t xs) (placings_of t ys)
+pinned-pieces : (t : ℕ) (xs ys : List Piece) → pinned_of (placings_of t (xs ++ ys)) ≡ pinned_of (placings_of t xs)
+    + pinned_of (placings_of t ys)
+pinned-pieces t xs ys = ap pinned_of (map-append (placing_of t) xs ys) ∙ pinned-append (placings_of t xs)
+    (placings_of t ys)
 
 cond_most : (b : Bool) (n : ℕ) → cond b 0 n ≤ n
 cond_most true n = omega arith
@@ -71,7 +77,7 @@ long_kept : (b : Bool) (seg : Seg) (n : ℕ) → cond b 1 0 ≤ pinned_of (cond 
 long_kept true seg n = omega arith
 long_kept false seg n = omega arith
 
-one_paid : (t : ℕ) (f : Placed) → paid_of t f ≤ pinned_of (placing_of t (stored_run f) ∷ [])
+one_paid : (t : ℕ) (f : PlacedRun) → paid_of t f ≤ pinned_of (placing_of t (stored_run f) ∷ [])
 one_paid t f =
     omega (
       arith,
@@ -79,22 +85,32 @@ one_paid t f =
       long_kept (nat_le t (length f.bytes)) (layout.segment (f.address + f.offset) (length f.bytes)) (length f.bytes),
     )
 
-runs_paid : (t : ℕ) (fs : List Placed) → total (paid_of t) fs ≤ pinned_of (placings_of t (map stored_run fs))
+runs_paid : (t : ℕ) (fs : List PlacedRun) → total (paid_of t) fs ≤ pinned_of (placings_of t (map stored_run fs))
 runs_paid t [] = omega arith
-runs_paid t (f ∷ fs) = omega (arith, one_paid t f, runs_paid t fs, pinned-append (placing_of t (stored_run f) ∷ []) (placings_of t (map stored_run fs)))
+runs_paid t (f ∷ fs) =
+    omega (
+      arith,
+      one_paid t f,
+      runs_paid t fs,
+      pinned-append (placing_of t (stored_run f) ∷ [])
+          (placings_of t (map stored_run fs)),
+    )
 
-taken_paid : (t : ℕ) (ps : List taken.Piece) → total (paid_by t) ps ≤ pinned_of (placings_of t (pieces_in ps))
+taken_paid : (t : ℕ) (ps : List taken.TakenPiece) → total (paid_by t) ps ≤ pinned_of (placings_of t (pieces_in ps))
 taken_paid t [] = omega arith
 taken_paid t (copied bytes ∷ ps) = omega (arith, taken_paid t ps)
 taken_paid t (whole b ∷ ps) =
     omega (arith, runs_paid t b.frags, taken_paid t ps, pinned-pieces t (begun_pieces b) (plain crlf ∷ pieces_in ps))
 
-paid_few : (t : ℕ) (p : Planned) → p.begun ≡ None → p.base.threshold ≡ t → paid_in p ≤ pinned_of (placings_of t (pieces_in p.taken))
-paid_few t p none is = omega (arith, taken_paid t p.taken, ap (λ m. total (paid_by m) p.taken) is, ap (paid_begun p.base.threshold) none)
+paid_few : (t : ℕ) (p : Planned) → p.begun ≡ None → p.base.threshold ≡ t
+    → paid_in p ≤ pinned_of (placings_of t (pieces_in p.taken))
+paid_few t p none is =
+    omega (arith, taken_paid t p.taken, ap (λ m. total (paid_by m) p.taken) is, ap (paid_begun p.base.threshold) none)
 
 -- the pass behind the start of a plan
 abbrev pub begin_of : Need → PassView → PassView
-begin_of need old = pass_of old.list (split_old [] (need.descriptors + 3) old.seat) old.stage (drop need.stage old.free) old.threshold
+begin_of need old = pass_of old.list (split_old [] (need.descriptors + 3) old.seat) old.stage (drop need.stage old.free)
+    old.threshold
 
 pub begin_is : (z : Sizes) (need : Need) (old : PassView) → IsPass z old → IsPass z (begin_of need old)
 begin_is z need old is = record {
@@ -109,7 +125,8 @@ begin_is z need old is = record {
 abbrev pub base_of : Need → PassView → Terms
 base_of need old = terms need.descriptors (take need.stage old.free) old.threshold
 
-pub own_all : (need : Need) (old mid : PassView) (p : Planned) → AreOwn old.seat.holds old.free → KeepsPass (begin_of need old) mid → p.base ≡ base_of need old → AreOwn mid.seat.holds (mid.free ++ p.base.stage)
+pub own_all : (need : Need) (old mid : PassView) (p : Planned) → AreOwn old.seat.holds old.free
+    → KeepsPass (begin_of need old) mid → p.base ≡ base_of need old → AreOwn mid.seat.holds (mid.free ++ p.base.stage)
 own_all need old mid p own keeps base b =
     omega (
       arith,
@@ -125,10 +142,15 @@ own_all need old mid p own keeps base b =
 abbrev frame_of : List Seg → List ℕ → ℕ → ℕ → Frame
 frame_of segments lent pinned bytes = record { segments = segments; lent = lent; pinned = pinned; bytes = bytes }
 
-module _ (z : Sizes) (shards call : ℕ) (command : Command) (old mid : PassView) (segs_before segs : List Seg) (p : Planned) (enough : (need_of command).stage ≤ length old.free) (rich : (need_of command).descriptors + 5 ≤ old.seat.credits)
+module _ (z : Sizes) (shards call : ℕ) (command : Command) (old mid : PassView) (segs_before segs : List Seg)
+    (p : Planned) (enough : (need_of command).stage ≤ length old.free)
+    (rich : (need_of command).descriptors + 5 ≤ old.seat.credits)
     (ordered : IsOrdered old.free) (base : p.base ≡ base_of (need_of command) old) where
-  pub executes : (parcel : Sent) (seat : View) (free : List ℕ) → HasReply z shards call command (begin_of (need_of command) old) mid segs_before segs p → IsSealed z p call parcel → Keeps p parcel.staged mid.seat seat
-      → free ≡ merged (drop (used_of p) p.base.stage) mid.free → Executes z shards command call old (pass_of mid.list seat mid.stage free mid.threshold) parcel segs_before segs
+  pub executes : (parcel : Sent) (seat : View) (free : List ℕ)
+      → HasReply z shards call command (begin_of (need_of command) old) mid segs_before segs p
+      → IsSealed z p call parcel → Keeps p parcel.staged mid.seat seat
+      → free ≡ merged (drop (used_of p) p.base.stage) mid.free → Executes z shards command call old
+      (pass_of mid.list seat mid.stage free mid.threshold) parcel segs_before segs
   executes parcel seat free reply sealed kept rest =
       let operations = parts command in
       let outcomes = reply.outcomes in
@@ -140,29 +162,38 @@ module _ (z : Sizes) (shards call : ℕ) (command : Command) (old mid : PassView
       let keeps = reply.ran.keeps in
       let threshold : p.base.threshold ≡ t = ap (λ (b : Terms). b.threshold) base in
       let stage_is : p.base.stage ≡ take few old.free = ap (λ (b : Terms). b.stage) base in
-      let alike : Alike t (pieces_in p.taken) pieces = subst (λ m. Alike m (pieces_in p.taken) pieces) threshold reply.pieces in
-      let text_is : parcel.text ≡ reply_text (reply_from command deeds) = sealed.text ∙ alike.text ∙ pieces_text command deeds in
+      let alike : Alike t (pieces_in p.taken) pieces = subst (λ m. Alike m (pieces_in p.taken) pieces) threshold
+      reply.pieces in
+      let text_is : parcel.text ≡ reply_text (reply_from command deeds) = sealed.text ∙ alike.text
+      ∙ pieces_text command deeds in
       let answers = answers_from old.list.number call operations outcomes reply.ran.running.are in
-      let so_far : pieces_so_far p.taken p.begun ≡ pieces_in p.taken = ap (pieces_so_far p.taken) reply.begun ∙ append-nil (pieces_in p.taken) in
+      let so_far : pieces_so_far p.taken p.begun ≡ pieces_in p.taken = ap (pieces_so_far p.taken) reply.begun
+      ∙ append-nil (pieces_in p.taken) in
       let copied : copied_in p ≡ copied_of placings =
-      ap (λ l. length (copied_text p.base.threshold l)) so_far ∙ ap (λ m. length (copied_text m (pieces_in p.taken))) threshold ∙ copied_length t (pieces_in p.taken) ∙ copied_alike t (pieces_in p.taken) pieces alike in
-      let used : used_of p ≡ buffers_for (copied_of placings) = ap buffers_for copied in
-      let stage_long : length p.base.stage ≡ few = ap (λ (l : List ℕ). length l) stage_is ∙ length-take-le few old.free enough in
-      let within : buffers_for (copied_of placings) ≤ few = omega (arith, sealed.in_stage, used, stage_long) in
-      let staged_is : parcel.staged ≡ take (buffers_for (copied_of placings)) old.free =
-      sealed.staged ∙ (λ i. take (used i) (stage_is i)) ∙ take-fewer (buffers_for (copied_of placings)) few old.free within in
-      let staged_long : length parcel.staged ≡ buffers_for (copied_of placings) = ap (λ (l : List ℕ). length l) staged_is ∙ length-take-le (buffers_for (copied_of placings)) old.free (omega (arith, within, enough)) in
-      let segments_are : parcel.segments ≡ layout_of (addresses_of z old.free) placings =
+      ap (λ l. length (copied_text p.base.threshold l)) so_far ∙ ap (λ m. length (copied_text m (pieces_in p.taken)))
+      threshold ∙ copied_length t (pieces_in p.taken) ∙ copied_alike t (pieces_in p.taken) pieces alike in
+      let used : used_of p ≡ staging_buffers_for (copied_of placings) = ap staging_buffers_for copied in
+      let stage_long : length p.base.stage ≡ few = ap (λ (l : List ℕ). length l) stage_is
+      ∙ length-take-le few old.free enough in
+      let within : staging_buffers_for (copied_of placings) ≤ few = omega (arith, sealed.in_stage, used, stage_long) in
+      let staged_is : parcel.staged ≡ take (staging_buffers_for (copied_of placings)) old.free =
+      sealed.staged ∙ (λ i. take (used i) (stage_is i)) ∙ take-fewer (staging_buffers_for (copied_of placings)) few
+      old.free within in
+      let staged_long : length parcel.staged ≡ staging_buffers_for (copied_of placings) =
+      ap (λ (l : List ℕ). length l) staged_is ∙ length-take-le (staging_buffers_for (copied_of placings)) old.free
+      (omega (arith, within, enough)) in
+      let segments_are : parcel.segments ≡ layout_of (buffer_addresses z old.free) placings =
       sealed.segments
-      ∙ ap (λ m. layout_of (addresses_of z p.base.stage) (placings_of m (pieces_in p.taken))) threshold
-      ∙ layout_alike t (pieces_in p.taken) pieces (addresses_of z p.base.stage) alike
-      ∙ ap (λ l. layout_of (addresses_of z l) placings) stage_is
+      ∙ ap (λ m. layout_of (buffer_addresses z p.base.stage) (placings_of m (pieces_in p.taken))) threshold
+      ∙ layout_alike t (pieces_in p.taken) pieces (buffer_addresses z p.base.stage) alike
+      ∙ ap (λ l. layout_of (buffer_addresses z l) placings) stage_is
       ∙ ap (λ l. layout_of l placings) (take-map (address_of z) few old.free)
-      ∙ layout_first few (addresses_of z old.free) placings within in
+      ∙ layout_first few (buffer_addresses z old.free) placings within in
       let pinned_is : parcel.pinned ≡ pinned_of placings =
-      sealed.pinned ∙ ap (λ m. pinned_of (placings_of m (pieces_in p.taken))) threshold ∙ pinned_alike t (pieces_in p.taken) pieces alike in
-      let lent_is : lent z parcel ≡ take (buffers_for (copied_of placings)) (addresses_of z old.free) =
-      ap (addresses_of z) staged_is ∙ take-map (address_of z) (buffers_for (copied_of placings)) old.free in
+      sealed.pinned ∙ ap (λ m. pinned_of (placings_of m (pieces_in p.taken))) threshold
+      ∙ pinned_alike t (pieces_in p.taken) pieces alike in
+      let lent_is : lent z parcel ≡ take (staging_buffers_for (copied_of placings)) (buffer_addresses z old.free) =
+      ap (buffer_addresses z) staged_is ∙ take-map (address_of z) (staging_buffers_for (copied_of placings)) old.free in
       let some = pieces_some t command deeds in
       record {
         outcomes = outcomes;
@@ -170,7 +201,8 @@ module _ (z : Sizes) (shards call : ℕ) (command : Command) (old mid : PassView
           running = record {
             are = reply.ran.running.are;
             told = reply.ran.running.told;
-            sought = moved z _ _ (begin_of (need_of command) old).seat mid.seat old.seat seat reply.ran.running.sought refl refl kept.claims kept.looks;
+            sought = moved z _ _ (begin_of (need_of command) old).seat mid.seat old.seat seat reply.ran.running.sought
+                refl refl kept.claims kept.looks;
           };
           whole = reply.whole;
           text_is = text_is ∙ ap (λ a. reply_text (reply_of command a)) answers;
@@ -183,18 +215,40 @@ module _ (z : Sizes) (shards call : ℕ) (command : Command) (old mid : PassView
         staged = staged_is ∙ ap (λ m. take m old.free) (sym staged_long);
         some = omega (arith, staged_long, some);
         in_ring = omega (arith, sealed.in_ring, ap (λ (b : Terms). b.descriptors) base);
-        few = omega (arith, sealed.paid, paid_few t p reply.begun threshold, sealed.pinned, ap (λ m. pinned_of (placings_of m (pieces_in p.taken))) threshold, pinned_is, pinned_laid (addresses_of z old.free) placings, ap (λ (l : List Seg). length l) segments_are);
-        credits = omega (arith, kept.credits, sealed.paid, keeps.seat.credits, rich, ap (λ (b : Terms). b.descriptors) base);
-        holds = kept.holds ∙ ap (λ l. left_by (keys_for parcel.staged) (bare_all l)) keeps.seat.holds;
+        few = omega (
+          arith,
+          sealed.paid,
+          paid_few t p reply.begun threshold,
+          sealed.pinned,
+          ap
+              (λ m. pinned_of (placings_of m (pieces_in p.taken))) threshold,
+          pinned_is,
+          pinned_laid
+              (buffer_addresses z old.free) placings,
+          ap (λ (l : List Seg). length l) segments_are,
+        );
+        credits = omega (
+          arith,
+          kept.credits,
+          sealed.paid,
+          keeps.seat.credits,
+          rich,
+          ap (λ (b : Terms). b.descriptors)
+              base,
+        );
+        holds = kept.holds ∙ ap (λ l. without_keys (keys_for parcel.staged) (bare_all l)) keeps.seat.holds;
         returns = kept.returns ∙ keeps.seat.returns;
-        free = rest ∙ (λ i. merged (drop (used i) (stage_is i)) (keeps.free i)) ∙ merged-rest (buffers_for (copied_of placings)) few old.free within ordered ∙ ap (λ m. drop m old.free) (sym staged_long);
+        free = rest ∙ (λ i. merged (drop (used i) (stage_is i)) (keeps.free i))
+            ∙ merged-rest (staging_buffers_for (copied_of placings)) few old.free within ordered
+            ∙ ap (λ m. drop m old.free) (sym staged_long);
         stage = keeps.stage;
         threshold = keeps.threshold;
         stored = reply.ran.stored;
         in_buffers = reply.ran.in_buffers;
       }
 
-  pub falls_short : (seat : View) (free : List ℕ) → HasStopped z shards call command (begin_of (need_of command) old) mid → Cancels p mid.seat seat → free ≡ merged p.base.stage mid.free
+  pub falls_short : (seat : View) (free : List ℕ) → LacksMemory z shards call command (begin_of (need_of command) old)
+      mid → Cancels p mid.seat seat → free ≡ merged p.base.stage mid.free
       → FallsShort z shards command call old (pass_of mid.list seat mid.stage free mid.threshold)
   falls_short seat free stopped cancels rest =
       let keeps = stopped.keeps in
@@ -205,7 +259,8 @@ module _ (z : Sizes) (shards call : ℕ) (command : Command) (old mid : PassView
           are = stopped.cut.are;
           short = stopped.cut.short;
           told = stopped.cut.told;
-          sought = moved z _ _ (begin_of (need_of command) old).seat mid.seat old.seat seat stopped.cut.sought refl refl cancels.claims cancels.looks;
+          sought = moved z _ _ (begin_of (need_of command) old).seat mid.seat old.seat seat stopped.cut.sought refl refl
+              cancels.claims cancels.looks;
         };
         number = keeps.number;
         looks = keeps.looks;
@@ -226,39 +281,63 @@ pub record Starts (command : Command) (given old begin : PassView) (p : Planned)
   pub begin_with : begin ≡ begin_of (need_of command) old
   pub base : p.base ≡ base_of (need_of command) old
 
-pub starts_of : (command : Command) (given old : PassView) (need : Need) (seat : View) (free : List ℕ) (p : Planned) → old ≡ given → (need_of command).stage ≤ length given.free → (need_of command).descriptors + 5 ≤ given.seat.credits → IsOrdered old.free
-    → need ≡ need_of command → seat ≡ split_old [] (need.descriptors + 3) old.seat → free ≡ drop need.stage old.free → p ≡ planned (base_of need old) [] None
+pub starts_of : (command : Command) (given old : PassView) (need : Need) (seat : View) (free : List ℕ) (p : Planned)
+    → old ≡ given → (need_of command).stage ≤ length given.free → (need_of command).descriptors + 5 ≤ given.seat.credits
+    → IsOrdered old.free
+    → need ≡ need_of command → seat ≡ split_old [] (need.descriptors + 3) old.seat → free ≡ drop need.stage old.free
+    → p ≡ planned (base_of need old) [] None
     → Starts command given old (pass_of old.list seat old.stage free old.threshold) p
 starts_of command given old need seat free p given_is enough rich ordered need_is seat_is free_is plan_is = record {
   given_is = given_is;
   enough = enough;
   rich = rich;
   ordered = ordered;
-  begin_with = (λ i. pass_of old.list (seat_is i) old.stage (free_is i) old.threshold) ∙ ap (λ n. begin_of n old) need_is;
+  begin_with = (λ i. pass_of old.list (seat_is i) old.stage (free_is i) old.threshold)
+      ∙ ap (λ n. begin_of n old) need_is;
   base = ap (λ (q : Planned). q.base) plan_is ∙ ap (λ n. base_of n old) need_is;
 }
 
-pub starts_own : (command : Command) (given old begin mid two : PassView) (p q : Planned) → Starts command given old begin p → AreOwn old.seat.holds old.free → two ≡ mid → q.base ≡ p.base → KeepsPass begin mid → AreOwn two.seat.holds (two.free ++ q.base.stage)
+pub starts_own : (command : Command) (given old begin mid two : PassView) (p q : Planned)
+    → Starts command given old begin p → AreOwn old.seat.holds old.free → two ≡ mid → q.base ≡ p.base
+    → KeepsPass begin mid → AreOwn two.seat.holds (two.free ++ q.base.stage)
 starts_own command given old begin mid two p q starts own same base keeps =
-    own_all (need_of command) old two q own (subst (λ m. KeepsPass (begin_of (need_of command) old) m) (sym same) (subst (λ b. KeepsPass b mid) starts.begin_with keeps)) (base ∙ starts.base)
+    own_all (need_of command) old two q own
+    (subst (λ m. KeepsPass (begin_of (need_of command) old) m) (sym same)
+    (subst (λ b. KeepsPass b mid) starts.begin_with keeps)) (base ∙ starts.base)
 
-module _ (z : Sizes) (shards call : ℕ) (command : Command) (given old begin mid two : PassView) (segs_before segs : List Seg) (p q : Planned) (starts : Starts command given old begin p) (same : two ≡ mid) (base : q.base ≡ p.base) where
-  pub starts_executes : (parcel : Sent) (seat : View) (free : List ℕ) → HasReply z shards call command begin mid segs_before segs q → IsSealed z q call parcel → Keeps q parcel.staged two.seat seat
-      → free ≡ merged (drop (used_of q) q.base.stage) two.free → Executes z shards command call given (pass_of two.list seat two.stage free two.threshold) parcel segs_before segs
+module _ (z : Sizes) (shards call : ℕ) (command : Command) (given old begin mid two : PassView)
+    (segs_before segs : List Seg) (p q : Planned) (starts : Starts command given old begin p) (same : two ≡ mid)
+    (base : q.base ≡ p.base) where
+  pub starts_executes : (parcel : Sent) (seat : View) (free : List ℕ)
+      → HasReply z shards call command begin mid segs_before segs q → IsSealed z q call parcel
+      → Keeps q parcel.staged two.seat seat
+      → free ≡ merged (drop (used_of q) q.base.stage) two.free → Executes z shards command call given
+      (pass_of two.list seat two.stage free two.threshold) parcel segs_before segs
   starts_executes parcel seat free reply sealed kept rest =
-      let enough = subst (λ (o : PassView). (need_of command).stage ≤ length o.free) (sym starts.given_is) starts.enough in
-      let rich = subst (λ (o : PassView). (need_of command).descriptors + 5 ≤ o.seat.credits) (sym starts.given_is) starts.rich in
+      let enough = subst (λ (o : PassView). (need_of command).stage ≤ length o.free) (sym starts.given_is) starts.enough
+      in
+      let rich = subst (λ (o : PassView). (need_of command).descriptors + 5 ≤ o.seat.credits)
+      (sym starts.given_is) starts.rich in
       let now : HasReply z shards call command (begin_of (need_of command) old) two segs_before segs q =
-      subst (λ m. HasReply z shards call command (begin_of (need_of command) old) m segs_before segs q) (sym same) (subst (λ b. HasReply z shards call command b mid segs_before segs q) starts.begin_with reply) in
-      subst (λ o. Executes z shards command call o (pass_of two.list seat two.stage free two.threshold) parcel segs_before segs) starts.given_is
-      (executes z shards call command old two segs_before segs q enough rich starts.ordered (base ∙ starts.base) parcel seat free now sealed kept rest)
+      subst (λ m. HasReply z shards call command (begin_of (need_of command) old) m segs_before segs q) (sym same)
+      (subst (λ b. HasReply z shards call command b mid segs_before segs q) starts.begin_with reply) in
+      subst (λ o. Executes z shards command call o (pass_of two.list seat two.stage free two.threshold) parcel
+      segs_before segs) starts.given_is
+      (executes z shards call command old two segs_before segs q enough rich starts.ordered (base ∙ starts.base) parcel
+      seat free now sealed kept rest)
 
-  pub starts_falls : (seat : View) (free : List ℕ) → HasStopped z shards call command begin mid → Cancels q two.seat seat → free ≡ merged q.base.stage two.free
+  pub starts_falls : (seat : View) (free : List ℕ) → LacksMemory z shards call command begin mid
+      → Cancels q two.seat seat → free ≡ merged q.base.stage two.free
       → FallsShort z shards command call given (pass_of two.list seat two.stage free two.threshold)
   starts_falls seat free stopped cancels rest =
-      let enough = subst (λ (o : PassView). (need_of command).stage ≤ length o.free) (sym starts.given_is) starts.enough in
-      let rich = subst (λ (o : PassView). (need_of command).descriptors + 5 ≤ o.seat.credits) (sym starts.given_is) starts.rich in
-      let now : HasStopped z shards call command (begin_of (need_of command) old) two =
-      subst (λ m. HasStopped z shards call command (begin_of (need_of command) old) m) (sym same) (subst (λ b. HasStopped z shards call command b mid) starts.begin_with stopped) in
-      subst (λ o. FallsShort z shards command call o (pass_of two.list seat two.stage free two.threshold)) starts.given_is
-      (falls_short z shards call command old two segs_before segs q enough rich starts.ordered (base ∙ starts.base) seat free now cancels rest)
+      let enough = subst (λ (o : PassView). (need_of command).stage ≤ length o.free) (sym starts.given_is) starts.enough
+      in
+      let rich = subst (λ (o : PassView). (need_of command).descriptors + 5 ≤ o.seat.credits)
+      (sym starts.given_is) starts.rich in
+      let now : LacksMemory z shards call command (begin_of (need_of command) old) two =
+      subst (λ m. LacksMemory z shards call command (begin_of (need_of command) old) m) (sym same)
+      (subst (λ b. LacksMemory z shards call command b mid) starts.begin_with stopped) in
+      subst (λ o. FallsShort z shards command call o (pass_of two.list seat two.stage free two.threshold))
+      starts.given_is
+      (falls_short z shards call command old two segs_before segs q enough rich starts.ordered (base ∙ starts.base) seat
+      free now cancels rest)

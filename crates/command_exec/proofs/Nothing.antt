@@ -14,7 +14,8 @@ not_begun z shards call command p = record {
     are = tt;
     short = inl refl;
     told = sym (append-nil p.list.told);
-    sought = sought_within z (λ class. 0) (λ class. parts_row class (parts command)) 0 p.seat p.seat (sought_nothing z p.seat p.seat refl refl) (λ class. omega arith);
+    sought = sought_within z (λ class. 0) (λ class. parts_row class (parts command)) 0 p.seat p.seat
+        (sought_nothing z p.seat p.seat refl refl) (λ class. omega arith);
   };
   number = refl;
   looks = refl;

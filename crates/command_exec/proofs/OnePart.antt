@@ -1,5 +1,6 @@
 -- A command with one part, whose answer is the reply.
-use Rattle.std.proofs.Common.{◌≡◌, ℕ, ◌≤◌, List, [], ◌∷◌, ◌++◌, Option, None, Some, length, slice_get, refl, ap, sym, ◌∙◌, subst, arith}
+use Rattle.std.proofs.Common.{◌≡◌, ℕ, ◌≤◌, List, [], ◌∷◌, ◌++◌, Option, None, Some, length, slice_get, refl, ap, sym}
+use Rattle.std.proofs.Common.{◌∙◌, subst, arith}
 use Rattle.std.specs.List.{zip}
 use Rattle.view_sums.specs.Total.{total}
 use Rattle.view_sums.proofs.Sums.{total-append}
@@ -16,16 +17,16 @@ use Rattle.reply_layout.specs.Need.{need_of}
 use Rattle.reply_layout.specs.Pieces.{pieces_of}
 use Rattle.reply_planner.specs.Laid.{pieces_in}
 use Rattle.reply_planner.specs.Planned.{Planned, planned, paid_by, left_of}
-use Rattle.call_model.specs.Outcomes.{Done, entry_at, call_deeds, answer_told, answers_told}
+use Rattle.call_model.specs.Outcomes.{PartOutcome, entry_at, call_deeds, answer_told, answers_told}
 use Rattle.call_model.specs.Demand.{long_in}
-use Rattle.call_model.specs.Parts.{Says, pieces_told}
+use Rattle.call_model.specs.Parts.{AnswersPart, pieces_told}
 use Rattle.call_model.specs.Steps.{deed_told}
 use Rattle.call_model.proofs.Growing.{more_deeds}
 use Rattle.command_exec.specs.Alike.{Alike}
 use Rattle.command_exec.specs.Kinds.{HasOnePart, part_at}
 use Rattle.command_exec.specs.Lines.{line_for, HasLine}
 use Rattle.command_exec.specs.Passes.{PassView}
-use Rattle.command_exec.specs.Running.{IsStarted, HasReply, HasStopped}
+use Rattle.command_exec.specs.Running.{IsStarted, HasReply, LacksMemory}
 use Rattle.command_exec.specs.Parted.{RunsPart, MissesPart}
 use Rattle.command_exec.proofs.Asked.{part_there, one_part}
 use Rattle.command_exec.proofs.Growing.{run_none, run_more, run_missed, outcome_of}
@@ -37,8 +38,10 @@ zip_none [] = refl
 zip_none (operation ∷ operations) = refl
 
 -- an answer that makes a line has given no bytes
-unanswered : (z : Sizes) (operation : Operation) (answer : Answer) (found : List ℕ) (first : ℕ) (stored : List ℕ) (said : PartAnswer) (seat after : View)
-    → Says z operation (Some (record { answer = answer; found = found; first = first; stored = stored })) said seat after → HasLine said
+unanswered : (z : Sizes) (operation : Operation) (answer : Answer) (found : List ℕ) (first : ℕ) (stored : List ℕ)
+    (said : PartAnswer) (seat after : View)
+    → AnswersPart z operation (Some (record { answer = answer; found = found; first = first; stored = stored })) said
+    seat after → HasLine said
     → pieces_told operation (Some (record { answer = answer; found = found; first = first; stored = stored })) ≡ []
 unanswered z operation (value bytes) found first stored said seat after says line = absurd (subst HasLine says line)
 unanswered z operation missing found first stored said seat after says line = refl
@@ -47,12 +50,16 @@ unanswered z operation (length_is n) found first stored said seat after says lin
 unanswered z operation (did happened) found first stored said seat after says line = refl
 unanswered z operation too_long found first stored said seat after says line = refl
 
-pub untaken : (z : Sizes) (operation : Operation) (outcome : Option Done) (said : PartAnswer) (seat after : View) → Says z operation outcome said seat after → HasLine said → pieces_told operation outcome ≡ []
+pub untaken : (z : Sizes) (operation : Operation) (outcome : Option PartOutcome) (said : PartAnswer) (seat after : View)
+    → AnswersPart z operation outcome said seat after → HasLine said → pieces_told operation outcome ≡ []
 untaken z operation None said seat after says line = refl
-untaken z operation (Some d) said seat after says line = unanswered z operation d.answer d.found d.first d.stored said seat after says line
+untaken z operation (Some d) said seat after says line = unanswered z operation d.answer d.found d.first d.stored said
+    seat after says line
 
-module _ (z : Sizes) (shards : ℕ) (command : Command) (at : Entry) (said : PartAnswer) (old new : PassView) (segs_before segs : List Seg) (p mid : Planned) (one : HasOnePart command) (first : at.part ≡ 0)
-    (started : IsStarted (need_of command) p) (ran : RunsPart z shards at (part_at command at.part) said old new segs_before segs p mid) where
+module _ (z : Sizes) (shards : ℕ) (command : Command) (at : Entry) (said : PartAnswer) (old new : PassView)
+    (segs_before segs : List Seg) (p mid : Planned) (one : HasOnePart command) (first : at.part ≡ 0)
+    (started : IsStarted (need_of command) p)
+    (ran : RunsPart z shards at (part_at command at.part) said old new segs_before segs p mid) where
   -- its line fits
   pub line_left : HasLine said → 64 ≤ left_of mid
   line_left line =
@@ -65,45 +72,70 @@ module _ (z : Sizes) (shards : ℕ) (command : Command) (at : Entry) (said : Par
         threshold = subst (λ n. n ≤ 512) (sym (ap (λ (q : Planned). q.base.threshold) ran.plan)) started.threshold;
       })
 
-  pub one_reply : (q : Planned) → at.session ≡ old.list.number → q ≡ planned mid.base (mid.taken ++ line_for said) None → HasReply z shards at.call command old new segs_before segs q
+  pub one_reply : (q : Planned) → at.session ≡ old.list.number → q ≡ planned mid.base (mid.taken ++ line_for said) None
+      → HasReply z shards at.call command old new segs_before segs q
   one_reply q own now =
       let operation = part_at command at.part in
       let outcome = ran.told.outcome in
       let operations = parts command in
-      let there : slice_get operations 0 ≡ Some operation = subst (λ j. slice_get operations j ≡ Some operation) first (part_there command at.part (omega (arith, first, one_part command one))) in
+      let there : slice_get operations 0 ≡ Some operation = subst (λ j. slice_get operations j ≡ Some operation) first
+      (part_there command at.part (omega (arith, first, one_part command one))) in
       let entry_is : at ≡ entry_at old.list.number at.call 0 = λ i. entry_at (own i) at.call (first i) in
       let t = p.base.threshold in
-      let base : q.base.threshold ≡ t = ap (λ (r : Planned). r.base.threshold) now ∙ ap (λ (r : Planned). r.base.threshold) ran.plan in
-      let taken_is : q.taken ≡ pieces_told operation outcome ++ line_for said = ap (λ (r : Planned). r.taken) now ∙ ap (λ (l : List taken.Piece). l ++ line_for said) (ran.told.pieces ∙ ap (λ (l : List taken.Piece). l ++ pieces_told operation outcome) started.taken) in
-      let deeds_are : call_deeds old.list.number at.call 0 operations (outcome ∷ []) ≡ deed_told at operation outcome ∷ [] = more_deeds old.list.number at.call 0 operations [] operation outcome there ∙ ap (λ (e : Entry). deed_told e operation outcome ∷ []) (sym entry_is) in
-      let alike = one_alike t z command at operation outcome said old.seat new.seat one ran.told.says ran.told.reaches in
+      let base : q.base.threshold ≡ t = ap (λ (r : Planned). r.base.threshold) now
+      ∙ ap (λ (r : Planned). r.base.threshold) ran.plan in
+      let taken_is : q.taken ≡ pieces_told operation outcome ++ line_for said = ap (λ (r : Planned). r.taken) now
+      ∙ ap (λ (l : List taken.TakenPiece). l ++ line_for said)
+      (ran.told.pieces ∙ ap (λ (l : List taken.TakenPiece). l ++ pieces_told operation outcome) started.taken) in
+      let deeds_are : call_deeds old.list.number at.call 0 operations (outcome ∷ []) ≡ deed_told at operation outcome
+      ∷ [] = more_deeds old.list.number at.call 0 operations [] operation outcome there
+      ∙ ap (λ (e : Entry). deed_told e operation outcome ∷ []) (sym entry_is) in
+      let alike = one_alike t z command at operation outcome said old.seat new.seat one ran.told.says ran.told.reaches
+      in
       record {
         outcomes = outcome ∷ [];
-        ran = run_more z shards at.call operations [] at operation outcome old old new segs_before segs_before segs there entry_is (run_none z shards at.call operations old segs_before)
+        ran = run_more z shards at.call operations [] at operation outcome old old new segs_before segs_before segs
+            there entry_is (run_none z shards at.call operations old segs_before)
             (outcome_of z shards at operation said old new segs_before segs p mid ran);
         whole = sym (one_part command one);
-        pieces = subst (λ n. Alike n (pieces_in q.taken) (pieces_of command (call_deeds old.list.number at.call 0 operations (outcome ∷ [])))) (sym base)
-            (subst (λ (l : List taken.Piece). Alike t (pieces_in l) (pieces_of command (call_deeds old.list.number at.call 0 operations (outcome ∷ [])))) (sym taken_is)
-            (subst (λ (l : List (Option Deed)). Alike t (pieces_in (pieces_told operation outcome ++ line_for said)) (pieces_of command l)) (sym deeds_are) alike));
+        pieces = subst (λ n. Alike n (pieces_in q.taken)
+            (pieces_of command (call_deeds old.list.number at.call 0 operations (outcome ∷ [])))) (sym base)
+            (subst (λ (l : List taken.TakenPiece). Alike t (pieces_in l)
+            (pieces_of command (call_deeds old.list.number at.call 0 operations (outcome ∷ [])))) (sym taken_is)
+            (subst (λ (l : List (Option Deed)). Alike t (pieces_in (pieces_told operation outcome ++ line_for said))
+            (pieces_of command l)) (sym deeds_are) alike));
         paid = omega (
           arith,
           one_paid operations there outcome,
           part_paid t started.threshold operation outcome ran.told.reaches ran.told.answered,
-          ap (λ (l : List taken.Piece). total (paid_by t) l) taken_is,
+          ap (λ (l : List taken.TakenPiece). total (paid_by t) l) taken_is,
           total-append (paid_by t) (pieces_told operation outcome) (line_for said),
           ap (λ n. total (paid_by n) q.taken) base,
         );
         begun = ap (λ (r : Planned). r.begun) now;
       } where
-        one_paid : (operations : List Operation) → slice_get operations 0 ≡ Some (part_at command at.part) → (outcome : Option Done)
-            → total (λ (x : Operation × Option Answer). long_in x.0 x.1) (zip operations (answers_told (outcome ∷ []))) ≤ long_in (part_at command at.part) (answer_told outcome)
+        one_paid : (operations : List Operation) → slice_get operations 0 ≡ Some (part_at command at.part)
+            → (outcome : Option PartOutcome)
+            → total (λ (x : Operation × Option Answer). long_in x.0 x.1) (zip operations (answers_told (outcome ∷ [])))
+            ≤ long_in (part_at command at.part) (answer_told outcome)
         one_paid [] is outcome = omega arith
         one_paid (operation ∷ operations) is outcome =
             let same : operation ≡ part_at command at.part = cc in
-            omega (arith, ap (λ o. long_in o (answer_told outcome)) same, ap (λ (l : List (Operation × Option Answer)). total (λ (x : Operation × Option Answer). long_in x.0 x.1) l) (zip_none operations))
+            omega (
+              arith,
+              ap (λ o. long_in o (answer_told outcome)) same,
+              ap
+                  (λ (l : List (Operation × Option Answer)). total (λ (x : Operation × Option Answer). long_in x.0 x.1)
+                  l)
+                  (zip_none operations),
+            )
 
-pub one_missed : (z : Sizes) (shards : ℕ) (command : Command) (at : Entry) (old new : PassView) (segs : List Seg) → HasOnePart command → at.part ≡ 0 → MissesPart z (part_at command at.part) old new → HasStopped z shards at.call command old new
+pub one_missed : (z : Sizes) (shards : ℕ) (command : Command) (at : Entry) (old new : PassView) (segs : List Seg)
+    → HasOnePart command → at.part ≡ 0 → MissesPart z (part_at command at.part) old new
+    → LacksMemory z shards at.call command old new
 one_missed z shards command at old new segs one first missed =
     let operation = part_at command at.part in
-    let there : slice_get (parts command) 0 ≡ Some operation = subst (λ j. slice_get (parts command) j ≡ Some operation) first (part_there command at.part (omega (arith, first, one_part command one))) in
-    run_missed z shards at.call command [] operation old old new segs segs there (run_none z shards at.call (parts command) old segs) missed
+    let there : slice_get (parts command) 0 ≡ Some operation = subst (λ j. slice_get (parts command) j ≡ Some operation)
+    first (part_there command at.part (omega (arith, first, one_part command one))) in
+    run_missed z shards at.call command [] operation old old new segs segs there
+    (run_none z shards at.call (parts command) old segs) missed

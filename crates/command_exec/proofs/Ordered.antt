@@ -1,5 +1,6 @@
 -- Staging buffers that are lent and come back.
-use Rattle.std.proofs.Common.{◌≡◌, ℕ, zero, suc, ◌+◌, ◌≤◌, List, [], ◌∷◌, ◌++◌, take, drop, map, refl, ap, sym, ◌∙◌, subst, arith}
+use Rattle.std.proofs.Common.{◌≡◌, ℕ, zero, suc, ◌+◌, ◌≤◌, List, [], ◌∷◌, ◌++◌, take, drop, map, refl, ap, sym, ◌∙◌}
+use Rattle.std.proofs.Common.{subst, arith}
 use Rattle.view_sums.specs.Total.{total}
 use Rattle.reply_planner.specs.Stages.{IsFrom, IsOrdered, inserted, merged}
 use Rattle.reply_planner.proofs.Merged.{inserted-here}
@@ -14,7 +15,8 @@ inserted-first a (b ∷ bs) from = inserted-here a b bs from.0
 
 merged-ordered : (bs cs : List ℕ) → IsOrdered (bs ++ cs) → merged bs cs ≡ bs ++ cs
 merged-ordered [] cs ordered = refl
-merged-ordered (b ∷ bs) cs ordered = ap (inserted b) (merged-ordered bs cs (rest_ordered b (bs ++ cs) ordered)) ∙ inserted-first b (bs ++ cs) ordered
+merged-ordered (b ∷ bs) cs ordered = ap (inserted b) (merged-ordered bs cs (rest_ordered b (bs ++ cs) ordered))
+    ∙ inserted-first b (bs ++ cs) ordered
 
 drop_ordered : (k : ℕ) (bs : List ℕ) → IsOrdered bs → IsOrdered (drop k bs)
 drop_ordered zero bs ordered = ordered
@@ -30,7 +32,8 @@ parts-append (suc k) (suc n) [] few = refl
 parts-append (suc k) (suc n) (b ∷ bs) few = parts-append k n bs (omega (arith, few))
 
 -- those that weren't used go back to the others
-pub merged-rest : (k n : ℕ) (free : List ℕ) → k ≤ n → IsOrdered free → merged (drop k (take n free)) (drop n free) ≡ drop k free
+pub merged-rest : (k n : ℕ) (free : List ℕ) → k ≤ n → IsOrdered free → merged (drop k (take n free)) (drop n free)
+    ≡ drop k free
 merged-rest k n free few ordered =
     let all = parts-append k n free few in
     merged-ordered (drop k (take n free)) (drop n free) (subst IsOrdered (sym all) (drop_ordered k free ordered)) ∙ all
@@ -47,7 +50,8 @@ take-map f (suc k) [] = refl
 take-map f (suc k) (b ∷ bs) = ap (λ l. f b ∷ l) (take-map f k bs)
 
 -- both parts are all
-pub total-parts : (weight : ℕ → ℕ) (n : ℕ) (bs : List ℕ) → total weight (drop n bs) + total weight (take n bs) ≡ total weight bs
+pub total-parts : (weight : ℕ → ℕ) (n : ℕ) (bs : List ℕ) → total weight (drop n bs) + total weight (take n bs)
+    ≡ total weight bs
 total-parts weight zero bs = omega arith
 total-parts weight (suc n) [] = refl
 total-parts weight (suc n) (b ∷ bs) = omega (arith, total-parts weight n bs)

@@ -1,5 +1,6 @@
 -- The parts of an array, or of a count, as far as they were run.
-use Rattle.std.proofs.Common.{◌≡◌, ℕ, ◌+◌, ◌<◌, ◌≤◌, List, [], ◌∷◌, ◌++◌, Option, None, Some, length, map, slice_get, refl, ap, sym, ◌∙◌, subst, arith, append_assoc, length-append}
+use Rattle.std.proofs.Common.{◌≡◌, ℕ, ◌+◌, ◌<◌, ◌≤◌, List, [], ◌∷◌, ◌++◌, Option, None, Some, length, map, slice_get}
+use Rattle.std.proofs.Common.{refl, ap, sym, ◌∙◌, subst, arith, append_assoc, length-append}
 use Rattle.std.specs.List.{zip}
 use Rattle.std.specs.Option.{option_map, option_map_or}
 use Rattle.std.proofs.lemmas.List.{map-append, length-map}
@@ -11,14 +12,16 @@ use Rattle.flake_model.specs.Resp.{array_head}
 use Rattle.flake_model.specs.Store as part
 use Rattle.flake_model.specs.Store.{Operation, Answer}
 use Rattle.flake_model.specs.Deed.{Deed}
-use Rattle.flake_model.specs.Command.{Command, ping, ping_with, get, set, mget, del, exists, append, str_len, get_range, fault, parts}
+use Rattle.flake_model.specs.Command.{Command, ping, ping_with, get, set, mget, del, exists, append, str_len, get_range}
+use Rattle.flake_model.specs.Command.{fault, parts}
 use Rattle.flake_model.specs.Reply.{item_of, null_text}
 use Rattle.frag_value.specs.Taken as taken
 use Rattle.reply_layout.specs.Need.{need_of, values_need}
 use Rattle.reply_layout.specs.Pieces.{Piece, plain, bulk_pieces, item_pieces, pieces_of}
 use Rattle.reply_planner.specs.Laid.{pieces_in}
 use Rattle.reply_planner.specs.Planned.{Planned, planned, paid_in, left_of, slots_of, room_of}
-use Rattle.call_model.specs.Outcomes.{Done, Outcomes, entry_at, AreOutcomes, call_deeds, answer_told, answers_told}
+use Rattle.call_model.specs.Outcomes.{PartOutcome, Outcomes, entry_at, AreOutcomes, call_deeds, answer_told}
+use Rattle.call_model.specs.Outcomes.{answers_told}
 use Rattle.call_model.specs.Demand.{long_in}
 use Rattle.call_model.specs.Steps.{deed_told}
 use Rattle.call_model.proofs.Growing.{more_deeds}
@@ -41,10 +44,12 @@ values_pieces session call command outcomes =
     ∷ item_pieces (map item_of (answers_told outcomes)) (call_deeds session call 0 (parts command) outcomes)
 
 abbrev pub long_told : List Operation → Outcomes → ℕ
-long_told operations outcomes = total (λ (x : Operation × Option Answer). long_in x.0 x.1) (zip operations (answers_told outcomes))
+long_told operations outcomes = total (λ (x : Operation × Option Answer). long_in x.0 x.1)
+    (zip operations (answers_told outcomes))
 
 -- so many values are in the plan
-pub record ValuesSoFar (z : Sizes) (shards call : ℕ) (command : Command) (j : ℕ) (old new : PassView) (segs_before segs : List Seg) (p q : Planned) : Type 0 where
+pub record ValuesSoFar (z : Sizes) (shards call : ℕ) (command : Command) (j : ℕ) (old new : PassView)
+    (segs_before segs : List Seg) (p q : Planned) : Type 0 where
   pub outcomes : Outcomes
   pub count : length outcomes ≡ j
   pub ran : HasRun z shards call (parts command) outcomes old new segs_before segs
@@ -58,36 +63,47 @@ pub zip_none : (operations : List Operation) → long_told operations [] ≡ 0
 zip_none [] = refl
 zip_none (operation ∷ operations) = refl
 
-long_more : (operations : List Operation) (outcomes : Outcomes) (operation : Operation) (outcome : Option Done) → slice_get operations (length outcomes) ≡ Some operation
-    → long_told operations (outcomes ++ outcome ∷ []) ≡ long_told operations outcomes + long_in operation (answer_told outcome)
+long_more : (operations : List Operation) (outcomes : Outcomes) (operation : Operation) (outcome : Option PartOutcome)
+    → slice_get operations (length outcomes) ≡ Some operation
+    → long_told operations (outcomes ++ outcome ∷ []) ≡ long_told operations outcomes + long_in operation
+    (answer_told outcome)
 long_more [] outcomes operation outcome is = absurd (let no : ⊥ = cc in no)
 long_more (first ∷ operations) [] operation outcome is =
     let same : first ≡ operation = cc in
     omega (arith, zip_none operations, zip_none (first ∷ operations), ap (λ o. long_in o (answer_told outcome)) same)
-long_more (first ∷ operations) (o ∷ outcomes) operation outcome is = omega (arith, long_more operations outcomes operation outcome is)
+long_more (first ∷ operations) (o ∷ outcomes) operation outcome is =
+    omega (arith, long_more operations outcomes operation outcome is)
 
-items-more : (items : List (Option (List ℕ))) (deeds : List (Option Deed)) (item : Option (List ℕ)) (deed : Option Deed) → length items ≡ length deeds
-    → item_pieces (items ++ item ∷ []) (deeds ++ deed ∷ []) ≡ item_pieces items deeds ++ item_pieces (item ∷ []) (deed ∷ [])
+items-more : (items : List (Option (List ℕ))) (deeds : List (Option Deed)) (item : Option (List ℕ)) (deed : Option Deed)
+    → length items ≡ length deeds
+    → item_pieces (items ++ item ∷ []) (deeds ++ deed ∷ []) ≡ item_pieces items deeds ++ item_pieces (item ∷ [])
+    (deed ∷ [])
 items-more [] [] item deed long = refl
 items-more [] (d ∷ deeds) item deed long = absurd (omega (arith, long))
 items-more (i ∷ items) [] item deed long = absurd (omega (arith, long))
-items-more (None ∷ items) (d ∷ deeds) item deed long = ap (λ (l : List Piece). plain null_text ∷ l) (items-more items deeds item deed (omega (arith, long)))
+items-more (None ∷ items) (d ∷ deeds) item deed long = ap (λ (l : List Piece). plain null_text ∷ l)
+    (items-more items deeds item deed (omega (arith, long)))
 items-more (Some bytes ∷ items) (d ∷ deeds) item deed long =
     ap (λ (l : List Piece). bulk_pieces d bytes ++ l) (items-more items deeds item deed (omega (arith, long)))
     ∙ sym (append_assoc (bulk_pieces d bytes) (item_pieces items deeds) (item_pieces (item ∷ []) (deed ∷ [])))
 
-pub answers-more : (outcomes : Outcomes) (outcome : Option Done) → answers_told (outcomes ++ outcome ∷ []) ≡ answers_told outcomes ++ answer_told outcome ∷ []
+pub answers-more : (outcomes : Outcomes) (outcome : Option PartOutcome) → answers_told (outcomes ++ outcome ∷ [])
+    ≡ answers_told outcomes ++ answer_told outcome ∷ []
 answers-more outcomes outcome = map-append answer_told outcomes (outcome ∷ [])
 
 -- an array with its head alone
-pub no_values : (z : Sizes) (shards call : ℕ) (command : Command) (old : PassView) (segs : List Seg) (p q : Planned) → p.taken ≡ [] → q ≡ planned p.base (p.taken ++ taken.copied (number_line 42 (length (parts command))) ∷ []) None → length (parts command) ≤ room_of q
+pub no_values : (z : Sizes) (shards call : ℕ) (command : Command) (old : PassView) (segs : List Seg) (p q : Planned)
+    → p.taken ≡ [] → q ≡ planned p.base (p.taken ++ taken.copied (number_line 42 (length (parts command))) ∷ []) None
+    → length (parts command) ≤ room_of q
     → ValuesSoFar z shards call command 0 old old segs segs p q
 no_values z shards call command old segs p q none now room = record {
   outcomes = [];
   count = refl;
   ran = run_none z shards call (parts command) old segs;
   pieces = alike_same p.base.threshold (pieces_in q.taken) (values_pieces old.list.number call command [])
-      (ap (λ (r : Planned). pieces_in r.taken) now ∙ ap (λ (l : List taken.Piece). pieces_in (l ++ taken.copied (number_line 42 (length (parts command))) ∷ [])) none);
+      (ap (λ (r : Planned). pieces_in r.taken) now
+      ∙ ap (λ (l : List taken.TakenPiece). pieces_in
+      (l ++ taken.copied (number_line 42 (length (parts command))) ∷ [])) none);
   paid = omega (arith, zip_none (parts command));
   begun = ap (λ (r : Planned). r.begun) now;
   base = ap (λ (r : Planned). r.base) now;
@@ -95,8 +111,11 @@ no_values z shards call command old segs p q none now room = record {
 }
 
 -- one value more
-pub value_more : (z : Sizes) (shards : ℕ) (command : Command) (j : ℕ) (at : Entry) (old mid new : PassView) (first second third : List Seg) (p q r : Planned) → j < length (parts command) → at.part ≡ j → at.session ≡ old.list.number → r.base ≡ q.base
-    → ValuesSoFar z shards at.call command j old mid first second p q → AddsValue z shards at (part_at command at.part) mid new second third q r
+pub value_more : (z : Sizes) (shards : ℕ) (command : Command) (j : ℕ) (at : Entry) (old mid new : PassView)
+    (first second third : List Seg) (p q r : Planned) → j < length (parts command) → at.part ≡ j → at.session
+    ≡ old.list.number → r.base ≡ q.base
+    → ValuesSoFar z shards at.call command j old mid first second p q
+    → AddsValue z shards at (part_at command at.part) mid new second third q r
     → ValuesSoFar z shards at.call command (j + 1) old new first third p r
 value_more z shards command j at old mid new first second third p q r near part own base so adds =
     let operations = parts command in
@@ -105,31 +124,45 @@ value_more z shards command j at old mid new first second third p q r near part 
     let outcome = adds.outcome in
     let t = p.base.threshold in
     let place : at.part ≡ length outcomes = part ∙ sym so.count in
-    let there : slice_get operations (length outcomes) ≡ Some operation = subst (λ k. slice_get operations k ≡ Some operation) place (part_there command at.part (omega (arith, near, part))) in
+    let there : slice_get operations (length outcomes) ≡ Some operation =
+    subst (λ k. slice_get operations k ≡ Some operation) place
+    (part_there command at.part (omega (arith, near, part))) in
     let entry_is : at ≡ entry_at old.list.number at.call (length outcomes) = λ i. entry_at (own i) at.call (place i) in
-    let zero_more : entry_at old.list.number at.call (0 + length outcomes) ≡ at = ap (entry_at old.list.number at.call) (omega arith) ∙ sym entry_is in
+    let zero_more : entry_at old.list.number at.call (0 + length outcomes) ≡ at = ap (entry_at old.list.number at.call)
+    (omega arith) ∙ sym entry_is in
     let deeds = call_deeds old.list.number at.call 0 operations outcomes in
     let items = map item_of (answers_told outcomes) in
     let item = item_of (answer_told outcome) in
     let deed = deed_told at operation outcome in
     let are = so.ran.running.are in
     let long : length items ≡ length deeds =
-    length-map (answers_told outcomes) item_of ∙ length-map outcomes answer_told ∙ sym (as_many old.list.number at.call 0 operations outcomes are) in
-    let now_items : map item_of (answers_told (outcomes ++ outcome ∷ [])) ≡ items ++ item ∷ [] = ap (map item_of) (answers-more outcomes outcome) ∙ map-append item_of (answers_told outcomes) (answer_told outcome ∷ []) in
+    length-map (answers_told outcomes) item_of ∙ length-map outcomes answer_told
+    ∙ sym (as_many old.list.number at.call 0 operations outcomes are) in
+    let now_items : map item_of (answers_told (outcomes ++ outcome ∷ [])) ≡ items ++ item ∷ [] =
+    ap (map item_of) (answers-more outcomes outcome) ∙ map-append item_of (answers_told outcomes)
+    (answer_told outcome ∷ []) in
     let now_deeds : call_deeds old.list.number at.call 0 operations (outcomes ++ outcome ∷ []) ≡ deeds ++ deed ∷ [] =
-    more_deeds old.list.number at.call 0 operations outcomes operation outcome there ∙ ap (λ (e : Entry). deeds ++ deed_told e operation outcome ∷ []) zero_more in
+    more_deeds old.list.number at.call 0 operations outcomes operation outcome there
+    ∙ ap (λ (e : Entry). deeds ++ deed_told e operation outcome ∷ []) zero_more in
     let head : List Piece = plain (array_head (length operations)) ∷ [] in
-    let now : values_pieces old.list.number at.call command (outcomes ++ outcome ∷ []) ≡ values_pieces old.list.number at.call command outcomes ++ item_pieces (item ∷ []) (deed ∷ []) =
-    (λ i. head ++ item_pieces (now_items i) (now_deeds i)) ∙ ap (λ (l : List Piece). head ++ l) (items-more items deeds item deed long) in
+    let now : values_pieces old.list.number at.call command (outcomes ++ outcome ∷ [])
+    ≡ values_pieces old.list.number at.call command outcomes ++ item_pieces (item ∷ []) (deed ∷ []) =
+    (λ i. head ++ item_pieces (now_items i) (now_deeds i)) ∙ ap (λ (l : List Piece). head ++ l)
+    (items-more items deeds item deed long) in
     let last = item_pieces (item ∷ []) (deed ∷ []) in
-    let at_t : Alike t (pieces_in r.taken) (pieces_in q.taken ++ last) = subst (λ n. Alike n (pieces_in r.taken) (pieces_in q.taken ++ last)) (ap (λ b. b.threshold) so.base) adds.pieces in
+    let at_t : Alike t (pieces_in r.taken) (pieces_in q.taken ++ last) =
+    subst (λ n. Alike n (pieces_in r.taken) (pieces_in q.taken ++ last)) (ap (λ b. b.threshold) so.base) adds.pieces
+    in
     record {
       outcomes = outcomes ++ outcome ∷ [];
       count = omega (arith, length-append outcomes (outcome ∷ []), so.count);
-      ran = run_more z shards at.call operations outcomes at operation outcome old mid new first second third there entry_is so.ran adds.ran;
+      ran = run_more z shards at.call operations outcomes at operation outcome old mid new first second third there
+          entry_is so.ran adds.ran;
       pieces = subst (Alike t (pieces_in r.taken)) (sym now)
-          (alike_trans t (pieces_in r.taken) (pieces_in q.taken ++ last) (values_pieces old.list.number at.call command outcomes ++ last) at_t
-          (alike_then t (pieces_in q.taken) (values_pieces old.list.number at.call command outcomes) last last so.pieces (alike_same t last last refl)));
+          (alike_trans t (pieces_in r.taken) (pieces_in q.taken ++ last)
+          (values_pieces old.list.number at.call command outcomes ++ last) at_t
+          (alike_then t (pieces_in q.taken) (values_pieces old.list.number at.call command outcomes) last last so.pieces
+          (alike_same t last last refl)));
       paid = omega (arith, so.paid, adds.paid, long_more operations outcomes operation outcome there);
       begun = adds.begun;
       base = base ∙ so.base;
@@ -137,19 +170,26 @@ value_more z shards command j at old mid new first second third p q r near part 
     }
 
 -- the items of a reply, by its deeds
-one_answer : (deed : Option Deed) → option_map_or (λ (d : Deed). Some d.answer) deed None ≡ option_map (λ (d : Deed). d.answer) deed
+one_answer : (deed : Option Deed) → option_map_or (λ (d : Deed). Some d.answer) deed None
+    ≡ option_map (λ (d : Deed). d.answer) deed
 one_answer None = refl
 one_answer (Some deed) = refl
 
-same_answers : (deeds : List (Option Deed)) → map (λ found. option_map_or (λ (d : Deed). Some d.answer) found None) deeds ≡ map (option_map (λ (d : Deed). d.answer)) deeds
+same_answers : (deeds : List (Option Deed)) → map (λ found. option_map_or (λ (d : Deed). Some d.answer) found None)
+    deeds ≡ map (option_map (λ (d : Deed). d.answer)) deeds
 same_answers [] = refl
 same_answers (deed ∷ deeds) = λ i. one_answer deed i ∷ same_answers deeds i
 
-pub answers_from : (session call : ℕ) (operations : List Operation) (outcomes : Outcomes) → AreOutcomes operations outcomes
-    → map (λ found. option_map_or (λ (d : Deed). Some d.answer) found None) (call_deeds session call 0 operations outcomes) ≡ answers_told outcomes
-answers_from session call operations outcomes are = same_answers (call_deeds session call 0 operations outcomes) ∙ deed_answers session call 0 operations outcomes are
+pub answers_from : (session call : ℕ) (operations : List Operation) (outcomes : Outcomes)
+    → AreOutcomes operations outcomes
+    → map (λ found. option_map_or (λ (d : Deed). Some d.answer) found None)
+    (call_deeds session call 0 operations outcomes) ≡ answers_told outcomes
+answers_from session call operations outcomes are = same_answers (call_deeds session call 0 operations outcomes)
+    ∙ deed_answers session call 0 operations outcomes are
 
-array_is : (command : Command) → AsksValues command → (deeds : List (Option Deed)) (answers : List (Option Answer)) → map (λ found. option_map_or (λ (d : Deed). Some d.answer) found None) deeds ≡ answers → length answers ≡ length (parts command)
+array_is : (command : Command) → AsksValues command → (deeds : List (Option Deed)) (answers : List (Option Answer))
+    → map (λ found. option_map_or (λ (d : Deed). Some d.answer) found None) deeds ≡ answers → length answers
+    ≡ length (parts command)
     → pieces_of command deeds ≡ plain (array_head (length (parts command))) ∷ item_pieces (map item_of answers) deeds
 array_is (mget keys) asks deeds answers are whole =
     ap (λ a. plain (array_head (length (map item_of a))) ∷ item_pieces (map item_of a) deeds) are
@@ -166,25 +206,31 @@ array_is (get_range key first last) asks deeds answers are whole = absurd asks
 array_is (fault kind) asks deeds answers are whole = absurd asks
 
 -- all values
-pub all_values : (z : Sizes) (shards call : ℕ) (command : Command) (j : ℕ) (old new : PassView) (first second : List Seg) (p q : Planned) → AsksValues command → j ≡ length (parts command) → ValuesSoFar z shards call command j old new first second p q
+pub all_values : (z : Sizes) (shards call : ℕ) (command : Command) (j : ℕ) (old new : PassView)
+    (first second : List Seg) (p q : Planned) → AsksValues command → j ≡ length (parts command)
+    → ValuesSoFar z shards call command j old new first second p q
     → HasReply z shards call command old new first second q
 all_values z shards call command j old new first second p q asks end so =
     let outcomes = so.outcomes in
     let operations = parts command in
     let whole : length outcomes ≡ length operations = so.count ∙ end in
     let deeds = call_deeds old.list.number call 0 operations outcomes in
-    let is = array_is command asks deeds (answers_told outcomes) (answers_from old.list.number call operations outcomes so.ran.running.are) (length-map outcomes answer_told ∙ whole) in
+    let is = array_is command asks deeds (answers_told outcomes)
+    (answers_from old.list.number call operations outcomes so.ran.running.are)
+    (length-map outcomes answer_told ∙ whole) in
     record {
       outcomes = outcomes;
       ran = so.ran;
       whole = whole;
-      pieces = subst (λ n. Alike n (pieces_in q.taken) (pieces_of command deeds)) (ap (λ b. b.threshold) (sym so.base)) (subst (Alike p.base.threshold (pieces_in q.taken)) (sym is) so.pieces);
+      pieces = subst (λ n. Alike n (pieces_in q.taken) (pieces_of command deeds)) (ap (λ b. b.threshold) (sym so.base))
+          (subst (Alike p.base.threshold (pieces_in q.taken)) (sym is) so.pieces);
       paid = so.paid;
       begun = so.begun;
     }
 
 -- room for all values behind the head
-values_fit : (command : Command) → AsksValues command → need_of command ≡ values_need (length (parts command)) (length (array_head (length (parts command))))
+values_fit : (command : Command) → AsksValues command → need_of command ≡ values_need (length (parts command))
+    (length (array_head (length (parts command))))
 values_fit (mget keys) asks = ap (λ n. values_need n (length (array_head n))) (sym (length-map keys part.get))
 values_fit ping asks = absurd asks
 values_fit (ping_with bytes) asks = absurd asks
@@ -197,8 +243,11 @@ values_fit (str_len key) asks = absurd asks
 values_fit (get_range key first last) asks = absurd asks
 values_fit (fault kind) asks = absurd asks
 
-pub head_room : (command : Command) (p q : Planned) → AsksValues command → IsStarted (need_of command) p → left_of p ≡ left_of q + length (number_line 42 (length (parts command))) → slots_of q ≡ slots_of p → length (parts command) ≤ room_of q
+pub head_room : (command : Command) (p q : Planned) → AsksValues command → IsStarted (need_of command) p
+    → left_of p ≡ left_of q + length (number_line 42 (length (parts command))) → slots_of q ≡ slots_of p
+    → length (parts command) ≤ room_of q
 head_room command p q asks is left slots =
     let n = length (parts command) in
-    let started : IsStarted (values_need n (length (array_head n))) p = subst (λ need. IsStarted need p) (values_fit command asks) is in
+    let started : IsStarted (values_need n (length (array_head n))) p = subst (λ need. IsStarted need p)
+    (values_fit command asks) is in
     values_room n (length (array_head n)) p q started (omega arith) left slots

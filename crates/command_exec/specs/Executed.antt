@@ -2,14 +2,14 @@
 use Rattle.std.specs.Prelude.{◌≡◌, ℕ, ◌+◌, ◌<◌, ◌≤◌, List, ◌++◌, length, take, drop}
 use Rattle.view_sums.specs.Total.{Each}
 use Rattle.pin_core.specs.declared.sizes.Sizes.{Sizes}
-use Rattle.pinned_pool.specs.Moves.{left_by}
+use Rattle.pinned_pool.specs.Moves.{without_keys}
 use Rattle.flake_base.specs.declared.segment.Seg.{Seg}
 use Rattle.flake_model.specs.Command.{Command, parts}
 use Rattle.reply_layout.specs.Frames.{Frame, frame_from}
 use Rattle.reply_layout.specs.Need.{need_of}
 use Rattle.reply_planner.specs.Owned.{bare_all, keys_for}
 use Rattle.reply_planner.specs.Parcels.{Sent, lent}
-use Rattle.reply_planner.specs.Places.{addresses_of}
+use Rattle.reply_planner.specs.Places.{buffer_addresses}
 use Rattle.call_model.specs.Outcomes.{Outcomes, call_deeds}
 use Rattle.call_model.specs.Calls.{IsExecuted, IsCutShort}
 use Rattle.call_model.specs.Parts.{call_segs, IsInBuffer}
@@ -35,7 +35,7 @@ pub record Executes (z : Sizes) (shards : ℕ) (command : Command) (call : ℕ) 
   pub call_is : parcel.call ≡ call
   -- it is laid out over the addresses that the deeds found and the first free staging buffers
   pub frame : frame_shown z parcel
-      ≡ frame_from old.threshold (addresses_of z old.free) command
+      ≡ frame_from old.threshold (buffer_addresses z old.free) command
       (call_deeds old.list.number call 0 (parts command) outcomes)
   pub staged : parcel.staged ≡ take (length parcel.staged) old.free
   pub some : 0 < length parcel.staged
@@ -43,7 +43,7 @@ pub record Executes (z : Sizes) (shards : ℕ) (command : Command) (call : ℕ) 
   -- the parcel has one credit and one for each hold that it paid for
   pub few : parcel.paid ≤ length parcel.segments
   pub credits : new.seat.credits + 1 + parcel.paid ≡ old.seat.credits
-  pub holds : bare_all new.seat.holds ≡ left_by (keys_for parcel.staged) (bare_all old.seat.holds)
+  pub holds : bare_all new.seat.holds ≡ without_keys (keys_for parcel.staged) (bare_all old.seat.holds)
   pub returns : new.seat.returns ≡ old.seat.returns
   pub free : new.free ≡ drop (length parcel.staged) old.free
   pub stage : new.stage ≡ old.stage

@@ -5,7 +5,7 @@ use Rattle.flake_base.specs.declared.reply.ErrorKind.{ErrorKind}
 use Rattle.flake_base.specs.declared.reply.ErrorKind.TheVariants.{ValueTooLong, NoBuffer}
 use Rattle.flake_model.specs.Resp.{crlf}
 use Rattle.flake_model.specs.Reply.{reply_text, error_text, null_text, ok, int}
-use Rattle.frag_value.specs.Taken.{Piece, copied}
+use Rattle.frag_value.specs.Taken.{TakenPiece, copied}
 use Rattle.shard_core.specs.declared.answer.PartAnswer.{PartAnswer}
 use Rattle.shard_core.specs.declared.answer.PartAnswer.TheVariants as say
 
@@ -13,11 +13,11 @@ use Rattle.shard_core.specs.declared.answer.PartAnswer.TheVariants as say
 abbrev pub number_line : ℕ → ℕ → List ℕ
 number_line mark n = mark ∷ decimal n ++ crlf
 
-abbrev pub error_line : ErrorKind → List Piece
+abbrev pub error_line : ErrorKind → List TakenPiece
 error_line kind = copied (45 ∷ []) ∷ copied (error_text kind) ∷ copied crlf ∷ []
 
 -- the line that an answer makes; bytes that were answered are taken already
-abbrev pub line_for : PartAnswer → List Piece
+abbrev pub line_for : PartAnswer → List TakenPiece
 line_for say.Bulk = []
 line_for say.Null = copied null_text ∷ []
 line_for say.Done = copied (reply_text ok) ∷ []
@@ -32,6 +32,6 @@ HasLine say.Bulk = ⊥
 HasLine answer = Unit {0}
 
 -- an item of an array: any answer but bytes is null
-abbrev pub item_for : PartAnswer → List Piece
+abbrev pub item_for : PartAnswer → List TakenPiece
 item_for say.Bulk = []
 item_for answer = copied null_text ∷ []

@@ -14,10 +14,10 @@ use Rattle.shard_core.specs.declared.answer.PartAnswer.{PartAnswer}
 use Rattle.reply_layout.specs.Pieces.{item_pieces}
 use Rattle.reply_planner.specs.Laid.{pieces_in}
 use Rattle.reply_planner.specs.Planned.{Planned, planned, room_of, paid_in}
-use Rattle.call_model.specs.Outcomes.{Done, answer_told}
+use Rattle.call_model.specs.Outcomes.{PartOutcome, answer_told}
 use Rattle.call_model.specs.Demand.{long_in}
 use Rattle.call_model.specs.Calls.{IsPartRun}
-use Rattle.call_model.specs.Parts.{IsTold, IsInBuffer, segs_told}
+use Rattle.call_model.specs.Parts.{PartShows, IsInBuffer, segs_told}
 use Rattle.call_model.specs.Steps.{deed_told}
 use Rattle.command_exec.specs.Alike.{Alike}
 use Rattle.command_exec.specs.Passes.{PassView}
@@ -26,7 +26,7 @@ use Rattle.command_exec.specs.Running.{KeepsPass}
 -- what became of it
 pub record RunsPart (z : Sizes) (shards : ℕ) (entry : Entry) (operation : Operation) (said : PartAnswer)
     (old new : PassView) (segs_before segs : List Seg) (before after : Planned) : Type 0 where
-  pub told : IsTold z shards entry operation said old.list new.list old.seat new.seat segs_before segs
+  pub told : PartShows z shards entry operation said old.list new.list old.seat new.seat segs_before segs
       before.taken after.taken
   pub keeps : KeepsPass old new
   pub plan : after ≡ planned before.base after.taken None
@@ -40,7 +40,7 @@ pub record MissesPart (z : Sizes) (operation : Operation) (old new : PassView) :
   pub keeps : KeepsPass old new
 
 -- what it did, whatever its answer was
-pub record HasOutcome (z : Sizes) (shards : ℕ) (entry : Entry) (operation : Operation) (outcome : Option Done)
+pub record HasOutcome (z : Sizes) (shards : ℕ) (entry : Entry) (operation : Operation) (outcome : Option PartOutcome)
     (old new : PassView) (segs_before segs : List Seg) : Type 0 where
   pub run : IsPartRun z shards entry operation outcome old.list.told new.list.told old.seat new.seat
   pub keeps : KeepsPass old new
@@ -50,7 +50,7 @@ pub record HasOutcome (z : Sizes) (shards : ℕ) (entry : Entry) (operation : Op
 -- a value, or null, was put behind what the plan had
 pub record AddsValue (z : Sizes) (shards : ℕ) (entry : Entry) (operation : Operation)
     (old new : PassView) (segs_before segs : List Seg) (before after : Planned) : Type 0 where
-  pub outcome : Option Done
+  pub outcome : Option PartOutcome
   pub ran : HasOutcome z shards entry operation outcome old new segs_before segs
   pub pieces : Alike before.base.threshold (pieces_in after.taken)
       (pieces_in before.taken
@@ -62,7 +62,7 @@ pub record AddsValue (z : Sizes) (shards : ℕ) (entry : Entry) (operation : Ope
 -- 1 was answered where the key was there, and else 0
 pub record CountsKey (z : Sizes) (shards : ℕ) (entry : Entry) (operation : Operation) (n : ℕ)
     (old new : PassView) (segs_before segs : List Seg) (before after : Planned) : Type 0 where
-  pub outcome : Option Done
+  pub outcome : Option PartOutcome
   pub ran : HasOutcome z shards entry operation outcome old new segs_before segs
   pub count : n ≡ (if is_yes (answer_told outcome) then 1 else 0)
   pub plan : after ≡ before

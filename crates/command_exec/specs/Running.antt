@@ -36,7 +36,7 @@ pub record HasRun (z : Sizes) (shards call : ℕ) (operations : List Operation) 
   pub in_buffers : Each (IsInBuffer z) (call_segs operations outcomes)
 
 -- in one of its parts memory was wanting
-pub record HasStopped (z : Sizes) (shards call : ℕ) (command : Command) (old new : PassView) : Type 0 where
+pub record LacksMemory (z : Sizes) (shards call : ℕ) (command : Command) (old new : PassView) : Type 0 where
   pub outcomes : Outcomes
   pub cut : IsCutShort z shards old.list.number call command outcomes old.list.told new.list.told old.seat new.seat
   pub keeps : KeepsPass old new

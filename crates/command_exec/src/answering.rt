@@ -10,7 +10,7 @@ ghost use Rattle.call_model.specs.Outcomes.{entry_at};
 ghost use Rattle.command_exec.specs.Alike.{Alike};
 ghost use Rattle.command_exec.specs.Kinds.{HasNoParts, HasOnePart, AsksValues, Counts, part_at};
 ghost use Rattle.command_exec.specs.Parted.{AddsValue, CountsKey, MissesPart};
-ghost use Rattle.command_exec.specs.Running.{IsStarted, HasReply, HasStopped};
+ghost use Rattle.command_exec.specs.Running.{IsStarted, HasReply, LacksMemory};
 
 use crate::lines::{NULL, copy_answer, copy_bulk, copy_error, copy_line};
 use crate::parts::run_part;
@@ -40,7 +40,7 @@ pub(crate) fn answer<R: Wait, N: BookName, P: PoolName>(
     requires started { IsStarted (need_of command.now) plan.old }
     ensures reply { OnOk result (HasReply P.sizes N.sizes.shards at.call command.now pass.old pass.new
         stored.old.items stored.new.items plan.new) }
-    ensures stopped { OnErr result (HasStopped P.sizes N.sizes.shards at.call command.now pass.old pass.new) }
+    ensures stopped { OnErr result (LacksMemory P.sizes N.sizes.shards at.call command.now pass.old pass.new) }
     ensures untold { OnErr result (stored.new.items ≡ stored.old.items) }
     ensures base { plan.new.base ≡ plan.old.base }
     ensures spare { OnOk result
@@ -92,7 +92,7 @@ fn answer_one<R: Wait, N: BookName, P: PoolName>(
     requires started { IsStarted (need_of command.now) plan.old }
     ensures reply { OnOk result (HasReply P.sizes N.sizes.shards at.call command.now pass.old pass.new
         stored.old.items stored.new.items plan.new) }
-    ensures stopped { OnErr result (HasStopped P.sizes N.sizes.shards at.call command.now pass.old pass.new) }
+    ensures stopped { OnErr result (LacksMemory P.sizes N.sizes.shards at.call command.now pass.old pass.new) }
     ensures untold { OnErr result (stored.new.items ≡ stored.old.items) }
     ensures base { plan.new.base ≡ plan.old.base }
     ensures spare { OnOk result
@@ -152,7 +152,7 @@ fn answer_values<R: Wait, N: BookName, P: PoolName>(
     requires started { IsStarted (need_of command.now) plan.old }
     ensures reply { OnOk result (HasReply P.sizes N.sizes.shards at.call command.now pass.old pass.new
         stored.old.items stored.new.items plan.new) }
-    ensures stopped { OnErr result (HasStopped P.sizes N.sizes.shards at.call command.now pass.old pass.new) }
+    ensures stopped { OnErr result (LacksMemory P.sizes N.sizes.shards at.call command.now pass.old pass.new) }
     ensures untold { OnErr result (stored.new.items ≡ stored.old.items) }
     ensures base { plan.new.base ≡ plan.old.base }
     ensures spare { OnOk result
@@ -225,7 +225,7 @@ fn answer_count<R: Wait, N: BookName, P: PoolName>(
     requires started { IsStarted (need_of command.now) plan.old }
     ensures reply { OnOk result (HasReply P.sizes N.sizes.shards at.call command.now pass.old pass.new
         stored.old.items stored.new.items plan.new) }
-    ensures stopped { OnErr result (HasStopped P.sizes N.sizes.shards at.call command.now pass.old pass.new) }
+    ensures stopped { OnErr result (LacksMemory P.sizes N.sizes.shards at.call command.now pass.old pass.new) }
     ensures untold { OnErr result (stored.new.items ≡ stored.old.items) }
     ensures base { plan.new.base ≡ plan.old.base }
     ensures spare { OnOk result

@@ -4,7 +4,7 @@ ghost use Rattle.pinned_pool.specs.Classes.{just};
 ghost use Rattle.pinned_pool.specs.Named.{IsSeat};
 ghost use Rattle.pinned_pool.specs.Sought.{Sought};
 ghost use Rattle.reply_planner.specs.Parcels.{TakesBack};
-ghost use Rattle.reply_planner.specs.Stages.{stage_size, merged, IsOpened, WhyUnopened, IsClosed};
+ghost use Rattle.reply_planner.specs.Stages.{stage_size, merged, IsStageOpened, WhyUnopened, IsClosed};
 ghost use Rattle.command_exec.specs.Passes.{IsPass, pass_of, none_found};
 
 use order_book::{BookName, SessionSeat};
@@ -49,7 +49,7 @@ impl<N: BookName, P: PoolName> Pass<N, P> {
     ) -> Result<Pass<N, P>, (OpenError, PoolSeat<P>, SessionSeat<N>)>
         requires threshold { (0 < threshold) × (threshold ≤ 512) }
         ensures pass { IfOk result (λ p. p ≡ pass_of mine p.seat p.stage p.stage threshold) }
-        ensures opened { IfOk result (λ p. IsOpened P.sizes p.stage seat p.seat) }
+        ensures opened { IfOk result (λ p. IsStageOpened P.sizes p.stage seat p.seat) }
         ensures sought { IfOk result (λ p. Sought P.sizes (just Small stage_size) 0 seat p.seat) }
         ensures refused { IfErr result (λ e. WhyUnopened P.sizes e.0 seat e.1) }
         ensures refused_sought { IfErr result (λ e.

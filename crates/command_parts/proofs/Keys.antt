@@ -1,5 +1,6 @@
 -- The test of the keys, one key after another.
-use Rattle.std.proofs.Common.{◌≡◌, ◌∙◌, sym, ap, ℕ, ◌+◌, ◌<◌, ◌≤◌, nat_le, Bool, true, false, List, [], length, take, drop, get_or, arith, refl}
+use Rattle.std.proofs.Common.{◌≡◌, ◌∙◌, sym, ap, ℕ, ◌+◌, ◌<◌, ◌≤◌, nat_le, Bool, true, false, List, [], length, take}
+use Rattle.std.proofs.Common.{drop, get_or, arith, refl}
 use Rattle.std.specs.List.{list_all}
 use Rattle.std.proofs.lemmas.Bool.{le-leb, lt-leb}
 use Rattle.std.proofs.lemmas.List.{get_or-take}
@@ -15,7 +16,8 @@ is_short key = nat_le (length key) 512
 key_at : (words : Words) (j : ℕ) (key : List ℕ) → key ≡ get_or words (j + 1) [] → get_or (drop 1 words) j [] ≡ key
 key_at words j key is = grind (arith, get_or_after_one words j [], is)
 
-pub one_more : (words : Words) (j : ℕ) (key : List ℕ) → j + 1 < length words → key ≡ get_or words (j + 1) [] → length key ≤ 512
+pub one_more : (words : Words) (j : ℕ) (key : List ℕ) → j + 1 < length words → key ≡ get_or words (j + 1) []
+    → length key ≤ 512
     → list_all is_short (take j (drop 1 words)) ≡ true → list_all is_short (take (j + 1) (drop 1 words)) ≡ true
 one_more words j key within is short before =
     let at = key_at words j key is in
@@ -23,9 +25,11 @@ one_more words j key within is short before =
     let more = list_all_more is_short (drop 1 words) j [] (grind (arith, common_steps)) in
     more ∙ (rw (before, last) refl)
 
-pub one_too_long : (words : Words) (keys j : ℕ) (key : List ℕ) → j < keys → keys < length words → key ≡ get_or words (j + 1) [] → 512 < length key
+pub one_too_long : (words : Words) (keys j : ℕ) (key : List ℕ) → j < keys → keys < length words
+    → key ≡ get_or words (j + 1) [] → 512 < length key
     → false ≡ list_all is_short (take keys (drop 1 words))
 one_too_long words keys j key before within is long =
     let at = get_or-take keys (drop 1 words) j [] before ∙ key_at words j key is in
-    let bad : is_short (get_or (take keys (drop 1 words)) j []) ≡ false = ap is_short at ∙ lt-leb (length key) 512 long in
+    let bad : is_short (get_or (take keys (drop 1 words)) j []) ≡ false = ap is_short at
+    ∙ lt-leb (length key) 512 long in
     sym (list_all_at is_short (take keys (drop 1 words)) j [] (grind (arith, common_steps)) bad)

@@ -7,5 +7,6 @@ use Rattle.flake_model.specs.Command.{Options, with_option, with_options}
 
 -- the next word first, and then the others
 pub next_option : (words : Words) (i : ℕ) (options : Options) → i < length words
-    → with_options (drop i words) options ≡ option_and_then (with_options (drop (i + 1) words)) (with_option (get_or words i []) options)
+    → with_options (drop i words) options ≡ option_and_then (with_options (drop (i + 1) words))
+    (with_option (get_or words i []) options)
 next_option words i options within = ap (λ rest. with_options rest options) (drop_more words i [] within)

@@ -11,7 +11,7 @@ use Rattle.command_parts.specs.declared.name.Name.TheVariants.{StrLen, GetRange}
 use Rattle.command_parts.specs.declared.asked.Asked.{Asked}
 use Rattle.command_parts.specs.declared.asked.Asked.TheVariants as asked_for
 use Rattle.shard_part.specs.declared.setting.Setting.{Setting}
-use Rattle.command_parts.specs.Names.{fits, options_by, keys_by, argument_fits}
+use Rattle.command_parts.specs.Names.{fits_count, options_by, keys_by, argument_fits}
 use Rattle.command_parts.specs.Settings.{options_of}
 
 abbrev pub asked_by : Name → Words → Command
@@ -26,9 +26,9 @@ asked_by StrLen words = strlen_command words
 asked_by GetRange words = get_range_command words
 
 -- an unknown name asks for nothing
-abbrev pub asked : Option Name → Words → Command
-asked None words = fault UnknownCommand
-asked (Some name) words = asked_by name words
+abbrev pub command_named : Option Name → Words → Command
+command_named None words = fault UnknownCommand
+command_named (Some name) words = asked_by name words
 
 -- each key has at most 512 bytes
 abbrev pub are_keys : List (List ℕ) → Bool
@@ -36,7 +36,7 @@ are_keys keys = list_all (λ key. nat_le (length key) 512) keys
 
 -- a request of a name passes the tests but the last, and has these options
 pub record Passes (name : Name) (setting : Setting) (words : Words) : Type 0 where
-  pub count : fits name (length words) ≡ true
+  pub count : fits_count name (length words) ≡ true
   pub options_are : options_by name words ≡ Some (options_of setting)
   pub few_keys : nat_le (length (keys_by name words)) 64 ≡ true
   pub short_keys : are_keys (keys_by name words) ≡ true

@@ -1,6 +1,6 @@
 -- What a command of the code stands for.
 use Rattle.std.specs.Prelude.{◌≡◌, ℕ, ◌≤◌, true, List, [], ◌∷◌, Option, Some, None, length}
-use Rattle.flake_model.specs.Store.{value_limit}
+use Rattle.flake_base.specs.Limits.{value_limit}
 use Rattle.flake_model.specs.Resp.{Words}
 use Rattle.flake_model.specs.Command as model
 use Rattle.flake_model.specs.Command.{arguments, first, second, message_limit}
@@ -41,9 +41,9 @@ argument_of (model.get_range key first last) = []
 argument_of (model.fault kind) = []
 
 -- the words of a request, if there is one
-abbrev pub words_of : Option Request → Words
-words_of None = []
-words_of (Some request) = request
+abbrev pub request_words : Option Request → Words
+request_words None = []
+request_words (Some request) = request
 
 abbrev pub op_asked : Asked → Op
 op_asked Ping = op.Ping

@@ -7,16 +7,16 @@ use Rattle.command_parts.specs.declared.name.Name.{Name}
 use Rattle.command_parts.specs.declared.name.Name.TheVariants as name
 
 -- so many words fit, the name among them
-abbrev pub fits : Name → ℕ → Bool
-fits name.Ping count = nat_le count 2
-fits name.Get count = count == 2
-fits name.Set count = nat_le 3 count
-fits name.MGet count = nat_le 2 count
-fits name.Del count = nat_le 2 count
-fits name.Exists count = nat_le 2 count
-fits name.Append count = count == 3
-fits name.StrLen count = count == 2
-fits name.GetRange count = count == 4
+abbrev pub fits_count : Name → ℕ → Bool
+fits_count name.Ping count = nat_le count 2
+fits_count name.Get count = count == 2
+fits_count name.Set count = nat_le 3 count
+fits_count name.MGet count = nat_le 2 count
+fits_count name.Del count = nat_le 2 count
+fits_count name.Exists count = nat_le 2 count
+fits_count name.Append count = count == 3
+fits_count name.StrLen count = count == 2
+fits_count name.GetRange count = count == 4
 
 -- the options, which SET alone can have
 abbrev pub options_by : Name → Words → Option Options

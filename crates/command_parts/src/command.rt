@@ -1,7 +1,7 @@
 ghost use Rattle.std.specs.Prelude.{◌≡◌, ◌<◌, ◌≤◌, length, slice_get, Some};
 ghost use Rattle.flake_model.specs.Command.{command_of, parts, fault};
 ghost use Rattle.shard_part.specs.Parts.{operation_of, HasOwnValue};
-ghost use Rattle.command_parts.specs.Meaning.{op_of, argument_of, words_of, IsAmong};
+ghost use Rattle.command_parts.specs.Meaning.{op_of, argument_of, request_words, IsAmong};
 
 use crate::Op;
 use crate::asked::Asked;
@@ -20,13 +20,13 @@ pub struct Command {
 
 impl Model for Command {
     ghost use Rattle.flake_model.specs.Command as model;
-    ghost use Rattle.command_parts.specs.Meaning.{command_by, words_of, FitsWords};
+    ghost use Rattle.command_parts.specs.Meaning.{command_by, request_words, FitsWords};
 
     ghost Value = { model.Command };
 
-    ghost view = { λ c. command_by c.asked (words_of c.request) };
+    ghost view = { λ c. command_by c.asked (request_words c.request) };
 
-    ghost invariant = { λ c. FitsWords c.asked (words_of c.request) };
+    ghost invariant = { λ c. FitsWords c.asked (request_words c.request) };
 }
 
 impl Command {
@@ -53,7 +53,7 @@ impl Command {
 
     /// The request that it came from, whose room can serve again; none, if an error of the protocol made it.
     pub fn into_request(self) -> Option<Request>
-        ensures { IsAmong self (words_of result) }
+        ensures { IsAmong self (request_words result) }
     {
         self.request
     }

@@ -1,9 +1,9 @@
 ghost use Rattle.std.specs.Prelude.{◌≡◌, ◌<◌, true, OnSome, length};
 ghost use Rattle.std.specs.Option.{option_map};
 ghost use Rattle.flake_model.specs.Command.{command_of};
-ghost use Rattle.command_parts.specs.Names.{fits, options_by, key_count, argument_fits};
+ghost use Rattle.command_parts.specs.Names.{fits_count, options_by, key_count, argument_fits};
 ghost use Rattle.command_parts.specs.Settings.{options_of};
-ghost use Rattle.command_parts.specs.Asked.{asked};
+ghost use Rattle.command_parts.specs.Asked.{command_named};
 
 use crate::options::{PLAIN, set_options};
 use resp_reader::Request;
@@ -29,7 +29,7 @@ const MESSAGE_LIMIT: usize = 16_384;
 impl Name {
     /// The name that a request begins with, without regard to ASCII case.
     pub(crate) fn of(request: &Request) -> Option<Name>
-        ensures asked { command_of request.now ≡ asked result request.now }
+        ensures asked { command_of request.now ≡ command_named result request.now }
         ensures some { OnSome result (0 < length request.now) }
     {
         if request.len() == 0 {
@@ -61,7 +61,7 @@ impl Name {
 
     /// Whether a request of this name may have so many words, the name among them.
     pub(crate) fn fits(self, count: usize) -> bool
-        ensures { result ≡ fits self count }
+        ensures { result ≡ fits_count self count }
     {
         match self {
             Name::Ping => count <= 2,
@@ -97,7 +97,7 @@ impl Name {
 
     /// Whether the word that may be long is as short as it has to be.
     pub(crate) fn argument_fits(self, request: &Request) -> bool
-        requires { fits self (length request.now) ≡ true }
+        requires { fits_count self (length request.now) ≡ true }
         ensures { result ≡ argument_fits self request.now }
     {
         match self {

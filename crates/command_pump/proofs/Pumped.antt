@@ -1,15 +1,18 @@
 -- What a pump comes to, step by step.
-use Rattle.std.proofs.Common.{◌≡◌, ◌≢◌, ◌⊎◌, ℕ, ◌+◌, ◌-◌, ◌<◌, ◌≤◌, inl, inr, Bool, List, [], ◌∷◌, ◌++◌, Option, Some, None, MatchOption, length, map, take, drop, arith, refl, ap, sym, ◌∙◌, subst, append_assoc, append-nil}
+use Rattle.std.proofs.Common.{◌≡◌, ◌≢◌, ◌⊎◌, ℕ, ◌+◌, ◌-◌, ◌<◌, ◌≤◌, inl, inr, Bool, List, [], ◌∷◌, ◌++◌, Option, Some}
+use Rattle.std.proofs.Common.{None, MatchOption, length, map, take, drop, arith, refl, ap, sym, ◌∙◌, subst}
+use Rattle.std.proofs.Common.{append_assoc, append-nil}
 use Rattle.std.proofs.lemmas.List.{map-append, length-append, length-map, length-take, take-append-drop}
 use Rattle.flake_base.specs.Causes.{Rose}
 use Rattle.flake_base.specs.Reads.{Reads as Takes}
 use Rattle.flake_base.specs.declared.session.End.{End}
-use Rattle.flake_base.specs.declared.session.End.TheVariants.{Clean, Protocol, Truncated, TooLong, ReadFault, Memory, Left}
+use Rattle.flake_base.specs.declared.session.End.TheVariants.{Clean, Protocol, Truncated, TooLong, ReadFault, Memory}
+use Rattle.flake_base.specs.declared.session.End.TheVariants.{Left}
 use Rattle.flake_model.specs.Resp.{Words, judged_bytes, IsClean, IsTruncated, Parses, stream}
 use Rattle.flake_model.specs.Command.{Command, fault, command_of}
 use Rattle.flake_model.specs.Journal.{next_parts}
 use Rattle.flake_model.specs.Input.{protocol_error, commands_in}
-use Rattle.flake_model.specs.Session.{IsSession, IsTold}
+use Rattle.flake_model.specs.Session.{IsSession, AreKnownBytes}
 use Rattle.flake_base.specs.declared.session.SessionEnd.{SessionEnd}
 use Rattle.flake_model.proofs.OneParse.{goes_on}
 use Rattle.flake_model.proofs.SomeParse.{some_parse}
@@ -17,55 +20,79 @@ use Rattle.flake_model.proofs.Streams.{requests_fit}
 use Rattle.resp_reader.specs.declared.error.ReadError.{ReadError}
 use Rattle.resp_reader.specs.declared.error.ReadError.TheVariants.{BadCount, ExpectedBulk, BadLength, Inline}
 use Rattle.resp_reader.specs.declared.error.ReadError.TheVariants as errors
-use Rattle.resp_reader.specs.Reader.{Progress, Reads, IsReadTo, IsTaken as IsJudged, end_of}
+use Rattle.resp_reader.specs.Reader.{Progress, ReadsRequests, IsReadTo, IsErrorTaken as IsJudged, error_end}
 use Rattle.resp_reader.proofs.Fed.{read_ends}
 use Rattle.command_pump.specs.Given.{Gave}
-use Rattle.command_pump.specs.Pump.{IsDone, AreRead, AreFirst, IsEnded, IsAt, IsPump, IsOver, PumpState, HasEnded, FaultsSo, ended_at, session_at, taken_by, stage_after}
+use Rattle.command_pump.specs.Pump.{NothingLeft, AreRead, AreFirst, IsEnded, IsAtStage, IsPump, AnswersEnd, PumpState}
+use Rattle.command_pump.specs.Pump.{HasEnded, FaultsSo, ended_at, session_at, bytes_taken, stage_after}
 use Rattle.command_pump.specs.declared.pump.Stage.{Stage}
 use Rattle.command_pump.specs.declared.pump.Stage.TheVariants.{Reading, Refused, Ended}
 
-opened : (bytes : List ℕ) (requests : List Words) (reader : Progress) → reader.closed ≡ None → Reads bytes requests reader → IsReadTo bytes (requests ++ reader.requests) reader.place reader.front
+opened : (bytes : List ℕ) (requests : List Words) (reader : Progress) → reader.closed ≡ None
+    → ReadsRequests bytes requests reader → IsReadTo bytes (requests ++ reader.requests) reader.place reader.front
 opened bytes requests reader is reads =
-    subst (λ (c : Option ReadError). MatchOption c (IsReadTo bytes (requests ++ reader.requests) reader.place reader.front) (λ error. IsJudged error × Parses bytes (requests ++ reader.requests) (end_of error))) is reads
+    subst (λ (c : Option ReadError). MatchOption c
+    (IsReadTo bytes (requests ++ reader.requests) reader.place reader.front)
+    (λ error. IsJudged error × Parses bytes (requests ++ reader.requests) (error_end error))) is reads
 
-closed_by : (bytes : List ℕ) (requests : List Words) (reader : Progress) (error : ReadError) → reader.closed ≡ Some error → Reads bytes requests reader → IsJudged error × Parses bytes (requests ++ reader.requests) (end_of error)
+closed_by : (bytes : List ℕ) (requests : List Words) (reader : Progress) (error : ReadError) → reader.closed
+    ≡ Some error → ReadsRequests bytes requests reader → IsJudged error × Parses bytes (requests ++ reader.requests)
+    (error_end error)
 closed_by bytes requests reader error is reads =
-    subst (λ (c : Option ReadError). MatchOption c (IsReadTo bytes (requests ++ reader.requests) reader.place reader.front) (λ error. IsJudged error × Parses bytes (requests ++ reader.requests) (end_of error))) is reads
+    subst (λ (c : Option ReadError). MatchOption c
+    (IsReadTo bytes (requests ++ reader.requests) reader.place reader.front)
+    (λ error. IsJudged error × Parses bytes (requests ++ reader.requests) (error_end error))) is reads
 
-read_so_far : (bytes : List ℕ) (requests : List Words) (place : ℕ) (front : List ℕ) → IsReadTo bytes requests place front → AreRead bytes requests
+read_so_far : (bytes : List ℕ) (requests : List Words) (place : ℕ) (front : List ℕ)
+    → IsReadTo bytes requests place front → AreRead bytes requests
 read_so_far bytes requests place front read = elim (read_ends bytes requests place front read) [
   | inl whole ↦ record { shown = Clean; parsed = (read.judged, whole.1); no_error = λ all. refl; whole = inl refl }
-  | inr cut ↦ record { shown = Truncated place; parsed = (read.judged, cut.1); no_error = λ all. refl; whole = inr (place, refl) }
+  | inr cut ↦ record {
+    shown = Truncated place;
+    parsed = (read.judged, cut.1);
+    no_error = λ all. refl;
+    whole = inr (place, refl);
+  }
 ]
 
 -- what an open reader was fed is whole requests, and perhaps the front of one
-pub open_are_read : (bytes : List ℕ) (requests : List Words) (reader : Progress) → reader.closed ≡ None → Reads bytes requests reader → AreRead bytes (requests ++ reader.requests)
-open_are_read bytes requests reader is reads = read_so_far bytes (requests ++ reader.requests) reader.place reader.front (opened bytes requests reader is reads)
+pub open_are_read : (bytes : List ℕ) (requests : List Words) (reader : Progress) → reader.closed ≡ None
+    → ReadsRequests bytes requests reader → AreRead bytes (requests ++ reader.requests)
+open_are_read bytes requests reader is reads = read_so_far bytes (requests ++ reader.requests) reader.place reader.front
+    (opened bytes requests reader is reads)
 
 -- what a source gave, and what it has left, is the input
-told_rest : (input left : Option (List ℕ)) (bytes : List ℕ) → Gave input left bytes → (rest : List ℕ) × IsTold input (bytes ++ rest) × IsTold left rest
+told_rest : (input left : Option (List ℕ)) (bytes : List ℕ) → Gave input left bytes → (rest : List ℕ)
+    × AreKnownBytes input (bytes ++ rest) × AreKnownBytes left rest
 told_rest None None bytes gave = ([], tt, tt)
 told_rest None (Some l) bytes gave = absurd (cc gave)
 told_rest (Some all) None bytes gave = absurd (cc (gave.1))
 told_rest (Some all) (Some l) bytes gave = let is : l ≡ gave.0 = cc (gave.1) in (gave.0, gave.2, is)
 
 -- and where nothing is left it gave the whole input
-told_none : (input left : Option (List ℕ)) (bytes : List ℕ) → Gave input left bytes → IsDone left → IsTold input (bytes ++ []) × IsTold left []
+told_none : (input left : Option (List ℕ)) (bytes : List ℕ) → Gave input left bytes → NothingLeft left
+    → AreKnownBytes input (bytes ++ []) × AreKnownBytes left []
 told_none None None bytes gave done = (tt, tt)
 told_none None (Some l) bytes gave done = absurd (cc gave)
 told_none (Some all) None bytes gave done = absurd (cc (gave.1))
-told_none (Some all) (Some l) bytes gave done = let is : gave.0 ≡ l = cc (gave.1) in (gave.2 ∙ ap (λ r. bytes ++ r) (is ∙ done), done)
+told_none (Some all) (Some l) bytes gave done = let is : gave.0 ≡ l = cc (gave.1) in
+    (gave.2 ∙ ap (λ r. bytes ++ r) (is ∙ done), done)
 
 -- a source that gave a piece more
-gave_more : (input left new : Option (List ℕ)) (bytes piece room : List ℕ) (n : ℕ) → Gave input left bytes → Takes left new n room → piece ≡ take n room → Gave input new (bytes ++ piece)
+gave_more : (input left new : Option (List ℕ)) (bytes piece room : List ℕ) (n : ℕ) → Gave input left bytes
+    → Takes left new n room → piece ≡ take n room → Gave input new (bytes ++ piece)
 gave_more None None new bytes piece room n gave reads is = reads
 gave_more None (Some l) new bytes piece room n gave reads is = absurd (cc gave)
 gave_more (Some all) None new bytes piece room n gave reads is = absurd (cc (gave.1))
 gave_more (Some all) (Some l) new bytes piece room n gave reads is =
     let rest : l ≡ gave.0 = cc (gave.1) in
     let parts : take n l ++ drop n l ≡ l = take-append-drop n l in
-    let first : piece ≡ take n l = is ∙ reads.bytes in
-    (drop n l, reads.rest, gave.2 ∙ ap (λ r. bytes ++ r) (sym rest ∙ sym parts ∙ ap (λ f. f ++ drop n l) (sym first)) ∙ sym (append_assoc bytes piece (drop n l)))
+    let first : piece ≡ take n l = is ∙ reads.bytes in (
+      drop n l,
+      reads.rest,
+      gave.2 ∙ ap (λ r. bytes ++ r) (sym rest ∙ sym parts ∙ ap (λ f. f ++ drop n l) (sym first))
+          ∙ sym (append_assoc bytes piece (drop n l)),
+    )
 
 -- the pump as it is while it reads
 record WhileReading (input : Option (List ℕ)) (before : ℕ) (given : List Command) (pump : PumpState) : Type 0 where
@@ -74,13 +101,14 @@ record WhileReading (input : Option (List ℕ)) (before : ℕ) (given : List Com
   taken_is : pump.taken ≡ length bytes
   faults_are : pump.faults ≡ before
   gave : Gave input pump.left bytes
-  reads : Reads bytes requests pump.reader
+  reads : ReadsRequests bytes requests pump.reader
   closed : pump.reader.closed ≡ None
   given_is : given ≡ map command_of requests
 
-while_reading : (input : Option (List ℕ)) (before : ℕ) (given : List Command) (pump : PumpState) → pump.stage ≡ Reading → IsPump input before given pump → WhileReading input before given pump
+while_reading : (input : Option (List ℕ)) (before : ℕ) (given : List Command) (pump : PumpState) → pump.stage ≡ Reading
+    → IsPump input before given pump → WhileReading input before given pump
 while_reading input before given pump is p =
-    let at = subst (λ s. IsAt s pump.left p.bytes p.requests given pump.reader) is p.at in
+    let at = subst (λ s. IsAtStage s pump.left p.bytes p.requests given pump.reader) is p.at in
     record {
       bytes = p.bytes;
       requests = p.requests;
@@ -93,8 +121,11 @@ while_reading input before given pump is p =
     }
 
 -- a read fault
-pub at_fault : (input : Option (List ℕ)) (before : ℕ) (given : List Command) (pump : PumpState) (left : Option (List ℕ)) (faults : ℕ) → pump.stage ≡ Reading → pump.reader.requests ≡ [] → left ≡ pump.left
-    → Rose pump.faults faults → IsPump input before given pump → IsPump input before given (record { left = left; faults = faults; reader = pump.reader; stage = Ended ReadFault; taken = pump.taken })
+pub at_fault : (input : Option (List ℕ)) (before : ℕ) (given : List Command) (pump : PumpState) (left : Option (List ℕ))
+    (faults : ℕ) → pump.stage ≡ Reading → pump.reader.requests ≡ [] → left ≡ pump.left
+    → Rose pump.faults faults → IsPump input before given pump
+    → IsPump input before given
+    (record { left = left; faults = faults; reader = pump.reader; stage = Ended ReadFault; taken = pump.taken })
 at_fault input before given pump left faults is none same rose p =
     let r = while_reading input before given pump is p in
     record {
@@ -107,10 +138,13 @@ at_fault input before given pump left faults is none same rose p =
     }
 
 -- a piece that was taken
-pub at_piece : (input : Option (List ℕ)) (before : ℕ) (given : List Command) (pump : PumpState) (left : Option (List ℕ)) (faults n : ℕ) (reader : Progress) (room piece : List ℕ) → pump.stage ≡ Reading
+pub at_piece : (input : Option (List ℕ)) (before : ℕ) (given : List Command) (pump : PumpState) (left : Option (List ℕ))
+    (faults n : ℕ) (reader : Progress) (room piece : List ℕ) → pump.stage ≡ Reading
     → faults ≡ pump.faults → Takes pump.left left n room → piece ≡ take n room → length piece ≡ n → reader.closed ≡ None
-    → ((bytes : List ℕ) (given : List Words) → Reads bytes given pump.reader → Reads (bytes ++ piece) given reader) → IsPump input before given pump
-    → IsPump input before given (record { left = left; faults = faults; reader = reader; stage = Reading; taken = pump.taken + n })
+    → ((bytes : List ℕ) (given : List Words) → ReadsRequests bytes given pump.reader
+    → ReadsRequests (bytes ++ piece) given reader) → IsPump input before given pump
+    → IsPump input before given
+    (record { left = left; faults = faults; reader = reader; stage = Reading; taken = pump.taken + n })
 at_piece input before given pump left faults n reader room piece is same takes is_piece count still fed p =
     let r = while_reading input before given pump is p in
     record {
@@ -130,9 +164,12 @@ first_of bytes piece requests read =
     record { all = some.0; shown = some.1; parsed = some.2; rest = more.0; all_are = more.1 }
 
 -- want of memory in the reader, which is as it was
-at_memory : (input : Option (List ℕ)) (before : ℕ) (given : List Command) (pump : PumpState) (left : Option (List ℕ)) (faults n : ℕ) (reader : Progress) (room piece : List ℕ) → pump.stage ≡ Reading
-    → faults ≡ pump.faults → Takes pump.left left n room → piece ≡ take n room → length piece ≡ n → reader ≡ pump.reader → IsPump input before given pump
-    → IsPump input before given (record { left = left; faults = faults; reader = reader; stage = Ended Memory; taken = pump.taken + n })
+at_memory : (input : Option (List ℕ)) (before : ℕ) (given : List Command) (pump : PumpState) (left : Option (List ℕ))
+    (faults n : ℕ) (reader : Progress) (room piece : List ℕ) → pump.stage ≡ Reading
+    → faults ≡ pump.faults → Takes pump.left left n room → piece ≡ take n room → length piece ≡ n → reader ≡ pump.reader
+    → IsPump input before given pump
+    → IsPump input before given
+    (record { left = left; faults = faults; reader = reader; stage = Ended Memory; taken = pump.taken + n })
 at_memory input before given pump left faults n reader room piece is quiet takes is_piece count same p =
     let r = while_reading input before given pump is p in
     record {
@@ -143,14 +180,16 @@ at_memory input before given pump left faults n reader room piece is quiet takes
       faults_are = quiet ∙ r.faults_are;
       at = (
         first_of r.bytes piece (r.requests ++ reader.requests)
-            (subst (λ (n : Progress). AreRead r.bytes (r.requests ++ n.requests)) (sym same) (open_are_read r.bytes r.requests pump.reader r.closed r.reads)),
+            (subst (λ (n : Progress). AreRead r.bytes (r.requests ++ n.requests)) (sym same)
+            (open_are_read r.bytes r.requests pump.reader r.closed r.reads)),
         r.given_is,
       );
     }
 
-stops_so : (error : ReadError) (left : Option (List ℕ)) (bytes : List ℕ) (requests : List Words) (given : List Command) (reader : Progress) (before : ℕ)
-    → IsJudged error × Parses bytes (requests ++ reader.requests) (end_of error) → given ≡ map command_of requests
-    → FaultsSo (stage_after error) before before × IsAt (stage_after error) left bytes requests given reader
+stops_so : (error : ReadError) (left : Option (List ℕ)) (bytes : List ℕ) (requests : List Words) (given : List Command)
+    (reader : Progress) (before : ℕ)
+    → IsJudged error × Parses bytes (requests ++ reader.requests) (error_end error) → given ≡ map command_of requests
+    → FaultsSo (stage_after error) before before × IsAtStage (stage_after error) left bytes requests given reader
 stops_so (BadCount place) left bytes requests given reader before parsed is = (refl, (parsed.1, is))
 stops_so (ExpectedBulk place) left bytes requests given reader before parsed is = (refl, (parsed.1, is))
 stops_so (BadLength place) left bytes requests given reader before parsed is = (refl, (parsed.1, is))
@@ -159,13 +198,18 @@ stops_so (errors.TooLong taken) left bytes requests given reader before parsed i
 stops_so errors.Memory left bytes requests given reader before parsed is = absurd parsed.0
 
 -- a piece that the reader refused
-at_error : (input : Option (List ℕ)) (before : ℕ) (given : List Command) (pump : PumpState) (left : Option (List ℕ)) (faults n : ℕ) (reader : Progress) (error : ReadError) (room piece : List ℕ) → pump.stage ≡ Reading
-    → faults ≡ pump.faults → Takes pump.left left n room → piece ≡ take n room → length piece ≡ n → reader.closed ≡ Some error
-    → ((bytes : List ℕ) (given : List Words) → Reads bytes given pump.reader → Reads (bytes ++ piece) given reader) → IsPump input before given pump
-    → IsPump input before given (record { left = left; faults = faults; reader = reader; stage = stage_after error; taken = pump.taken + n })
+at_error : (input : Option (List ℕ)) (before : ℕ) (given : List Command) (pump : PumpState) (left : Option (List ℕ))
+    (faults n : ℕ) (reader : Progress) (error : ReadError) (room piece : List ℕ) → pump.stage ≡ Reading
+    → faults ≡ pump.faults → Takes pump.left left n room → piece ≡ take n room → length piece ≡ n → reader.closed
+    ≡ Some error
+    → ((bytes : List ℕ) (given : List Words) → ReadsRequests bytes given pump.reader
+    → ReadsRequests (bytes ++ piece) given reader) → IsPump input before given pump
+    → IsPump input before given
+    (record { left = left; faults = faults; reader = reader; stage = stage_after error; taken = pump.taken + n })
 at_error input before given pump left faults n reader error room piece is same takes is_piece count closed fed p =
     let r = while_reading input before given pump is p in
-    let so = stops_so error left (r.bytes ++ piece) r.requests given reader before (closed_by (r.bytes ++ piece) r.requests reader error closed (fed r.bytes r.requests r.reads)) r.given_is in
+    let so = stops_so error left (r.bytes ++ piece) r.requests given reader before
+    (closed_by (r.bytes ++ piece) r.requests reader error closed (fed r.bytes r.requests r.reads)) r.given_is in
     record {
       bytes = r.bytes ++ piece;
       requests = r.requests;
@@ -176,21 +220,37 @@ at_error input before given pump left faults n reader error room piece is same t
     }
 
 -- an error of any kind
-pub at_stop : (input : Option (List ℕ)) (before : ℕ) (given : List Command) (pump : PumpState) (left : Option (List ℕ)) (faults n : ℕ) (reader : Progress) (error : ReadError) (room piece : List ℕ) → pump.stage ≡ Reading
-    → faults ≡ pump.faults → Takes pump.left left n room → piece ≡ take n room → length piece ≡ n → (error ≢ errors.Memory → reader.closed ≡ Some error)
-    → (error ≢ errors.Memory → (bytes : List ℕ) (given : List Words) → Reads bytes given pump.reader → Reads (bytes ++ piece) given reader) → (error ≡ errors.Memory → reader ≡ pump.reader)
-    → IsPump input before given pump → IsPump input before given (record { left = left; faults = faults; reader = reader; stage = stage_after error; taken = pump.taken + n })
-at_stop input before given pump left faults n reader (BadCount place) room piece is quiet takes is_piece count closed fed same p =
-    at_error input before given pump left faults n reader (BadCount place) room piece is quiet takes is_piece count (closed (λ e. cc e)) (fed (λ e. cc e)) p
-at_stop input before given pump left faults n reader (ExpectedBulk place) room piece is quiet takes is_piece count closed fed same p =
-    at_error input before given pump left faults n reader (ExpectedBulk place) room piece is quiet takes is_piece count (closed (λ e. cc e)) (fed (λ e. cc e)) p
-at_stop input before given pump left faults n reader (BadLength place) room piece is quiet takes is_piece count closed fed same p =
-    at_error input before given pump left faults n reader (BadLength place) room piece is quiet takes is_piece count (closed (λ e. cc e)) (fed (λ e. cc e)) p
-at_stop input before given pump left faults n reader (Inline place) room piece is quiet takes is_piece count closed fed same p =
-    at_error input before given pump left faults n reader (Inline place) room piece is quiet takes is_piece count (closed (λ e. cc e)) (fed (λ e. cc e)) p
-at_stop input before given pump left faults n reader (errors.TooLong taken) room piece is quiet takes is_piece count closed fed same p =
-    at_error input before given pump left faults n reader (errors.TooLong taken) room piece is quiet takes is_piece count (closed (λ e. cc e)) (fed (λ e. cc e)) p
-at_stop input before given pump left faults n reader errors.Memory room piece is quiet takes is_piece count closed fed same p =
+pub at_stop : (input : Option (List ℕ)) (before : ℕ) (given : List Command) (pump : PumpState) (left : Option (List ℕ))
+    (faults n : ℕ) (reader : Progress) (error : ReadError) (room piece : List ℕ) → pump.stage ≡ Reading
+    → faults ≡ pump.faults → Takes pump.left left n room → piece ≡ take n room → length piece ≡ n
+    → (error ≢ errors.Memory → reader.closed ≡ Some error)
+    → (error ≢ errors.Memory → (bytes : List ℕ) (given : List Words) → ReadsRequests bytes given pump.reader
+    → ReadsRequests (bytes ++ piece) given reader) → (error ≡ errors.Memory → reader ≡ pump.reader)
+    → IsPump input before given pump
+    → IsPump input before given
+    (record { left = left; faults = faults; reader = reader; stage = stage_after error; taken = pump.taken + n })
+at_stop input before given pump left faults n reader (BadCount place) room piece is quiet takes is_piece count closed
+    fed same p =
+    at_error input before given pump left faults n reader (BadCount place) room piece is quiet takes is_piece count
+    (closed (λ e. cc e)) (fed (λ e. cc e)) p
+at_stop input before given pump left faults n reader (ExpectedBulk place) room piece is quiet takes is_piece count
+    closed fed same p =
+    at_error input before given pump left faults n reader (ExpectedBulk place) room piece is quiet takes is_piece count
+    (closed (λ e. cc e)) (fed (λ e. cc e)) p
+at_stop input before given pump left faults n reader (BadLength place) room piece is quiet takes is_piece count closed
+    fed same p =
+    at_error input before given pump left faults n reader (BadLength place) room piece is quiet takes is_piece count
+    (closed (λ e. cc e)) (fed (λ e. cc e)) p
+at_stop input before given pump left faults n reader (Inline place) room piece is quiet takes is_piece count closed fed
+    same p =
+    at_error input before given pump left faults n reader (Inline place) room piece is quiet takes is_piece count
+    (closed (λ e. cc e)) (fed (λ e. cc e)) p
+at_stop input before given pump left faults n reader (errors.TooLong taken) room piece is quiet takes is_piece count
+    closed fed same p =
+    at_error input before given pump left faults n reader (errors.TooLong taken) room piece is quiet takes is_piece
+    count (closed (λ e. cc e)) (fed (λ e. cc e)) p
+at_stop input before given pump left faults n reader errors.Memory room piece is quiet takes is_piece count closed fed
+    same p =
     at_memory input before given pump left faults n reader room piece is quiet takes is_piece count (same refl) p
 
 -- how many reads a pump can still make
@@ -202,37 +262,64 @@ reads_left pump = left_at pump.stage pump.taken where
   left_at (Ended end) taken = 0
 
 -- a request that was given is no longer held
-one_more : (requests more rest : List Words) (request : Words) → more ≡ request ∷ rest → requests ++ more ≡ (requests ++ request ∷ []) ++ rest
+one_more : (requests more rest : List Words) (request : Words) → more ≡ request ∷ rest → requests ++ more
+    ≡ (requests ++ request ∷ []) ++ rest
 one_more requests more rest request is = ap (λ m. requests ++ m) is ∙ sym (append_assoc requests (request ∷ []) rest)
 
-given_more : (given : List Command) (requests : List Words) (request : Words) → given ≡ map command_of requests → given ++ command_of request ∷ [] ≡ map command_of (requests ++ request ∷ [])
-given_more given requests request is = ap (λ g. g ++ command_of request ∷ []) is ∙ sym (map-append command_of requests (request ∷ []))
+given_more : (given : List Command) (requests : List Words) (request : Words) → given ≡ map command_of requests
+    → given ++ command_of request ∷ [] ≡ map command_of (requests ++ request ∷ [])
+given_more given requests request is = ap (λ g. g ++ command_of request ∷ []) is
+    ∙ sym (map-append command_of requests (request ∷ []))
 
-took_last : (end : End) (left : Option (List ℕ)) (bytes : List ℕ) (requests : List Words) (given : List Command) (reader new : Progress) (request : Words) → reader.requests ≡ request ∷ new.requests
-    → IsEnded end left bytes requests given reader → IsEnded end left bytes (requests ++ request ∷ []) (given ++ command_of request ∷ []) new
-took_last Clean left bytes requests given reader new request is at =
-    (at.0, subst (λ r. Parses bytes r Clean) (one_more requests reader.requests new.requests request is) at.1, given_more given requests request at.2)
+took_last : (end : End) (left : Option (List ℕ)) (bytes : List ℕ) (requests : List Words) (given : List Command)
+    (reader new : Progress) (request : Words) → reader.requests ≡ request ∷ new.requests
+    → IsEnded end left bytes requests given reader → IsEnded end left bytes (requests ++ request ∷ [])
+    (given ++ command_of request ∷ []) new
+took_last Clean left bytes requests given reader new request is at = (
+  at.0,
+  subst (λ r. Parses bytes r Clean) (one_more requests reader.requests new.requests request is) at.1,
+  given_more given requests request at.2,
+)
 took_last (Protocol kind place) left bytes requests given reader new request is at = absurd (cc (is, at.1))
-took_last (Truncated place) left bytes requests given reader new request is at =
-    (at.0, subst (λ r. Parses bytes r (Truncated place)) (one_more requests reader.requests new.requests request is) at.1, given_more given requests request at.2)
-took_last TooLong left bytes requests given reader new request is at =
-    (subst (λ r. Parses bytes r TooLong) (one_more requests reader.requests new.requests request is) at.0, given_more given requests request at.1)
+took_last (Truncated place) left bytes requests given reader new request is at = (
+  at.0,
+  subst (λ r. Parses bytes r (Truncated place)) (one_more requests reader.requests new.requests request is)
+      at.1,
+  given_more given requests request at.2,
+)
+took_last TooLong left bytes requests given reader new request is at = (
+  subst (λ r. Parses bytes r TooLong) (one_more requests reader.requests new.requests request is) at.0,
+  given_more
+      given requests request at.1,
+)
 took_last ReadFault left bytes requests given reader new request is at = absurd (cc (is, at.1))
-took_last Memory left bytes requests given reader new request is at =
-    (subst (AreFirst bytes) (one_more requests reader.requests new.requests request is) at.0, given_more given requests request at.1)
+took_last Memory left bytes requests given reader new request is at = (
+  subst (AreFirst bytes) (one_more requests reader.requests new.requests request is) at.0,
+  given_more given requests
+      request at.1,
+)
 took_last Left left bytes requests given reader new request is at = absurd at
 
-took : (stage : Stage) (left : Option (List ℕ)) (bytes : List ℕ) (requests : List Words) (given : List Command) (reader new : Progress) (request : Words) → reader.requests ≡ request ∷ new.requests
-    → new.closed ≡ reader.closed → ((bytes : List ℕ) (given : List Words) → Reads bytes given reader → Reads bytes (given ++ request ∷ []) new)
-    → IsAt stage left bytes requests given reader → IsAt stage left bytes (requests ++ request ∷ []) (given ++ command_of request ∷ []) new
-took Reading left bytes requests given reader new request is closed fed at = (fed bytes requests at.0, closed ∙ at.1, given_more given requests request at.2)
-took (Refused kind place) left bytes requests given reader new request is closed fed at =
-    (subst (λ r. Parses bytes r (Protocol kind place)) (one_more requests reader.requests new.requests request is) at.0, given_more given requests request at.1)
-took (Ended end) left bytes requests given reader new request is closed fed at = took_last end left bytes requests given reader new request is at
+took : (stage : Stage) (left : Option (List ℕ)) (bytes : List ℕ) (requests : List Words) (given : List Command)
+    (reader new : Progress) (request : Words) → reader.requests ≡ request ∷ new.requests
+    → new.closed ≡ reader.closed
+    → ((bytes : List ℕ) (given : List Words) → ReadsRequests bytes given reader
+    → ReadsRequests bytes (given ++ request ∷ []) new)
+    → IsAtStage stage left bytes requests given reader → IsAtStage stage left bytes (requests ++ request ∷ [])
+    (given ++ command_of request ∷ []) new
+took Reading left bytes requests given reader new request is closed fed at =
+    (fed bytes requests at.0, closed ∙ at.1, given_more given requests request at.2)
+took (Refused kind place) left bytes requests given reader new request is closed fed at = (
+  subst (λ r. Parses bytes r (Protocol kind place)) (one_more requests reader.requests new.requests request is) at.0,
+  given_more given requests request at.1,
+)
+took (Ended end) left bytes requests given reader new request is closed fed at =
+    took_last end left bytes requests given reader new request is at
 
 -- no read failed before the last command was given
-no_fault : (stage : Stage) (left : Option (List ℕ)) (bytes : List ℕ) (requests : List Words) (given : List Command) (reader new : Progress) (request : Words) (before now : ℕ) → reader.requests ≡ request ∷ new.requests
-    → IsAt stage left bytes requests given reader → FaultsSo stage before now → now ≡ before
+no_fault : (stage : Stage) (left : Option (List ℕ)) (bytes : List ℕ) (requests : List Words) (given : List Command)
+    (reader new : Progress) (request : Words) (before now : ℕ) → reader.requests ≡ request ∷ new.requests
+    → IsAtStage stage left bytes requests given reader → FaultsSo stage before now → now ≡ before
 no_fault Reading left bytes requests given reader new request before now is at faults = faults
 no_fault (Refused kind place) left bytes requests given reader new request before now is at faults = faults
 no_fault (Ended Clean) left bytes requests given reader new request before now is at faults = faults
@@ -243,33 +330,49 @@ no_fault (Ended ReadFault) left bytes requests given reader new request before n
 no_fault (Ended Memory) left bytes requests given reader new request before now is at faults = faults
 no_fault (Ended Left) left bytes requests given reader new request before now is at faults = faults
 
-pub quiet_request : (input : Option (List ℕ)) (before : ℕ) (given : List Command) (pump : PumpState) (reader : Progress) (request : Words) → pump.reader.requests ≡ request ∷ reader.requests → IsPump input before given pump
+pub quiet_request : (input : Option (List ℕ)) (before : ℕ) (given : List Command) (pump : PumpState) (reader : Progress)
+    (request : Words) → pump.reader.requests ≡ request ∷ reader.requests → IsPump input before given pump
     → pump.faults ≡ before
-quiet_request input before given pump reader request is p = no_fault pump.stage pump.left p.bytes p.requests given pump.reader reader request before pump.faults is p.at p.faults_are
+quiet_request input before given pump reader request is p = no_fault pump.stage pump.left p.bytes p.requests given
+    pump.reader reader request before pump.faults is p.at p.faults_are
 
-pub quiet_refusal : (input : Option (List ℕ)) (before : ℕ) (given : List Command) (pump : PumpState) (kind place : ℕ) → pump.stage ≡ Refused kind place → IsPump input before given pump → pump.faults ≡ before
+pub quiet_refusal : (input : Option (List ℕ)) (before : ℕ) (given : List Command) (pump : PumpState) (kind place : ℕ)
+    → pump.stage ≡ Refused kind place → IsPump input before given pump → pump.faults ≡ before
 quiet_refusal input before given pump kind place is p = subst (λ s. FaultsSo s before pump.faults) is p.faults_are
 
 -- a request that the reader had
-pub at_request : (input : Option (List ℕ)) (before : ℕ) (given : List Command) (pump : PumpState) (reader : Progress) (request : Words) (command : Command) → pump.reader.requests ≡ request ∷ reader.requests
-    → reader.closed ≡ pump.reader.closed → ((bytes : List ℕ) (given : List Words) → Reads bytes given pump.reader → Reads bytes (given ++ request ∷ []) reader) → command ≡ command_of request
-    → IsPump input before given pump → IsPump input before (given ++ command ∷ []) (record { left = pump.left; faults = pump.faults; reader = reader; stage = pump.stage; taken = pump.taken })
+pub at_request : (input : Option (List ℕ)) (before : ℕ) (given : List Command) (pump : PumpState) (reader : Progress)
+    (request : Words) (command : Command) → pump.reader.requests ≡ request ∷ reader.requests
+    → reader.closed ≡ pump.reader.closed
+    → ((bytes : List ℕ) (given : List Words) → ReadsRequests bytes given pump.reader
+    → ReadsRequests bytes (given ++ request ∷ []) reader) → command ≡ command_of request
+    → IsPump input before given pump → IsPump input before (given ++ command ∷ [])
+    (record { left = pump.left; faults = pump.faults; reader = reader; stage = pump.stage; taken = pump.taken })
 at_request input before given pump reader request command is closed fed is_command p = record {
   bytes = p.bytes;
   requests = p.requests ++ request ∷ [];
   taken_is = p.taken_is;
   gave = p.gave;
   faults_are = p.faults_are;
-  at = subst (λ c. IsAt pump.stage pump.left p.bytes (p.requests ++ request ∷ []) (given ++ c ∷ []) reader) (sym is_command)
+  at = subst (λ c. IsAtStage pump.stage pump.left p.bytes (p.requests ++ request ∷ []) (given ++ c ∷ []) reader)
+      (sym is_command)
       (took pump.stage pump.left p.bytes p.requests given pump.reader reader request is closed fed p.at);
 }
 
 -- the command of an error
-pub at_refusal : (input : Option (List ℕ)) (before : ℕ) (given : List Command) (pump : PumpState) (kind place : ℕ) (command : Command) (reader : Progress) → pump.stage ≡ Refused kind place → pump.reader.requests ≡ []
+pub at_refusal : (input : Option (List ℕ)) (before : ℕ) (given : List Command) (pump : PumpState) (kind place : ℕ)
+    (command : Command) (reader : Progress) → pump.stage ≡ Refused kind place → pump.reader.requests ≡ []
     → reader.requests ≡ [] → command ≡ fault (protocol_error kind) → IsPump input before given pump
-    → IsPump input before (given ++ command ∷ []) (record { left = pump.left; faults = pump.faults; reader = reader; stage = Ended (Protocol kind place); taken = pump.taken })
+    → IsPump input before (given ++ command ∷ [])
+    (record {
+      left = pump.left;
+      faults = pump.faults;
+      reader = reader;
+      stage = Ended (Protocol kind place);
+      taken = pump.taken;
+    })
 at_refusal input before given pump kind place command reader is none still is_command p =
-    let at = subst (λ s. IsAt s pump.left p.bytes p.requests given pump.reader) is p.at in
+    let at = subst (λ s. IsAtStage s pump.left p.bytes p.requests given pump.reader) is p.at in
     record {
       bytes = p.bytes;
       requests = p.requests;
@@ -277,14 +380,16 @@ at_refusal input before given pump kind place command reader is none still is_co
       gave = p.gave;
       faults_are = subst (λ s. FaultsSo s before pump.faults) is p.faults_are;
       at = (
-        subst (λ r. Parses p.bytes r (Protocol kind place)) (ap (λ m. p.requests ++ m) none ∙ append-nil p.requests) at.0,
+        subst (λ r. Parses p.bytes r (Protocol kind place)) (ap (λ m. p.requests ++ m) none ∙ append-nil p.requests)
+            at.0,
         still,
         ap (λ g. g ++ command ∷ []) at.1 ∙ ap (λ c. map command_of p.requests ++ c ∷ []) is_command,
       );
     }
 
 -- the place of an error is among the bytes that are judged
-error_place : (bytes : List ℕ) (requests : List Words) (kind place : ℕ) → Parses bytes requests (Protocol kind place) → place < judged_bytes
+error_place : (bytes : List ℕ) (requests : List Words) (kind place : ℕ) → Parses bytes requests (Protocol kind place)
+    → place < judged_bytes
 error_place bytes requests kind place faulty =
     omega (
       arith,
@@ -295,31 +400,47 @@ error_place bytes requests kind place faulty =
     )
 
 -- the first requests of an input make its first commands
-commands_first : (all requests rest : List Words) (shown : End) → all ≡ requests ++ rest → (more : List Command) × (commands_in all shown ≡ map command_of requests ++ more)
-commands_first all requests rest Clean is = (map command_of rest, ap (map command_of) is ∙ map-append command_of requests rest)
+commands_first : (all requests rest : List Words) (shown : End) → all ≡ requests ++ rest → (more : List Command)
+    × (commands_in all shown ≡ map command_of requests ++ more)
+commands_first all requests rest Clean is =
+    (map command_of rest, ap (map command_of) is ∙ map-append command_of requests rest)
 commands_first all requests rest (Protocol kind place) is = (
   map command_of rest ++ fault (protocol_error kind) ∷ [],
-  ap (λ a. map command_of a ++ fault (protocol_error kind) ∷ []) is ∙ ap (λ c. c ++ fault (protocol_error kind) ∷ []) (map-append command_of requests rest)
+  ap (λ a. map command_of a ++ fault (protocol_error kind) ∷ []) is ∙ ap (λ c. c ++ fault (protocol_error kind) ∷ [])
+      (map-append command_of requests rest)
       ∙ append_assoc (map command_of requests) (map command_of rest) (fault (protocol_error kind) ∷ []),
 )
-commands_first all requests rest (Truncated place) is = (map command_of rest, ap (map command_of) is ∙ map-append command_of requests rest)
-commands_first all requests rest TooLong is = (map command_of rest, ap (map command_of) is ∙ map-append command_of requests rest)
-commands_first all requests rest ReadFault is = (map command_of rest, ap (map command_of) is ∙ map-append command_of requests rest)
-commands_first all requests rest Memory is = (map command_of rest, ap (map command_of) is ∙ map-append command_of requests rest)
-commands_first all requests rest Left is = (map command_of rest, ap (map command_of) is ∙ map-append command_of requests rest)
+commands_first all requests rest (Truncated place) is =
+    (map command_of rest, ap (map command_of) is ∙ map-append command_of requests rest)
+commands_first all requests rest TooLong is =
+    (map command_of rest, ap (map command_of) is ∙ map-append command_of requests rest)
+commands_first all requests rest ReadFault is =
+    (map command_of rest, ap (map command_of) is ∙ map-append command_of requests rest)
+commands_first all requests rest Memory is =
+    (map command_of rest, ap (map command_of) is ∙ map-append command_of requests rest)
+commands_first all requests rest Left is =
+    (map command_of rest, ap (map command_of) is ∙ map-append command_of requests rest)
 
 -- no command is behind those that were given
-alone : (input left : Option (List ℕ)) (given : List Command) (end : Bool → SessionEnd) → ((failed : Bool) → IsSession (session_at input left given (end failed) 0))
+alone : (input left : Option (List ℕ)) (given : List Command) (end : Bool → SessionEnd)
+    → ((failed : Bool) → IsSession (session_at input left given (end failed) 0))
     → (more : List Command) × ((failed : Bool) → IsSession (session_at input left (given ++ more) (end failed) 0))
-alone input left given end session = ([], λ failed. subst (λ c. IsSession (session_at input left c (end failed) 0)) (sym (append-nil given)) (session failed))
+alone input left given end session = (
+  [],
+  λ failed. subst (λ c. IsSession (session_at input left c (end failed) 0)) (sym (append-nil given))
+      (session failed),
+)
 
 none_held : (P : List Words → Type 0) (requests held : List Words) → held ≡ [] → P (requests ++ held) → P requests
 none_held P requests held none p = subst P (ap (λ m. requests ++ m) none ∙ append-nil requests) p
 
 -- the session, by its end
-session_of : (end : End) (input left : Option (List ℕ)) (bytes : List ℕ) (requests : List Words) (given : List Command) (reader : Progress) (taken : ℕ) → taken ≡ length bytes → reader.requests ≡ []
+session_of : (end : End) (input left : Option (List ℕ)) (bytes : List ℕ) (requests : List Words) (given : List Command)
+    (reader : Progress) (taken : ℕ) → taken ≡ length bytes → reader.requests ≡ []
     → Gave input left bytes → IsEnded end left bytes requests given reader
-    → (more : List Command) × ((failed : Bool) → IsSession (session_at input left (given ++ more) (ended_at end (taken_by end taken) (length given) failed) 0))
+    → (more : List Command)
+    × ((failed : Bool) → IsSession
+    (session_at input left (given ++ more) (ended_at end (bytes_taken end taken) (length given) failed) 0))
 session_of Clean input left bytes requests given reader taken count none gave at =
     let told = told_none input left bytes gave at.0 in
     alone input left given _ (λ failed. record {
@@ -423,30 +544,44 @@ session_of Memory input left bytes requests given reader taken count none gave a
         shown_is = tt;
         read_out = tt;
         taken_is = count;
-        replied = omega (arith, ap length at.1, length-map requests command_of, ap length first.all_are, length-append requests first.rest);
+        replied = omega (
+          arith,
+          ap length at.1,
+          length-map requests command_of,
+          ap length first.all_are,
+          length-append
+              requests first.rest,
+        );
         begun_is = inl refl;
       },
     )
 session_of Left input left bytes requests given reader taken count none gave at = absurd at
 
 -- all commands were given
-to_the_end : (end : End) (left : Option (List ℕ)) (bytes : List ℕ) (requests : List Words) (given : List Command) (reader : Progress) → IsEnded end left bytes requests given reader → end ≢ Left
+to_the_end : (end : End) (left : Option (List ℕ)) (bytes : List ℕ) (requests : List Words) (given : List Command)
+    (reader : Progress) → IsEnded end left bytes requests given reader → end ≢ Left
 to_the_end end left bytes requests given reader at is = subst (λ e. IsEnded e left bytes requests given reader) is at
 
-pub at_last : (input : Option (List ℕ)) (before : ℕ) (given : List Command) (pump : PumpState) (end : End) (taken : ℕ) (reader : Progress) → pump.stage ≡ Ended end → pump.reader.requests ≡ [] → taken ≡ taken_by end pump.taken
-    → IsPump input before given pump → HasEnded input before given end (record { left = pump.left; faults = pump.faults; reader = reader; stage = pump.stage; taken = taken })
+pub at_last : (input : Option (List ℕ)) (before : ℕ) (given : List Command) (pump : PumpState) (end : End) (taken : ℕ)
+    (reader : Progress) → pump.stage ≡ Ended end → pump.reader.requests ≡ [] → taken ≡ bytes_taken end pump.taken
+    → IsPump input before given pump
+    → HasEnded input before given end
+    (record { left = pump.left; faults = pump.faults; reader = reader; stage = pump.stage; taken = taken })
 at_last input before given pump end taken reader is none by p =
-    let at = subst (λ s. IsAt s pump.left p.bytes p.requests given pump.reader) is p.at in
-    let session = session_of end input pump.left p.bytes p.requests given pump.reader pump.taken p.taken_is none p.gave at in
+    let at = subst (λ s. IsAtStage s pump.left p.bytes p.requests given pump.reader) is p.at in
+    let session = session_of end input pump.left p.bytes p.requests given pump.reader pump.taken p.taken_is none p.gave
+    at in
     record {
       faults_are = subst (λ s. FaultsSo s before pump.faults) is p.faults_are;
       to_the_end = to_the_end end pump.left p.bytes p.requests given pump.reader at;
       more = session.0;
-      session = subst (λ t. (failed : Bool) → IsSession (session_at input pump.left (given ++ session.0) (ended_at end t (length given) failed) 0)) (sym by) session.1;
+      session = subst (λ t. (failed : Bool)
+          → IsSession (session_at input pump.left (given ++ session.0) (ended_at end t (length given) failed) 0))
+          (sym by) session.1;
     }
 
 -- the count of what was taken at an end stays so
-pub taken_again : (end : End) (taken : ℕ) → taken_by end (taken_by end taken) ≡ taken_by end taken
+pub taken_again : (end : End) (taken : ℕ) → bytes_taken end (bytes_taken end taken) ≡ bytes_taken end taken
 taken_again Clean taken = refl
 taken_again (Protocol kind place) taken = refl
 taken_again (Truncated place) taken = refl
@@ -455,15 +590,22 @@ taken_again ReadFault taken = refl
 taken_again Memory taken = refl
 taken_again Left taken = refl
 
-pub unchanged_reader : (old new : Progress) → (new.front ≡ old.front) × (new.place ≡ old.place) → new.closed ≡ old.closed → old.requests ≡ new.requests → new ≡ old
-unchanged_reader old new front closed requests = λ i. record { requests = sym requests i; front = front.0 i; place = front.1 i; closed = closed i }
+pub unchanged_reader : (old new : Progress) → (new.front ≡ old.front) × (new.place ≡ old.place) → new.closed
+    ≡ old.closed → old.requests ≡ new.requests → new ≡ old
+unchanged_reader old new front closed requests = λ i. record {
+  requests = sym requests i;
+  front = front.0 i;
+  place = front.1 i;
+  closed = closed i;
+}
 
 -- a pump whose end was answered is as it was
-pub same_again : (end other : End) (pump : PumpState) (reader : Progress) (taken : ℕ) → IsOver end pump → pump.stage ≡ Ended other → reader ≡ pump.reader → taken ≡ taken_by other pump.taken
+pub same_again : (end other : End) (pump : PumpState) (reader : Progress) (taken : ℕ) → AnswersEnd end pump → pump.stage
+    ≡ Ended other → reader ≡ pump.reader → taken ≡ bytes_taken other pump.taken
     → record { left = pump.left; faults = pump.faults; reader = reader; stage = pump.stage; taken = taken } ≡ pump
 same_again end other pump reader taken over at same by =
     let is : other ≡ end = cc (at, over.stage) in
-    let stays : taken ≡ pump.taken = by ∙ ap (λ e. taken_by e pump.taken) is ∙ sym over.taken in
+    let stays : taken ≡ pump.taken = by ∙ ap (λ e. bytes_taken e pump.taken) is ∙ sym over.taken in
     λ i. record { left = pump.left; faults = pump.faults; reader = same i; stage = pump.stage; taken = stays i }
 
 -- what the bytes that came mean, and that the commands which were given are the first of it
@@ -478,8 +620,10 @@ pub record Meant (input left : Option (List ℕ)) (given : List Command) (taken 
   pub commands_are : commands_in requests shown ≡ given ++ more
 
 -- the commands that were given, and those of the requests that are held
-all_of : (given : List Command) (requests pending : List Words) → given ≡ map command_of requests → map command_of (requests ++ pending) ≡ given ++ map command_of pending
-all_of given requests pending is = map-append command_of requests pending ∙ ap (λ g. g ++ map command_of pending) (sym is)
+all_of : (given : List Command) (requests pending : List Words) → given ≡ map command_of requests
+    → map command_of (requests ++ pending) ≡ given ++ map command_of pending
+all_of given requests pending is = map-append command_of requests pending ∙ ap (λ g. g ++ map command_of pending)
+    (sym is)
 
 -- what bytes mean of which these commands are the first
 record IsMeant (bytes : List ℕ) (given : List Command) : Type 0 where
@@ -489,7 +633,8 @@ record IsMeant (bytes : List ℕ) (given : List Command) : Type 0 where
   parsed : Parses bytes requests shown
   commands_are : commands_in requests shown ≡ given ++ more
 
-meant_read : (given : List Command) (bytes : List ℕ) (requests pending : List Words) → AreRead bytes (requests ++ pending) → given ≡ map command_of requests → IsMeant bytes given
+meant_read : (given : List Command) (bytes : List ℕ) (requests pending : List Words)
+    → AreRead bytes (requests ++ pending) → given ≡ map command_of requests → IsMeant bytes given
 meant_read given bytes requests pending read is = record {
   requests = requests ++ pending;
   shown = read.shown;
@@ -498,14 +643,17 @@ meant_read given bytes requests pending read is = record {
   commands_are = read.no_error (requests ++ pending) ∙ all_of given requests pending is;
 }
 
-meant_at : (stage : Stage) (left : Option (List ℕ)) (bytes : List ℕ) (requests : List Words) (given : List Command) (reader : Progress) → IsAt stage left bytes requests given reader → IsMeant bytes given
-meant_at Reading left bytes requests given reader at = meant_read given bytes requests reader.requests (open_are_read bytes requests reader at.1 at.0) at.2
+meant_at : (stage : Stage) (left : Option (List ℕ)) (bytes : List ℕ) (requests : List Words) (given : List Command)
+    (reader : Progress) → IsAtStage stage left bytes requests given reader → IsMeant bytes given
+meant_at Reading left bytes requests given reader at = meant_read given bytes requests reader.requests
+    (open_are_read bytes requests reader at.1 at.0) at.2
 meant_at (Refused kind place) left bytes requests given reader at = record {
   requests = requests ++ reader.requests;
   shown = Protocol kind place;
   more = map command_of reader.requests ++ fault (protocol_error kind) ∷ [];
   parsed = at.0;
-  commands_are = ap (λ c. c ++ fault (protocol_error kind) ∷ []) (all_of given requests reader.requests at.1) ∙ append_assoc given (map command_of reader.requests) (fault (protocol_error kind) ∷ []);
+  commands_are = ap (λ c. c ++ fault (protocol_error kind) ∷ []) (all_of given requests reader.requests at.1)
+      ∙ append_assoc given (map command_of reader.requests) (fault (protocol_error kind) ∷ []);
 }
 meant_at (Ended Clean) left bytes requests given reader at = record {
   requests = requests ++ reader.requests;
@@ -535,10 +683,12 @@ meant_at (Ended TooLong) left bytes requests given reader at = record {
   parsed = at.0;
   commands_are = all_of given requests reader.requests at.1;
 }
-meant_at (Ended ReadFault) left bytes requests given reader at = meant_read given bytes requests reader.requests at.0 at.2
+meant_at (Ended ReadFault) left bytes requests given reader at = meant_read given bytes requests reader.requests at.0
+    at.2
 meant_at (Ended Memory) left bytes requests given reader at =
     let first = at.0 in
-    let all_are : first.all ≡ requests ++ (reader.requests ++ first.rest) = first.all_are ∙ append_assoc requests reader.requests first.rest in
+    let all_are : first.all ≡ requests ++ (reader.requests ++ first.rest) = first.all_are
+    ∙ append_assoc requests reader.requests first.rest in
     let more = commands_first first.all requests (reader.requests ++ first.rest) first.shown all_are in
     record {
       requests = first.all;
@@ -549,20 +699,40 @@ meant_at (Ended Memory) left bytes requests given reader at =
     }
 meant_at (Ended Left) left bytes requests given reader at = absurd at
 
-pub meant : (input : Option (List ℕ)) (before : ℕ) (given : List Command) (pump : PumpState) → IsPump input before given pump → Meant input pump.left given pump.taken
+pub meant : (input : Option (List ℕ)) (before : ℕ) (given : List Command) (pump : PumpState)
+    → IsPump input before given pump → Meant input pump.left given pump.taken
 meant input before given pump p =
     let m = meant_at pump.stage pump.left p.bytes p.requests given pump.reader p.at in
-    record { bytes = p.bytes; requests = m.requests; shown = m.shown; more = m.more; taken_is = p.taken_is; gave = p.gave; parsed = m.parsed; commands_are = m.commands_are }
+    record {
+      bytes = p.bytes;
+      requests = m.requests;
+      shown = m.shown;
+      more = m.more;
+      taken_is = p.taken_is;
+      gave = p.gave;
+      parsed = m.parsed;
+      commands_are = m.commands_are;
+    }
 
 -- an input has at most as many requests as bytes that are judged
 clean_fits : (bytes : List ℕ) (requests : List Words) → IsClean bytes requests → length requests ≤ length bytes
-clean_fits bytes requests clean = omega (arith, ap length clean.requests_are, requests_fit clean.elements, ap length clean.bytes_are)
+clean_fits bytes requests clean =
+    omega (arith, ap length clean.requests_are, requests_fit clean.elements, ap length clean.bytes_are)
 
-truncated_fits : (bytes : List ℕ) (requests : List Words) (place : ℕ) → IsTruncated bytes requests place → length requests ≤ length bytes
+truncated_fits : (bytes : List ℕ) (requests : List Words) (place : ℕ) → IsTruncated bytes requests place
+    → length requests ≤ length bytes
 truncated_fits bytes requests place cut =
-    omega (arith, ap length cut.requests_are, requests_fit cut.elements, ap length cut.bytes_are, length-append (stream cut.elements) cut.front)
+    omega (
+      arith,
+      ap length cut.requests_are,
+      requests_fit cut.elements,
+      ap length cut.bytes_are,
+      length-append
+          (stream cut.elements) cut.front,
+    )
 
-so_many : (bytes : List ℕ) (requests : List Words) (shown : End) → Parses bytes requests shown → length requests ≤ judged_bytes
+so_many : (bytes : List ℕ) (requests : List Words) (shown : End) → Parses bytes requests shown
+    → length requests ≤ judged_bytes
 so_many bytes requests Clean parsed = omega (arith, parsed.0, clean_fits bytes requests parsed.1)
 so_many bytes requests (Truncated place) parsed = omega (arith, parsed.0, truncated_fits bytes requests place parsed.1)
 so_many bytes requests (Protocol kind place) faulty =
@@ -575,29 +745,47 @@ so_many bytes requests (Protocol kind place) faulty =
       length-append (stream faulty.elements) faulty.front,
       length-take judged_bytes bytes,
     )
-so_many bytes requests TooLong (long, inl clean) = omega (arith, clean_fits (take judged_bytes bytes) requests clean, length-take judged_bytes bytes)
-so_many bytes requests TooLong (long, inr cut) = omega (arith, truncated_fits (take judged_bytes bytes) requests cut.0 cut.1, length-take judged_bytes bytes)
+so_many bytes requests TooLong (long, inl clean) =
+    omega (arith, clean_fits (take judged_bytes bytes) requests clean, length-take judged_bytes bytes)
+so_many bytes requests TooLong (long, inr cut) =
+    omega (arith, truncated_fits (take judged_bytes bytes) requests cut.0 cut.1, length-take judged_bytes bytes)
 so_many bytes requests ReadFault parsed = absurd parsed
 so_many bytes requests Memory parsed = absurd parsed
 so_many bytes requests Left parsed = absurd parsed
 
 one_error_more : (requests : List Words) (shown : End) → length (commands_in requests shown) ≤ length requests + 1
 one_error_more requests Clean = omega (arith, length-map requests command_of)
-one_error_more requests (Protocol kind place) = omega (arith, length-map requests command_of, length-append (map command_of requests) (fault (protocol_error kind) ∷ []))
+one_error_more requests (Protocol kind place) =
+    omega (
+      arith,
+      length-map requests command_of,
+      length-append (map command_of requests)
+          (fault (protocol_error kind) ∷ []),
+    )
 one_error_more requests (Truncated place) = omega (arith, length-map requests command_of)
 one_error_more requests TooLong = omega (arith, length-map requests command_of)
 one_error_more requests ReadFault = omega (arith, length-map requests command_of)
 one_error_more requests Memory = omega (arith, length-map requests command_of)
 one_error_more requests Left = omega (arith, length-map requests command_of)
 
-pub bounded : (input : Option (List ℕ)) (before : ℕ) (given : List Command) (pump : PumpState) → IsPump input before given pump → length given ≤ judged_bytes + 1
+pub bounded : (input : Option (List ℕ)) (before : ℕ) (given : List Command) (pump : PumpState)
+    → IsPump input before given pump → length given ≤ judged_bytes + 1
 bounded input before given pump p =
     let m = meant input before given pump p in
-    omega (arith, ap length m.commands_are, length-append given m.more, one_error_more m.requests m.shown, so_many m.bytes m.requests m.shown m.parsed)
+    omega (
+      arith,
+      ap length m.commands_are,
+      length-append given m.more,
+      one_error_more m.requests m.shown,
+      so_many
+          m.bytes m.requests m.shown m.parsed,
+    )
 
 -- a session that memory stopped behind so many replies, in a call that was given
-pub stopped_at : (input left : Option (List ℕ)) (given : List Command) (taken replies begun : ℕ) (failed : Bool) → (m : Meant input left given taken) → replies < length given
-    → (begun ≡ 0) ⊎ (begun < length (next_parts replies (given ++ m.more))) → IsSession (session_at input left (given ++ m.more) (ended_at Memory taken replies failed) begun)
+pub stopped_at : (input left : Option (List ℕ)) (given : List Command) (taken replies begun : ℕ) (failed : Bool)
+    → (m : Meant input left given taken) → replies < length given
+    → (begun ≡ 0) ⊎ (begun < length (next_parts replies (given ++ m.more)))
+    → IsSession (session_at input left (given ++ m.more) (ended_at Memory taken replies failed) begun)
 stopped_at input left given taken replies begun failed m some is_begun =
     let told = told_rest input left m.bytes m.gave in
     record {
@@ -612,6 +800,13 @@ stopped_at input left given taken replies begun failed m some is_begun =
       shown_is = tt;
       read_out = tt;
       taken_is = m.taken_is;
-      replied = omega (arith, some, ap length m.commands_are, length-append given m.more, one_error_more m.requests m.shown);
+      replied = omega (
+        arith,
+        some,
+        ap length m.commands_are,
+        length-append given m.more,
+        one_error_more m.requests
+            m.shown,
+      );
       begun_is = is_begun;
     }

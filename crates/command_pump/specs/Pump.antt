@@ -12,7 +12,7 @@ use Rattle.flake_model.specs.Input.{protocol_error, commands_in}
 use Rattle.flake_model.specs.Session.{Session, IsSession, HasNoError}
 use Rattle.resp_reader.specs.declared.error.ReadError.{ReadError}
 use Rattle.resp_reader.specs.declared.error.ReadError.TheVariants as errors
-use Rattle.resp_reader.specs.Reader.{Progress, Reads, fed_to}
+use Rattle.resp_reader.specs.Reader.{Progress, ReadsRequests, fed_to}
 use Rattle.command_pump.specs.Given.{Gave}
 use Rattle.command_pump.specs.declared.pump.Stage.{Stage}
 use Rattle.command_pump.specs.declared.pump.Stage.TheVariants.{Reading, Refused, Ended}
@@ -26,7 +26,7 @@ pub record PumpState : Type 0 where
   pub taken : ℕ
 
 -- the reader takes pieces, and has so many bytes
-pub record IsOpen (reader : Progress) (taken : ℕ) : Type 0 where
+pub record TakesPieces (reader : Progress) (taken : ℕ) : Type 0 where
   pub closed : reader.closed ≡ None
   pub fed : fed_to reader ≡ taken
   pub judged : taken ≤ judged_bytes
@@ -40,14 +40,14 @@ stage_after (errors.TooLong taken) = Ended TooLong
 stage_after errors.Memory = Ended Memory
 
 -- how many bytes a session took by its end, of those that its source gave
-abbrev pub taken_by : End → ℕ → ℕ
-taken_by Clean given = given
-taken_by (Protocol kind place) given = min (place + 1) (2 ^ 64 - 1)
-taken_by (Truncated place) given = given
-taken_by TooLong given = judged_bytes
-taken_by ReadFault given = given
-taken_by Memory given = given
-taken_by Left given = given
+abbrev pub bytes_taken : End → ℕ → ℕ
+bytes_taken Clean given = given
+bytes_taken (Protocol kind place) given = min (place + 1) (2 ^ 64 - 1)
+bytes_taken (Truncated place) given = given
+bytes_taken TooLong given = judged_bytes
+bytes_taken ReadFault given = given
+bytes_taken Memory given = given
+bytes_taken Left given = given
 
 -- the source's count of faults rose where a read failed, and else is as it was
 abbrev pub EndFaults : End → ℕ → ℕ → Type 0
@@ -65,8 +65,8 @@ FaultsSo (Refused kind place) before now = now ≡ before
 FaultsSo (Ended end) before now = EndFaults end before now
 
 -- nothing is left, where that is told
-abbrev pub IsDone : Option (List ℕ) → Type 0
-IsDone left = IfSome left (λ rest. rest ≡ [])
+abbrev pub NothingLeft : Option (List ℕ) → Type 0
+NothingLeft left = IfSome left (λ rest. rest ≡ [])
 
 -- whole requests, and perhaps the front of one
 pub record AreRead (bytes : List ℕ) (requests : List Words) : Type 0 where
@@ -86,12 +86,12 @@ pub record AreFirst (bytes : List ℕ) (requests : List Words) : Type 0 where
 -- What the bytes of an ended input mean: the requests that were given and those that are still to be given are theirs.
 abbrev pub IsEnded : End → Option (List ℕ) → List ℕ → List Words → List Command → Progress → Type 0
 IsEnded Clean left bytes requests given reader =
-    IsDone left × Parses bytes (requests ++ reader.requests) Clean × (given ≡ map command_of requests)
+    NothingLeft left × Parses bytes (requests ++ reader.requests) Clean × (given ≡ map command_of requests)
 IsEnded (Protocol kind place) left bytes requests given reader =
     Parses bytes requests (Protocol kind place) × (reader.requests ≡ [])
     × (given ≡ map command_of requests ++ fault (protocol_error kind) ∷ [])
 IsEnded (Truncated place) left bytes requests given reader =
-    IsDone left × Parses bytes (requests ++ reader.requests) (Truncated place) × (given ≡ map command_of requests)
+    NothingLeft left × Parses bytes (requests ++ reader.requests) (Truncated place) × (given ≡ map command_of requests)
 IsEnded TooLong left bytes requests given reader =
     Parses bytes (requests ++ reader.requests) TooLong × (given ≡ map command_of requests)
 IsEnded ReadFault left bytes requests given reader =
@@ -100,12 +100,12 @@ IsEnded Memory left bytes requests given reader =
     AreFirst bytes (requests ++ reader.requests) × (given ≡ map command_of requests)
 IsEnded Left left bytes requests given reader = ⊥
 
-abbrev pub IsAt : Stage → Option (List ℕ) → List ℕ → List Words → List Command → Progress → Type 0
-IsAt Reading left bytes requests given reader =
-    Reads bytes requests reader × (reader.closed ≡ None) × (given ≡ map command_of requests)
-IsAt (Refused kind place) left bytes requests given reader =
+abbrev pub IsAtStage : Stage → Option (List ℕ) → List ℕ → List Words → List Command → Progress → Type 0
+IsAtStage Reading left bytes requests given reader =
+    ReadsRequests bytes requests reader × (reader.closed ≡ None) × (given ≡ map command_of requests)
+IsAtStage (Refused kind place) left bytes requests given reader =
     Parses bytes (requests ++ reader.requests) (Protocol kind place) × (given ≡ map command_of requests)
-IsAt (Ended end) left bytes requests given reader = IsEnded end left bytes requests given reader
+IsAtStage (Ended end) left bytes requests given reader = IsEnded end left bytes requests given reader
 
 -- Of an input, and from a count of faults on, these commands were given.
 pub record IsPump (input : Option (List ℕ)) (before : ℕ) (given : List Command) (pump : PumpState) : Type 0 where
@@ -115,13 +115,13 @@ pub record IsPump (input : Option (List ℕ)) (before : ℕ) (given : List Comma
   pub taken_is : pump.taken ≡ length bytes
   pub gave : Gave input pump.left bytes
   pub faults_are : FaultsSo pump.stage before pump.faults
-  pub at : IsAt pump.stage pump.left bytes requests given pump.reader
+  pub at : IsAtStage pump.stage pump.left bytes requests given pump.reader
 
 -- An end was answered: it is answered again, and nothing changes.
-pub record IsOver (end : End) (pump : PumpState) : Type 0 where
+pub record AnswersEnd (end : End) (pump : PumpState) : Type 0 where
   pub stage : pump.stage ≡ Ended end
   pub none : pump.reader.requests ≡ []
-  pub taken : pump.taken ≡ taken_by end pump.taken
+  pub taken : pump.taken ≡ bytes_taken end pump.taken
 
 -- a session that ended so
 abbrev pub ended_at : End → ℕ → ℕ → Bool → SessionEnd

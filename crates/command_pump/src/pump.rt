@@ -3,8 +3,8 @@ ghost use Rattle.std.specs.Prelude.{◌≡◌, ◌<◌, ◌⊎◌, ◌++◌, ◌
 ghost use Rattle.flake_model.specs.Command.{Command as Meaning};
 ghost use Rattle.flake_model.specs.Resp.{Words, Parses};
 ghost use Rattle.flake_model.specs.Input.{protocol_error};
-ghost use Rattle.resp_reader.specs.Reader.{Reads};
-ghost use Rattle.command_pump.specs.Pump.{IsPump, HasEnded, IsOver, taken_by, stage_after};
+ghost use Rattle.resp_reader.specs.Reader.{ReadsRequests};
+ghost use Rattle.command_pump.specs.Pump.{IsPump, HasEnded, AnswersEnd, bytes_taken, stage_after};
 
 use command_parts::Command;
 use flake_base::{End, ErrorKind, Failed, Source};
@@ -40,7 +40,7 @@ pub struct Pump<S: Source> {
 
 impl<S: Source> Model for Pump<S> {
     ghost use Rattle.std.specs.Prelude.{◌≡◌};
-    ghost use Rattle.command_pump.specs.Pump.{PumpState, IsOpen};
+    ghost use Rattle.command_pump.specs.Pump.{PumpState, TakesPieces};
     ghost use Rattle.command_pump.specs.declared.pump.Stage.{Stage};
 
     ghost Value = { PumpState };
@@ -53,7 +53,7 @@ impl<S: Source> Model for Pump<S> {
       taken = p.taken;
     } };
 
-    ghost invariant = { λ p. p.stage ≡ Stage.Reading → IsOpen p.reader p.taken };
+    ghost invariant = { λ p. p.stage ≡ Stage.Reading → TakesPieces p.reader p.taken };
 }
 
 // The error that answers a byte which no request has there.
@@ -84,7 +84,7 @@ fn stopped(error: ReadError) -> Stage
 
 // How many bytes a session took that ended so, of those that the source gave.
 fn taken_at(end: End, given: u64) -> u64
-    ensures { result ≡ taken_by end given }
+    ensures { result ≡ bytes_taken end given }
 {
     match end {
         End::Protocol { place, .. } => place.saturating_add(1),
@@ -96,7 +96,7 @@ fn taken_at(end: End, given: u64) -> u64
 // How an input ended that was read whole.
 fn input_end(reader: Reader) -> End
     requires { reader.closed ≡ None }
-    ensures parsed { (bytes : List ℕ) (given : List Words) → Reads bytes given reader
+    ensures parsed { (bytes : List ℕ) (given : List Words) → ReadsRequests bytes given reader
         → Parses bytes (given ++ reader.requests) result }
     ensures ends { (result ≡ End.Clean) ⊎ ((place : ℕ) × (result ≡ End.Truncated place)) }
 {
@@ -131,8 +131,8 @@ impl<S: Source> Pump<S> {
         ensures end { IfErr result (λ end. (input : Option (List ℕ)) (before : ℕ) (given : List Meaning)
             → IsPump input before given self.old
             → HasEnded input before given end self.new) }
-        ensures over { IfErr result (λ end. IsOver end self.new) }
-        ensures again { (end : End) → IsOver end self.old → (result ≡ Err end) × (self.new ≡ self.old) }
+        ensures over { IfErr result (λ end. AnswersEnd end self.new) }
+        ensures again { (end : End) → AnswersEnd end self.old → (result ≡ Err end) × (self.new ≡ self.old) }
     {
         loop {
             if let Some(request) = self.reader.next() {

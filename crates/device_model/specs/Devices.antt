@@ -16,8 +16,8 @@ abbrev pub HasSegment : List Seg → Seg → Type 0
 HasSegment segments segment = (i : ℕ) × (slice_get segments i ≡ Some segment)
 
 -- the texts of replies, joined
-abbrev pub texts_of : List Sent → List ℕ
-texts_of replies = flat_map (λ (reply : Sent). reply.text) replies
+abbrev pub sent_texts : List Sent → List ℕ
+sent_texts replies = flat_map (λ (reply : Sent). reply.text) replies
 
 module _ {W : Type 0} (put_may : W → Bor (List ℕ) → (W × Bool) → Type 0) where
   -- the text is put, and nothing is flushed
@@ -29,7 +29,7 @@ module _ {W : Type 0} (put_may : W → Bor (List ℕ) → (W × Bool) → Type 0
   pub record Forwards (failed now : Bool) (before after : List Sent) (old new : W) : Type 0 where
     pub taken : List Sent
     pub in_order : after ≡ before ++ taken
-    pub sends : wire.Sends put_may flush_may failed now (texts_of taken) old new
+    pub sends : wire.Sends put_may flush_may failed now (sent_texts taken) old new
 
 -- a reply was taken, and this is so
 abbrev pub IfTaken : Gathered → Type 0 → Type 0

@@ -3,23 +3,24 @@ use Rattle.std.specs.Prelude.{◌≡◌, ℕ, ◌<◌, Bool, List, [], ◌∷◌
 use Rattle.std.specs.Borrow.{Bor}
 use Rattle.flake_base.specs.declared.segment.Seg.{Seg}
 use Rattle.pin_core.specs.declared.sizes.Sizes.{Sizes}
-use Rattle.any_wire.specs.Sends.{Step, puts, flushes, Chain}
+use Rattle.any_wire.specs.Sends.{WireStep, puts, flushes, Chain}
 use Rattle.reply_layout.specs.Gathered.{Reading}
 use Rattle.reply_planner.specs.Parcels.{Sent}
 use Rattle.reply_planner.specs.Places.{reading}
 
 -- the bytes are put 512 at a time, and last those that are left
-abbrev pub AreCuts : List Step → List ℕ → Type 0
+abbrev pub AreCuts : List WireStep → List ℕ → Type 0
 AreCuts [] bytes = bytes ≡ []
 AreCuts (puts piece ∷ steps) bytes =
     (0 < length bytes) × (piece ≡ take 512 bytes) × AreCuts steps (drop 512 bytes)
 AreCuts (flushes ∷ steps) bytes = ⊥
 
 -- the bytes at each segment by themselves, in order
-abbrev pub AreCutsAt : Reading → List Step → List Seg → Type 0
+abbrev pub AreCutsAt : Reading → List WireStep → List Seg → Type 0
 AreCutsAt read steps [] = steps ≡ []
 AreCutsAt read steps (seg ∷ segments) =
-    (first : List Step) × (more : List Step) × (steps ≡ first ++ more) × AreCuts first (read seg.address seg.len)
+    (first : List WireStep) × (more : List WireStep) × (steps ≡ first ++ more)
+    × AreCuts first (read seg.address seg.len)
     × AreCutsAt read more segments
 
 module _ {W : Type 0} (put_may : W → Bor (List ℕ) → (W × Bool) → Type 0) where
@@ -27,6 +28,6 @@ module _ {W : Type 0} (put_may : W → Bor (List ℕ) → (W × Bool) → Type 0
   pub record PutsPieces (z : Sizes) (failed now : Bool) (before after : List Sent) (old new : W) : Type 0 where
     pub reply : Sent
     pub completed_is : after ≡ before ++ reply ∷ []
-    pub steps : List Step
+    pub steps : List WireStep
     pub cuts : AreCutsAt (reading z reply.holds) steps reply.segments
     pub chain : Chain put_may (λ w r. ⊥) steps failed now old new

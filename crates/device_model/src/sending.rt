@@ -2,8 +2,8 @@
 ghost use Rattle.std.specs.Prelude.{◌≡◌, ◌+◌, ◌<◌, ◌≤◌, List, [], ◌∷◌, length};
 ghost use Rattle.tx_ring.specs.Jobs.{frame_of, segments};
 ghost use Rattle.reply_planner.specs.Parcels.{HasBytes};
-ghost use Rattle.reply_planner.specs.Places.{bytes_in, reading};
-ghost use Rattle.any_wire.specs.Sends.{Step, puts, Chain};
+ghost use Rattle.reply_planner.specs.Places.{buffer_bytes, reading};
+ghost use Rattle.any_wire.specs.Sends.{WireStep, puts, Chain};
 ghost use Rattle.device_model.specs.Devices.{HasSegment, PutsText};
 ghost use Rattle.device_model.specs.Pieces.{AreCuts, AreCutsAt};
 
@@ -28,7 +28,7 @@ pub(crate) fn send_frame<N: PoolName + Send, W: Drop, P: Fn(W, &[u8]) -> (W, boo
     ensures job { job.new ≡ job.old }
     ensures sends { PutsText (λ w p r. P.post put.now w p r) failed result.1 (frame_of job.old).text wire result.0 }
     ensures bytes { result.2 ≡ length (frame_of job.old).text }
-    ensures pieces { (steps : List Step)
+    ensures pieces { (steps : List WireStep)
         × AreCutsAt (reading N.sizes (frame_of job.old).holds) steps (frame_of job.old).segments
         × Chain (λ w p r. P.post put.now w p r) (λ w r. ⊥) steps failed result.1 wire result.0 }
 {
@@ -62,7 +62,7 @@ fn send_segment<N: PoolName, W: Drop, P: Fn(W, &[u8]) -> (W, bool)>(
     ensures parcel { parcel.new ≡ parcel.old }
     ensures sends { PutsText (λ w p r. P.post put.now w p r) failed result.1
         (reading N.sizes parcel.old.holds segment.address segment.len) wire result.0 }
-    ensures pieces { (steps : List Step)
+    ensures pieces { (steps : List WireStep)
         × AreCuts steps (reading N.sizes parcel.old.holds segment.address segment.len)
         × Chain (λ w p r. P.post put.now w p r) (λ w r. ⊥) steps failed result.1 wire result.0 }
 {
@@ -108,9 +108,9 @@ fn send_piece<N: PoolName, W: Drop, P: Fn(W, &[u8]) -> (W, bool)>(
     requires bytes { HasBytes N.sizes parcel.old.segments buffer from (length room.old) }
     ensures parcel { parcel.new ≡ parcel.old }
     ensures sends { PutsText (λ w p r. P.post put.now w p r) failed result.1
-        (bytes_in parcel.old.holds buffer from (length room.old)) wire result.0 }
+        (buffer_bytes parcel.old.holds buffer from (length room.old)) wire result.0 }
     ensures piece { Chain (λ w p r. P.post put.now w p r) (λ w r. ⊥)
-        (puts (bytes_in parcel.old.holds buffer from (length room.old)) ∷ []) failed result.1 wire result.0 }
+        (puts (buffer_bytes parcel.old.holds buffer from (length room.old)) ∷ []) failed result.1 wire result.0 }
 {
     parcel.is_parcel();
     if failed {

@@ -9,12 +9,12 @@ use Rattle.command_pump.specs.Pump.{PumpState, IsPump}
 use Rattle.session_pass.specs.Views.{SessionView}
 use Rattle.session_serve.specs.Working.{IsFresh}
 use Rattle.drive_script.specs.Driving.{driving_of, IsNew}
-use Rattle.serve_house.specs.Opened.{IsDesk}
-use Rattle.serve_house.proofs.Desks.{fresh}
+use Rattle.run_resources.specs.Opened.{IsSessionSlot}
+use Rattle.run_resources.proofs.SessionSlots.{fresh}
 
 module _ {g : Ghosts Sent} where
   pub new_driving : {W : Type 0} (z : Sizes) (session : SessionView) (device : DeviceEnd Sent g) (failed : Bool)
-      (pump : PumpState) (left : Option (List ℕ)) (faults : ℕ) (wire : W) → IsDesk z session device failed
+      (pump : PumpState) (left : Option (List ℕ)) (faults : ℕ) (wire : W) → IsSessionSlot z session device failed
       → IsPump left faults [] pump → (pump.left ≡ left) × (pump.faults ≡ faults)
       → IsNew z (driving_of session failed device None None pump (Some wire)) × IsFresh z session pump
   new_driving z session device failed pump left faults wire is unread own =

@@ -29,22 +29,22 @@ use Rattle.flake_model.specs.Command.{Command}
 use Rattle.pin_core.specs.declared.sizes.Sizes.{Sizes}
 use Rattle.pinned_pool.specs.declared.view.View.{View}
 use Rattle.order_book.specs.Closed.{own_deeds}
-use Rattle.reply_planner.specs.Places.{addresses_of}
-use Rattle.serve_model.specs.Handed.{HasRun}
+use Rattle.reply_planner.specs.Places.{buffer_addresses}
+use Rattle.serve_model.specs.Handed.{SessionHasRun}
 use Rattle.session_pass.specs.Views.{SessionView}
-use Rattle.transcript_model.specs.Lines.{Said}
-use Rattle.transcript_model.specs.Sessions.{WireGrew, IsTold, events_of, texts_of}
+use Rattle.transcript_model.specs.Lines.{EventLine}
+use Rattle.transcript_model.specs.Sessions.{WireGrew, IsRightSession, events_of, texts_of}
 use Rattle.transcript_model.specs.Terms.{Terms}
-use Rattle.transcript_model.specs.Transcript.{IsStage}
+use Rattle.transcript_model.specs.Transcript.{IsStageShown}
 use Rattle.tx_ring.specs.Shown.{ring_size}
 use Rattle.drive_script.specs.Driven.{Leaving}
 use Rattle.drive_script.specs.Driving.{Driving}
 use Rattle.drive_script.specs.Lanes.{sends_by}
 use Rattle.drive_script.specs.Ran.{HasDriven}
 use Rattle.drive_told.specs.Driven.{OneDriven, IsDriven, AllDriven}
-use Rattle.serve_house.specs.Opened.{session_credits, IsNewPass}
-use Rattle.serve_house.specs.Ran.{AreReads, AllSent}
-use Rattle.serve_house.proofs.Desks.{HasCredits}
+use Rattle.run_resources.specs.Opened.{session_credits, IsNewPass}
+use Rattle.run_resources.specs.Ran.{AreReads, AllSent}
+use Rattle.run_resources.proofs.SessionSlots.{HasCredits}
 
 abbrev pub credits_in : List View → ℕ
 credits_in views = total (λ (v : View). v.credits) views
@@ -54,7 +54,7 @@ pub record IsFit (z : Sizes) (ring threshold number : ℕ) (session : SessionVie
   pub number_is : session.pass.list.number ≡ number
   pub ring_is : ring_size session.ring ≡ ring
   pub threshold_is : session.pass.threshold ≡ threshold
-  pub stage : IsStage z (addresses_of z session.pass.stage)
+  pub stage : IsStageShown z (buffer_addresses z session.pass.stage)
 
 -- from a number on
 abbrev pub AreFit : Sizes → ℕ → ℕ → ℕ → List SessionView → Type 0
@@ -62,7 +62,8 @@ AreFit z ring threshold number [] = Unit {0}
 AreFit z ring threshold number (session ∷ sessions) =
     IsFit z ring threshold number session × AreFit z ring threshold (number + 1) sessions
 
-stage_of : (z : Sizes) (session : SessionView) → IsNewPass z session.pass → IsStage z (addresses_of z session.pass.stage)
+stage_of : (z : Sizes) (session : SessionView) → IsNewPass z session.pass
+    → IsStageShown z (buffer_addresses z session.pass.stage)
 stage_of z session is = record {
   buffers = session.pass.stage;
   as_many = is.opened.count;
@@ -71,34 +72,38 @@ stage_of z session is = record {
   addresses = refl;
 }
 
--- the sessions of desks are
+-- the sessions of session slots are
 pub all_fit : {K : Type 0} (z : Sizes) (ring threshold number : ℕ) (P : K → Type 0) (own : K → SessionView)
-    (desks : List K) → ((k : K) → P k → IsNewPass z (own k).pass) → All P desks
-    → All (λ (k : K). ring_size (own k).ring ≡ ring) desks → All (λ (k : K). (own k).pass.threshold ≡ threshold) desks
-    → map (λ (k : K). (own k).pass.list.number) desks ≡ range_with_len number (length desks)
-    → AreFit z ring threshold number (map own desks)
+    (slots : List K) → ((k : K) → P k → IsNewPass z (own k).pass) → All P slots
+    → All (λ (k : K). ring_size (own k).ring ≡ ring) slots
+    → All (λ (k : K). (own k).pass.threshold ≡ threshold) slots
+    → map (λ (k : K). (own k).pass.list.number) slots ≡ range_with_len number (length slots)
+    → AreFit z ring threshold number (map own slots)
 all_fit z ring threshold number P own [] new all rings thresholds numbers = tt
-all_fit {K} z ring threshold number P own (k ∷ desks) new all rings thresholds numbers =
+all_fit {K} z ring threshold number P own (k ∷ slots) new all rings thresholds numbers =
     let ring_is : K → Type 0 = λ k. ring_size (own k).ring ≡ ring in
     let threshold_is : K → Type 0 = λ k. (own k).pass.threshold ≡ threshold in
     let first : (own k).pass.list.number ≡ number = cc in
-    let others : map (λ (k : K). (own k).pass.list.number) desks ≡ range_with_len (number + 1) (length desks) = cc in (
+    let others : map (λ (k : K). (own k).pass.list.number) slots ≡ range_with_len (number + 1)
+    (length slots) = cc in (
       record {
         number_is = first;
-        ring_is = All-head ring_is k desks rings;
-        threshold_is = All-head threshold_is k desks thresholds;
-        stage = stage_of z (own k) (new k (All-head P k desks all));
+        ring_is = All-head ring_is k slots rings;
+        threshold_is = All-head threshold_is k slots thresholds;
+        stage = stage_of z (own k) (new k (All-head P k slots all));
       },
-      all_fit z ring threshold (number + 1) P own desks new (All-tail P k desks all) (All-tail ring_is k desks rings)
-          (All-tail threshold_is k desks thresholds) others,
+      all_fit z ring threshold (number + 1) P own slots new (All-tail P k slots all)
+          (All-tail ring_is k slots rings)
+          (All-tail threshold_is k slots thresholds) others,
     )
 
 module _ {W : Type 0} (put_may : W → Bor (List ℕ) → (W × Bool) → Type 0) (flush_may : W → (W × Bool) → Type 0)
-    (z : Sizes) (shards : ℕ) (lines : List Said) where
+    (z : Sizes) (shards : ℕ) (lines : List EventLine) where
   -- a session was driven, whose lines are those of this number
   abbrev pub WasDriven : ℕ → Driving W → Leaving W → Type 0
   WasDriven number first last =
-      HasDriven put_may flush_may z shards first (events_of number lines) last.end last.mine last.seat last.pump last.wire
+      HasDriven put_may flush_may z shards first (events_of number lines) last.end last.mine last.seat last.pump
+      last.wire
 
   -- each was, from a number on
   abbrev pub WereAll : ℕ → List (Driving W) → List (Leaving W) → Type 0
@@ -130,7 +135,7 @@ module _ {W : Type 0} (put_may : W → Bor (List ℕ) → (W × Bool) → Type 0
     list = last.mine;
     seat = last.seat;
     texts = was.texts;
-    stage = addresses_of z first.session.pass.stage;
+    stage = buffer_addresses z first.session.pass.stage;
     whole = was.whole;
     old = was.start;
     new = last.wire;
@@ -183,17 +188,18 @@ module _ {W : Type 0} (put_may : W → Bor (List ℕ) → (W × Bool) → Type 0
         sizes = z;
         ring = q.1;
         threshold = q.2;
-        stage = addresses_of z first.session.pass.stage;
+        stage = buffer_addresses z first.session.pass.stage;
         commands = commands;
         end = last.end;
         whole = was.whole;
         deeds = own_deeds last.mine;
       } in
       let driven : ℕ × ℕ × ℕ → Type 0 = λ q.
-      (ran : HasRun z shards q.0 first.pump.left last.pump.left last.end last.mine last.seat was.texts)
-      × IsTold (terms q ran.run.commands) (events_of number lines)
+      (ran : SessionHasRun z shards q.0 first.pump.left last.pump.left last.end last.mine last.seat was.texts)
+      × IsRightSession (terms q ran.run.commands) (events_of number lines)
       × WireGrew sends last.end.failed was.whole (texts_of (terms q ran.run.commands)) was.start last.wire in
-      let own = subst driven (λ i. (fit.number_is i, fit.ring_is i, fit.threshold_is i)) (was.ran, was.told, was.grew) in
+      let own = subst driven (λ i. (fit.number_is i, fit.ring_is i, fit.threshold_is i)) (was.ran, was.told, was.grew)
+      in
       record { ran = own.0; stage_is = fit.stage; told = own.1; grew = own.2 }
 
   pub all_driven : (ring threshold number : ℕ) (firsts : List (Driving W)) (lasts : List (Leaving W))
@@ -211,7 +217,8 @@ module _ {W : Type 0} (put_may : W → Bor (List ℕ) → (W × Bool) → Type 0
   pub all_sent : (past : List W) (number : ℕ) (firsts : List (Driving W)) (lasts : List (Leaving W))
       (all : WereAll number firsts lasts)
       → AllSent put_may flush_may (map (λ (one : OneDriven W). (one.end.failed, flat_map (λ text. text) one.texts))
-      (each_of number firsts lasts all)) (map (λ (one : OneDriven W). one.old) (each_of number firsts lasts all) ++ past)
+      (each_of number firsts lasts all)) (map (λ (one : OneDriven W). one.old) (each_of number firsts lasts all)
+      ++ past)
       (map (λ (one : OneDriven W). one.new) (each_of number firsts lasts all) ++ past)
   all_sent past number [] [] all = refl
   all_sent past number [] (last ∷ lasts) all = absurd all

@@ -41,12 +41,12 @@ use Rattle.drive_script.specs.Driving.{Driving}
 use Rattle.drive_script.specs.Lanes.{sends_by}
 use Rattle.drive_told.specs.Driven.{OneDriven, AreDriven}
 use Rattle.drive_told.specs.Together.{DrivenTogether}
-use Rattle.serve_house.specs.Closed.{WasClosed}
-use Rattle.serve_house.specs.Joined.{HasJoined}
-use Rattle.serve_house.specs.Opened.{session_credits}
-use Rattle.serve_house.specs.Ran.{AreReads, AllSent}
-use Rattle.serve_house.proofs.Desks.{HasCredits}
-use Rattle.serve_house.proofs.Joining.{joins_all}
+use Rattle.run_resources.specs.Closed.{WasClosed}
+use Rattle.run_resources.specs.Joined.{HasJoined}
+use Rattle.run_resources.specs.Opened.{session_credits}
+use Rattle.run_resources.specs.Ran.{AreReads, AllSent}
+use Rattle.run_resources.proofs.SessionSlots.{HasCredits}
+use Rattle.run_resources.proofs.Joining.{joins_all}
 use Rattle.drive_inputs.specs.Drove.{DroveInputs}
 use Rattle.drive_inputs.proofs.Each as each
 use Rattle.drive_inputs.proofs.Each.{AreFit}
@@ -95,7 +95,8 @@ module _ {W D A : Type 0} (put_may : W → Bor (List ℕ) → (W × Bool) → Ty
   as_many drove = sym (length-map accounts leave) ∙ drove.as_many ∙ length-map drivings view
 
   pub reads : (befores nows : List ℕ) (ends : List SessionEnd) → Drove
-      → map (λ (d : D). (view d).pump.faults) drivings ≡ befores → nows ≡ map (λ (a : A). (leave a).pump.faults) accounts
+      → map (λ (d : D). (view d).pump.faults) drivings ≡ befores
+      → nows ≡ map (λ (a : A). (leave a).pump.faults) accounts
       → ends ≡ map (λ (a : A). (leave a).end) accounts → AreReads ends befores nows
   reads befores nows ends drove befores_is nows_is ends_is =
       let a = ends_is ∙ sym (maps_in (λ (l : Leaving W). l.end) leave accounts) in
@@ -169,7 +170,8 @@ module _ {W D A : Type 0} (put_may : W → Bor (List ℕ) → (W × Bool) → Ty
       → ends ≡ map (λ (a : A). (leave a).end) accounts
       → map (λ (d : D). (view d).wire) drivings ++ map Some past ≡ map Some olds
       → news ≡ map (λ (a : A). (leave a).wire) accounts ++ past
-      → DroveInputs put_may flush_may y ring threshold schedule failed inputs lefts ends journal closed olds news old new
+      → DroveInputs put_may flush_may y ring threshold schedule failed inputs lefts ends journal closed olds news old
+      new
   drove_inputs books y ring threshold inputs lefts ends lists journal closed spare main past olds news drove shards_are
       same fit lists_is empty joins many end together inputs_is lefts_is ends_is olds_is news_is =
       let all = all_were drove in
@@ -215,7 +217,8 @@ module _ {W D A : Type 0} (put_may : W → Bor (List ℕ) → (W × Bool) → Ty
         sources = has.sources;
         apart = has.apart;
       } in
-      subst (λ (q : pool_sizes.Sizes × List (Option (List ℕ)) × List (Option (List ℕ)) × List SessionEnd × List W × List W).
+      subst (λ (q : pool_sizes.Sizes × List (Option (List ℕ)) × List (Option (List ℕ)) × List SessionEnd × List W
+      × List W).
       DroveInputs put_may flush_may q.0 ring threshold schedule failed q.1 q.2 q.3 journal closed q.4 q.5 old new)
       (λ i. (same i, a i, b i, e i, o i, n i)) drove_ones
 
@@ -233,9 +236,9 @@ wires_past {D} {W} drivings wire past olds is =
       length-map olds Some,
     )
 
--- the credits of desks' sessions
+-- the credits of session slots' sessions
 pub credits_of : {K : Type 0} (P : K → Type 0) (own : K → SessionView) → ((k : K) → P k → HasCredits (own k))
-    → (desks : List K) → All P desks → Each HasCredits (map own desks)
+    → (slots : List K) → All P slots → Each HasCredits (map own slots)
 credits_of P own is [] all = tt
-credits_of P own is (k ∷ desks) all =
-    (is k (All-head P k desks all), credits_of P own is desks (All-tail P k desks all))
+credits_of P own is (k ∷ slots) all =
+    (is k (All-head P k slots all), credits_of P own is slots (All-tail P k slots all))

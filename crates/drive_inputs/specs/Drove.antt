@@ -11,12 +11,12 @@ use Rattle.pin_core.specs.declared.sizes.Sizes.{Sizes}
 use Rattle.pinned_pool.specs.Ends.{End}
 use Rattle.schedule_text.specs.declared.line.Line.{Line}
 use Rattle.serve_model.specs.Shown.{WasRun}
-use Rattle.transcript_model.specs.Lines.{Said, line_text}
+use Rattle.transcript_model.specs.Lines.{EventLine, transcript_line}
 use Rattle.transcript_model.specs.Sources.{AreSources}
-use Rattle.transcript_model.specs.Transcript.{AreAllApart, final_places, IsToldBy}
+use Rattle.transcript_model.specs.Transcript.{AreAllApart, transcript_places, IsToldBy}
 use Rattle.drive_script.specs.Lanes.{sends_by}
-use Rattle.drive_script.specs.Says.{Says}
-use Rattle.serve_house.specs.Ran.{no_wires, AllSent}
+use Rattle.drive_script.specs.Says.{PrintsText}
+use Rattle.run_resources.specs.Ran.{no_wires, AllSent}
 use Rattle.drive_told.specs.Together.{driven_run}
 
 module _ {W : Type 0} (put_may : W → Bor (List ℕ) → (W × Bool) → Type 0) (flush_may : W → (W × Bool) → Type 0) where
@@ -27,8 +27,8 @@ module _ {W : Type 0} (put_may : W → Bor (List ℕ) → (W × Bool) → Type 0
       (olds news : List W) (old new : HostTold) : Type 0 where
     pub ran : WasRun z inputs lefts ends journal (no_wires ends) (no_wires ends) closed
     pub sends : AllSent put_may flush_may (wire_texts ran.served.sessions journal) olds news
-    pub lines : List Said
-    pub said : Says false failed (flat_map line_text lines) old new
+    pub lines : List EventLine
+    pub said : PrintsText false failed (flat_map transcript_line lines) old new
     pub own : ℕ → List Deed
     pub shards : List (List Deed)
     pub told_by : IsToldBy (sends_by put_may flush_may)
@@ -37,4 +37,4 @@ module _ {W : Type 0} (put_may : W → Bor (List ℕ) → (W × Bool) → Type 0
     pub sources : AreSources (driven_run z ring threshold (all_commands ran.served.sessions) ends journal closed) shards
         own told_by.stages
     pub apart : AreAllApart
-        (final_places (driven_run z ring threshold (all_commands ran.served.sessions) ends journal closed) lines)
+        (transcript_places (driven_run z ring threshold (all_commands ran.served.sessions) ends journal closed) lines)

@@ -3,8 +3,8 @@
 //! says together stands in one record.
 #![tactic(auto)]
 
-mod crop;
 mod pairing;
+mod results;
 mod run;
 mod space;
 mod whole;

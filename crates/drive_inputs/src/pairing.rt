@@ -3,33 +3,33 @@ ghost use Rattle.std.specs.Prelude.{◌≡◌, ◌<◌, ◌≤◌, ◌++◌, [],
 ghost use Rattle.std.specs.Vec.Iter.{into_iter_items};
 ghost use Rattle.session_serve.specs.Working.{IsFresh};
 ghost use Rattle.drive_script.specs.Driving.{driving_of, IsNew};
-ghost use Rattle.serve_house.specs.Opened.{IsDesk};
+ghost use Rattle.run_resources.specs.Opened.{IsSessionSlot};
 
 use command_pump::Pump;
 use drive_script::{Asking, Driving, Lane};
 use flake_base::Source;
 use order_book::BookName;
 use pinned_pool::PoolName;
-use serve_house::Desk;
+use run_resources::SessionSlot;
 use std::alloc::Global;
 use std::vec::IntoIter;
 
-/// Each desk gets the source and the wire at its place. Wires past them are left.
+/// Each session slot gets the source and the wire at its place. Wires past them are left.
 pub(crate) fn pair_up<N: BookName, P: PoolName + Send, S: Source + Drop, W: Drop>(
     alloc: Global,
-    desks: Vec<Desk<N, P>>,
+    slots: Vec<SessionSlot<N, P>>,
     sources: Vec<S>,
     wires: Vec<W>,
     drivings: Vec<Driving<N, P, S, W>>,
 ) -> (Vec<Driving<N, P, S, W>>, IntoIter<W>)
-    requires desks { All (λ d. IsDesk P.sizes d.session d.device.end d.device.failed) desks.items }
-    requires sources { length sources.items ≡ length desks.items }
-    requires wires { length desks.items ≤ length wires.items }
-    requires room { (drivings.items ≡ []) × (length desks.items ≤ vec_capacity drivings) }
+    requires slots { All (λ d. IsSessionSlot P.sizes d.session d.device.end d.device.failed) slots.items }
+    requires sources { length sources.items ≡ length slots.items }
+    requires wires { length slots.items ≤ length wires.items }
+    requires room { (drivings.items ≡ []) × (length slots.items ≤ vec_capacity drivings) }
     ensures fresh { All (λ d. IsNew P.sizes (driving_of d.lane.session d.lane.device.failed d.lane.device.end
         d.asking.kept d.asking.end d.asking.pump d.wire) × IsFresh P.sizes d.lane.session d.asking.pump)
         result.0.items }
-    ensures sessions { map (λ d. d.lane.session) result.0.items ≡ map (λ d. d.session) desks.items }
+    ensures sessions { map (λ d. d.lane.session) result.0.items ≡ map (λ d. d.session) slots.items }
     ensures lefts { map (λ d. d.asking.pump.left) result.0.items ≡ map (λ s. S.left s) sources.items }
     ensures faults { map (λ d. d.asking.pump.faults) result.0.items ≡ map (λ s. S.read_faults s) sources.items }
     ensures wires { map (λ d. d.wire) result.0.items ++ map Some (into_iter_items result.1) ≡ map Some wires.items }
@@ -37,18 +37,18 @@ pub(crate) fn pair_up<N: BookName, P: PoolName + Send, S: Source + Drop, W: Drop
     let mut drivings = drivings;
     let mut more_sources = sources.into_iter();
     let mut more_wires = wires.into_iter();
-    for desk in desks {
+    for slot in slots {
         let Some(source) = more_sources.next() else {
             unreachable!()
         };
         let Some(wire) = more_wires.next() else {
             unreachable!()
         };
-        let Desk {
+        let SessionSlot {
             session,
             device,
             room: _,
-        } = desk;
+        } = slot;
         let pump = Pump::new(alloc, source);
         let lane = Lane { session, device };
         let asking = Asking {

@@ -1,17 +1,17 @@
 // Some sources and a schedule, from nothing to nothing.
 ghost use Rattle.std.specs.Prelude.{◌≡◌, ◌<◌, ◌≤◌, All, length, map, IfOk, IfErr, OnErr};
-ghost use Rattle.schedule_text.specs.Text.{session_of};
-ghost use Rattle.shard_store.specs.Journals.{histories};
-ghost use Rattle.serve_house.specs.Opened.{IsSized, IsPool, IsBook, pool_sizes};
-ghost use Rattle.serve_house.specs.Ran.{AreReads};
+ghost use Rattle.schedule_text.specs.Text.{line_session};
+ghost use Rattle.flake_base.specs.Histories.{histories};
+ghost use Rattle.run_resources.specs.Opened.{HasRunSizes, IsPool, IsBook, pool_sizes};
+ghost use Rattle.run_resources.specs.Ran.{AreReads};
 ghost use Rattle.drive_inputs.specs.Drove.{DroveInputs};
 
 use crate::whole::{Driven, Room, drive_opened};
 use flake_base::{Host, Source};
 use order_book::{BookBlank, BookName};
 use pinned_pool::{PoolBlank, PoolName};
+use run_resources::{SESSION_CREDITS, Sizes, open_resources};
 use schedule_text::Line;
-use serve_house::{SESSION_CREDITS, Sizes, open_house};
 use std::alloc::Global;
 use std::marker::Brand;
 use std::sync::Wait;
@@ -40,9 +40,9 @@ fn drive_named<
     flush: &FLUSH,
 ) -> Result<Driven<S, W>, (Vec<S>, Vec<W>)>
     requires calls { PUT.IsAlwaysCallable put.now × FLUSH.IsAlwaysCallable flush.now }
-    requires sized { IsSized (length sources.items) sizes.now }
+    requires sized { HasRunSizes (length sources.items) sizes.now }
     requires wires { length sources.items ≤ length wires.items }
-    requires there { All (λ line. session_of line < length sources.items) schedule.now }
+    requires there { All (λ line. line_session line < length sources.items) schedule.now }
     requires pool { (P.table ≡ pool.table) × (P.sizes ≡ pool.sizes)
         × IsPool (length sources.items) sizes.now P.sizes }
     requires book { (N.table ≡ book.table) × (N.sizes ≡ book.sizes)
@@ -60,11 +60,11 @@ fn drive_named<
     let Ok(space) = Room::<N, P, S, W>::taken(alloc, sources.len(), wires.len()) else {
         return Err((sources, wires));
     };
-    let Ok(house) = open_house::<N, P>(alloc, sizes, sources.len(), pool, book) else {
+    let Ok(resources) = open_resources::<N, P>(alloc, sizes, sources.len(), pool, book) else {
         return Err((sources, wires));
     };
     Ok(drive_opened(
-        rt, alloc, sizes, schedule, house, space, sources, wires, host, put, flush,
+        rt, alloc, sizes, schedule, resources, space, sources, wires, host, put, flush,
     ))
 }
 
@@ -90,9 +90,9 @@ pub fn drive_inputs<
     flush: &FLUSH,
 ) -> Result<Driven<S, W>, (Vec<S>, Vec<W>)>
     requires calls { PUT.IsAlwaysCallable put.now × FLUSH.IsAlwaysCallable flush.now }
-    requires sized { IsSized (length sources.items) sizes.now }
+    requires sized { HasRunSizes (length sources.items) sizes.now }
     requires wires { length sources.items ≤ length wires.items }
-    requires there { All (λ line. session_of line < length sources.items) schedule.now }
+    requires there { All (λ line. line_session line < length sources.items) schedule.now }
     ensures drove { IfOk result (λ r. DroveInputs (λ w p r. PUT.post put.now w p r) (λ w r. FLUSH.post flush.now w r)
         (pool_sizes (length sources.items) sizes.now) sizes.now.ring sizes.now.threshold schedule.now r.failed
         (map (λ s. S.left s) sources.items) (map (λ s. S.left s) r.sources.items) r.ends.items

@@ -2,7 +2,7 @@
 ghost use Rattle.std.specs.Prelude.{◌≡◌, ◌≤◌, [], vec_capacity, IfOk};
 ghost use Rattle.drive_script.specs.Says.{text_room};
 
-use crate::crop::Crop;
+use crate::results::Results;
 use drive_script::LineRoom;
 use flake_base::Memory;
 use order_book::BookName;
@@ -15,7 +15,7 @@ pub(crate) struct Space<D, A, N: BookName, S, W> {
     pub(crate) drivings: Vec<D>,
     pub(crate) accounts: Vec<A>,
     pub(crate) line: LineRoom,
-    pub(crate) crop: Crop<N, S, W>,
+    pub(crate) results: Results<N, S, W>,
 }
 
 impl<D: Drop, A: Drop, N: BookName, S: Drop, W: Drop> Space<D, A, N, S, W> {
@@ -24,16 +24,16 @@ impl<D: Drop, A: Drop, N: BookName, S: Drop, W: Drop> Space<D, A, N, S, W> {
         ensures drivings { IfOk result (λ s. (s.drivings.items ≡ []) × (count ≤ vec_capacity s.drivings)) }
         ensures accounts { IfOk result (λ s. (s.accounts.items ≡ []) × (count ≤ vec_capacity s.accounts)) }
         ensures line { IfOk result (λ s. text_room ≤ vec_capacity s.line.text) }
-        ensures ends { IfOk result (λ s. (s.crop.ends.items ≡ []) × (count ≤ s.crop.ends.spare)) }
-        ensures lists { IfOk result (λ s. (s.crop.lists.items ≡ []) × (count ≤ s.crop.lists.spare)) }
-        ensures sources { IfOk result (λ s. (s.crop.sources.items ≡ []) × (count ≤ vec_capacity s.crop.sources)) }
-        ensures wires { IfOk result (λ s. (s.crop.wires.items ≡ []) × (wires ≤ vec_capacity s.crop.wires)) }
+        ensures ends { IfOk result (λ s. (s.results.ends.items ≡ []) × (count ≤ s.results.ends.spare)) }
+        ensures lists { IfOk result (λ s. (s.results.lists.items ≡ []) × (count ≤ s.results.lists.spare)) }
+        ensures sources { IfOk result (λ s. (s.results.sources.items ≡ []) × (count ≤ vec_capacity s.results.sources)) }
+        ensures wires { IfOk result (λ s. (s.results.wires.items ≡ []) × (wires ≤ vec_capacity s.results.wires)) }
     {
         Ok(Space {
             drivings: Vec::with_capacity(alloc, count)?,
             accounts: Vec::with_capacity(alloc, count)?,
             line: LineRoom::new(alloc)?,
-            crop: Crop::with_room(alloc, count, wires)?,
+            results: Results::with_room(alloc, count, wires)?,
         })
     }
 }

@@ -1,17 +1,17 @@
 // A schedule is followed in what was opened.
 ghost use Rattle.std.specs.Prelude.{◌≡◌, ◌<◌, ◌≤◌, [], All, length, map, vec_capacity};
 ghost use Rattle.std.specs.List.{range_with_len};
-ghost use Rattle.schedule_text.specs.Text.{session_of};
+ghost use Rattle.schedule_text.specs.Text.{line_session};
 ghost use Rattle.serve_model.specs.Seats.{IsSpare};
-ghost use Rattle.shard_store.specs.Journals.{histories};
+ghost use Rattle.flake_base.specs.Histories.{histories};
 ghost use Rattle.tx_ring.specs.Shown.{ring_size};
 ghost use Rattle.drive_script.specs.Says.{text_room};
-ghost use Rattle.serve_house.specs.Opened.{IsPool, IsBook, IsDesk, pool_sizes};
-ghost use Rattle.serve_house.specs.Ran.{AreReads};
+ghost use Rattle.run_resources.specs.Opened.{IsPool, IsBook, IsSessionSlot, pool_sizes};
+ghost use Rattle.run_resources.specs.Ran.{AreReads};
 ghost use Rattle.drive_inputs.specs.Drove.{DroveInputs};
 
-use crate::crop::{Crop, bring_in};
 use crate::pairing::pair_up;
+use crate::results::{Results, bring_in};
 use crate::space::Space;
 use command_exec::Shop;
 use drive_script::{Account, Driving, drive};
@@ -19,8 +19,8 @@ use drive_told::laws::driven_together;
 use flake_base::{Ends, Host, Journal, Source};
 use order_book::BookName;
 use pinned_pool::{PoolEnd, PoolName};
+use run_resources::{Closed, RunResources, Sizes, close_all};
 use schedule_text::Line;
-use serve_house::{Closed, House, Sizes, close_all};
 use std::alloc::Global;
 use std::sync::Wait;
 
@@ -54,7 +54,7 @@ pub(crate) fn drive_opened<
     alloc: Global,
     sizes: &Sizes,
     schedule: &[Line],
-    house: House<N, P>,
+    resources: RunResources<N, P>,
     space: Room<N, P, S, W>,
     sources: Vec<S>,
     wires: Vec<W>,
@@ -66,20 +66,20 @@ pub(crate) fn drive_opened<
     requires pool { IsPool (length sources.items) sizes.now P.sizes }
     requires book { IsBook (length sources.items) sizes.now N.sizes }
     requires wires { length sources.items ≤ length wires.items }
-    requires there { All (λ line. session_of line < length sources.items) schedule.now }
-    requires main { IsSpare house.main × (house.main.credits ≡ 1) }
-    requires desks { All (λ d. IsDesk P.sizes d.session d.device.end d.device.failed) house.desks.items }
-    requires numbers { map (λ d. d.session.pass.list.number) house.desks.items
+    requires there { All (λ line. line_session line < length sources.items) schedule.now }
+    requires main { IsSpare resources.main × (resources.main.credits ≡ 1) }
+    requires slots { All (λ d. IsSessionSlot P.sizes d.session d.device.end d.device.failed) resources.slots.items }
+    requires numbers { map (λ d. d.session.pass.list.number) resources.slots.items
         ≡ range_with_len 0 (length sources.items) }
-    requires ring { All (λ d. ring_size d.session.ring ≡ sizes.now.ring) house.desks.items }
-    requires threshold { All (λ d. d.session.pass.threshold ≡ sizes.now.threshold) house.desks.items }
+    requires ring { All (λ d. ring_size d.session.ring ≡ sizes.now.ring) resources.slots.items }
+    requires threshold { All (λ d. d.session.pass.threshold ≡ sizes.now.threshold) resources.slots.items }
     requires drivings { (space.drivings.items ≡ []) × (length sources.items ≤ vec_capacity space.drivings) }
     requires accounts { (space.accounts.items ≡ []) × (length sources.items ≤ vec_capacity space.accounts) }
     requires line { text_room ≤ vec_capacity space.line.text }
-    requires ends { (space.crop.ends.items ≡ []) × (length sources.items ≤ space.crop.ends.spare) }
-    requires lists { (space.crop.lists.items ≡ []) × (length sources.items ≤ space.crop.lists.spare) }
-    requires room { (space.crop.sources.items ≡ []) × (length sources.items ≤ vec_capacity space.crop.sources) }
-    requires wire_room { (space.crop.wires.items ≡ []) × (length wires.items ≤ vec_capacity space.crop.wires) }
+    requires ends { (space.results.ends.items ≡ []) × (length sources.items ≤ space.results.ends.spare) }
+    requires lists { (space.results.lists.items ≡ []) × (length sources.items ≤ space.results.lists.spare) }
+    requires room { (space.results.sources.items ≡ []) × (length sources.items ≤ vec_capacity space.results.sources) }
+    requires wire_room { (space.results.wires.items ≡ []) × (length wires.items ≤ vec_capacity space.results.wires) }
     ensures drove { DroveInputs (λ w p r. PUT.post put.now w p r) (λ w r. FLUSH.post flush.now w r)
         (pool_sizes (length sources.items) sizes.now) sizes.now.ring sizes.now.threshold schedule.now result.failed
         (map (λ s. S.left s) sources.items) (map (λ s. S.left s) result.sources.items) result.ends.items
@@ -89,20 +89,20 @@ pub(crate) fn drive_opened<
     ensures reads { AreReads result.ends.items (map (λ s. S.read_faults s) sources.items)
         (map (λ s. S.read_faults s) result.sources.items) }
 {
-    let House {
+    let RunResources {
         pool,
         book,
         store,
         mut main,
-        desks,
-    } = house;
+        slots,
+    } = resources;
     let Space {
         drivings,
         accounts,
         line,
-        crop,
+        results,
     } = space;
-    let (drivings, past) = pair_up(alloc, desks, sources, wires, drivings);
+    let (drivings, past) = pair_up(alloc, slots, sources, wires, drivings);
     let shop = Shop {
         pool: &pool,
         book: &book,
@@ -112,12 +112,12 @@ pub(crate) fn drive_opened<
         rt, &shop, schedule, drivings, line, accounts, host, put, flush,
     );
     let parts = store.into_parts(&pool);
-    let Crop {
+    let Results {
         ends,
         lists,
         sources,
         wires,
-    } = bring_in(&pool, &mut main, accounts, past, crop);
+    } = bring_in(&pool, &mut main, accounts, past, results);
     let Closed { journal, end: pool } = close_all(pool, book, parts, main, lists);
     driven_together::<W, PUT, FLUSH>(put, flush);
     let _ = sizes;

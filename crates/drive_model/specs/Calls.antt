@@ -15,7 +15,7 @@ use Rattle.reply_layout.specs.Pieces.{reply_from}
 use Rattle.reply_planner.specs.Parcels.{Sent}
 use Rattle.call_model.specs.Parts.{IsInBuffer}
 use Rattle.command_exec.specs.Executed.{frame_shown}
-use Rattle.transcript_model.specs.Standing.{room, free, Fits}
+use Rattle.transcript_model.specs.Standing.{ring_room, free, FitsStanding}
 use Rattle.transcript_model.specs.Frames.{fragments_stored}
 use Rattle.drive_model.specs.Views.{SessionShown, DeviceShown, InOrder, waiting_behind}
 
@@ -24,22 +24,22 @@ pub record IsDeedOf (session call part : ℕ) (operation : Operation) (deed : De
   pub entry : deed.entry ≡ record { session = session; call = call; part = part }
   pub operation_is : deed.operation ≡ operation
 
-abbrev pub IsDone : ℕ → ℕ → ℕ → Operation → Option Deed → Type 0
-IsDone session call part operation None = IsWrite operation
-IsDone session call part operation (Some deed) = IsDeedOf session call part operation deed
+abbrev pub IsPartDone : ℕ → ℕ → ℕ → Operation → Option Deed → Type 0
+IsPartDone session call part operation None = IsWrite operation
+IsPartDone session call part operation (Some deed) = IsDeedOf session call part operation deed
 
 -- the outcomes of a call's parts, in order
 abbrev pub AreDone : ℕ → ℕ → ℕ → List Operation → List (Option Deed) → Type 0
 AreDone session call part [] outcomes = outcomes ≡ []
 AreDone session call part (operation ∷ operations) [] = ⊥
 AreDone session call part (operation ∷ operations) (outcome ∷ outcomes) =
-    IsDone session call part operation outcome × AreDone session call (part + 1) operations outcomes
+    IsPartDone session call part operation outcome × AreDone session call (part + 1) operations outcomes
 
 abbrev pub done_deeds : List (Option Deed) → List Deed
 done_deeds outcomes = flat_map option_to_list outcomes
 
 -- `call` posted the command's frame
-pub record CallPosts (command : Command) (old new : SessionShown) (call freed : ℕ) (sent stored : List Seg)
+pub record ShowsPost (command : Command) (old new : SessionShown) (call freed : ℕ) (sent stored : List Seg)
     : Type 0 where
   pub outcomes : List (Option Deed)
   pub parcel : Sent
@@ -50,8 +50,9 @@ pub record CallPosts (command : Command) (old new : SessionShown) (call freed : 
   pub gone : List Sent
   pub freed_is : length gone ≡ freed
   pub reaped : new.reaped ≡ old.reaped ++ gone
-  pub fits : Fits old.ring old.stage (waiting_behind old freed) (need_of command)
-  pub least : (fewer : ℕ) → fewer < freed → Fits old.ring old.stage (waiting_behind old fewer) (need_of command) → ⊥
+  pub fits : FitsStanding old.ring old.stage (waiting_behind old freed) (need_of command)
+  pub least : (fewer : ℕ) → fewer < freed → FitsStanding old.ring old.stage (waiting_behind old fewer) (need_of command)
+      → ⊥
   -- one frame more is posted: the reply, laid out over the free staging buffers
   pub posted : new.posted ≡ old.posted ++ parcel ∷ []
   pub call_is : call ≡ length old.posted
@@ -70,7 +71,7 @@ pub record CallPosts (command : Command) (old new : SessionShown) (call freed : 
   pub stage : new.stage ≡ old.stage
 
 -- `reap_one` gave the oldest frame back
-pub record ReapsOne (old new : SessionShown) (call recycled : ℕ) : Type 0 where
+pub record ShowsOneReap (old new : SessionShown) (call recycled : ℕ) : Type 0 where
   pub parcel : Sent
   pub oldest : slice_get old.posted (length old.reaped) ≡ Some parcel
   pub new_is : new ≡ record old { reaped = old.reaped ++ parcel ∷ [] }
@@ -78,7 +79,7 @@ pub record ReapsOne (old new : SessionShown) (call recycled : ℕ) : Type 0 wher
   pub recycles : recycled ≤ parcel.pinned
 
 -- it gave none: all that is known to be completed was reaped before
-pub record ReapsNone (old new : SessionShown) : Type 0 where
+pub record ShowsNoReap (old new : SessionShown) : Type 0 where
   pub new_is : new ≡ old
   pub told : old.told ≤ length old.reaped
 
@@ -99,28 +100,28 @@ pub record GathersNone (old new : DeviceShown) : Type 0 where
   pub told : old.told ≤ length old.completed
 
 -- `call` reaped, and posted nothing; all that was known to be completed is reaped
-pub record CallReaps (old new : SessionShown) : Type 0 where
+pub record ShowsReaps (old new : SessionShown) : Type 0 where
   pub gone : List Sent
   pub new_is : new ≡ record old { reaped = old.reaped ++ gone }
   pub told : old.told ≤ length new.reaped
 
 -- and the ring has less than the command needs
-pub record FindsRingFull (command : Command) (old new : SessionShown) (need_is room_is : ℕ) : Type 0 where
-  pub reaps : CallReaps old new
+pub record ShowsRingFull (command : Command) (old new : SessionShown) (need_is room_is : ℕ) : Type 0 where
+  pub reaps : ShowsReaps old new
   pub needs : need_is ≡ (need_of command).descriptors
-  pub has : room_is ≡ room old.ring (waiting_behind new 0)
+  pub has : room_is ≡ ring_room old.ring (waiting_behind new 0)
   pub less : room_is < need_is
 
 -- and the stage has, though not the ring
-pub record FindsStageFull (command : Command) (old new : SessionShown) (need_is free_is : ℕ) : Type 0 where
-  pub reaps : CallReaps old new
-  pub enough : (need_of command).descriptors ≤ room old.ring (waiting_behind new 0)
+pub record ShowsStageFull (command : Command) (old new : SessionShown) (need_is free_is : ℕ) : Type 0 where
+  pub reaps : ShowsReaps old new
+  pub enough : (need_of command).descriptors ≤ ring_room old.ring (waiting_behind new 0)
   pub needs : need_is ≡ (need_of command).stage
   pub has : free_is ≡ length (free old.stage (waiting_behind new 0))
   pub less : free_is < need_is
 
 -- `call` met want of memory: it may have reaped, and run parts of the call, and posted nothing
-pub record CallRefused (old new : SessionShown) : Type 0 where
+pub record ShowsRefusal (old new : SessionShown) : Type 0 where
   pub gone : List Sent
   pub done : List Deed
   pub new_is : new ≡ record old { reaped = old.reaped ++ gone; deeds = old.deeds ++ done }

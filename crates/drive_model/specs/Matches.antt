@@ -6,9 +6,9 @@ use Rattle.flake_model.specs.Command.{Command}
 use Rattle.flake_model.specs.Reply.{reply_text}
 use Rattle.reply_layout.specs.Pieces.{reply_from}
 use Rattle.transcript_model.specs.Frames.{deeds_of}
-use Rattle.transcript_model.specs.Lines.{Event}
+use Rattle.transcript_model.specs.Lines.{LineEvent}
 use Rattle.transcript_model.specs.Terms.{Terms}
-use Rattle.transcript_model.specs.Standing.{Standing, fresh}
+use Rattle.transcript_model.specs.Standing.{Standing, at_first}
 use Rattle.reply_planner.specs.Parcels.{Sent}
 use Rattle.drive_model.specs.Views.{SessionShown, DeviceShown, InOrder, frames_shown}
 use Rattle.transcript_model.specs.Right.{is_known, AreRight}
@@ -63,7 +63,8 @@ pub record Matches (terms : Terms) (session : SessionShown) (device : DeviceShow
       → AllByRecursion (λ (deed : Deed). deed.entry.call < length session.posted) session.deeds
 
 -- what was said of the session so far is right, and leaves it where it stands
-pub record IsKept (terms : Terms) (session : SessionShown) (device : DeviceShown) (events : List Event) : Type 0 where
+pub record IsRightSoFar (terms : Terms) (session : SessionShown) (device : DeviceShown) (events : List LineEvent) : Type
+    0 where
   pub standing : Standing
-  pub right : AreRight terms fresh events standing
+  pub right : AreRight terms at_first events standing
   pub matches : Matches terms session device standing

@@ -5,7 +5,7 @@ use Rattle.flake_base.specs.declared.session.End.{End}
 use Rattle.flake_model.specs.Command.{Command}
 use Rattle.command_pump.specs.Pump.{PumpState}
 use Rattle.reply_planner.specs.Parcels.{Sent}
-use Rattle.transcript_model.specs.Lines.{Event}
+use Rattle.transcript_model.specs.Lines.{LineEvent}
 use Rattle.transcript_model.specs.Sessions.{Sending, WireGrew}
 use Rattle.drive_model.specs.Matches.{IsWholeSoFar, texts_in}
 use Rattle.drive_model.specs.Views.{SessionShown, DeviceShown}
@@ -17,46 +17,78 @@ use Rattle.drive_script.specs.Lanes.{Fixed, IsDriven, IsLane}
 
 module _ {W : Type 0} (sends : Sending W) (is : IsSending sends) where
   -- at most one reply more
-  wire_more : (failed : Bool) (whole completed : ℕ) (olds more : List Sent) (start wire : W) → length more ≤ 1 → IsWholeSoFar failed whole completed → completed ≤ length olds
-      → WireGrew sends failed whole (texts_in olds) start wire → WireGrew sends failed whole (texts_in (olds ++ more)) start wire
-  wire_more failed whole completed olds [] start wire few so below grew = subst (λ (list : List Sent). WireGrew sends failed whole (texts_in list) start wire) (sym (append-nil olds)) grew
+  wire_more : (failed : Bool) (whole completed : ℕ) (olds more : List Sent) (start wire : W) → length more ≤ 1
+      → IsWholeSoFar failed whole completed → completed ≤ length olds
+      → WireGrew sends failed whole (texts_in olds) start wire
+      → WireGrew sends failed whole (texts_in (olds ++ more)) start wire
+  wire_more failed whole completed olds [] start wire few so below grew =
+      subst (λ (list : List Sent). WireGrew sends failed whole (texts_in list) start wire) (sym (append-nil olds)) grew
   wire_more failed whole completed olds (reply ∷ []) start wire few so below grew =
-      subst (λ texts. WireGrew sends failed whole texts start wire) (sym (map-append (λ (parcel : Sent). parcel.text) olds (reply ∷ [])))
-      (wire_longer sends is failed whole completed (texts_in olds) reply.text start wire so (omega (arith, length-map olds (λ (parcel : Sent). parcel.text))) grew)
+      subst (λ texts. WireGrew sends failed whole texts start wire)
+      (sym (map-append (λ (parcel : Sent). parcel.text) olds (reply ∷ [])))
+      (wire_longer sends is failed whole completed (texts_in olds) reply.text start wire so
+      (omega (arith, length-map olds (λ (parcel : Sent). parcel.text))) grew)
   wire_more failed whole completed olds (reply ∷ next ∷ more) start wire few so below grew = absurd (omega arith)
 
-  module _ (fixed : Fixed) (start : W) (given : List Command) (events : List Event) (event : Event) (session session' : SessionShown) (device device' : DeviceShown) (wire : W) (flag : device'.failed ≡ device.failed)
+  module _ (fixed : Fixed) (start : W) (given : List Command) (events : List LineEvent) (event : LineEvent)
+      (session session' : SessionShown) (device device' : DeviceShown) (wire : W)
+      (flag : device'.failed ≡ device.failed)
       (more : List Sent) (posted : session'.posted ≡ session.posted ++ more) (few : length more ≤ 1) where
     -- the wire goes with a line that leaves it as it is
-    lane_goes : (said said' : Option End) (lane : IsLane sends fixed start given said events session device wire) (now : List Command)
-        → IsDriven fixed now said' lane.whole (events ++ event ∷ []) session' device' → IsLane sends fixed start now said' (events ++ event ∷ []) session' device' wire
+    lane_goes : (said said' : Option End) (lane : IsLane sends fixed start given said events session device wire)
+        (now : List Command)
+        → IsDriven fixed now said' lane.whole (events ++ event ∷ []) session' device'
+        → IsLane sends fixed start now said' (events ++ event ∷ []) session' device' wire
     lane_goes said said' lane now driven =
         let m = lane.driven.kept.matches in
-        let so : IsWholeSoFar device.failed lane.whole (length device.completed) = subst (λ n. IsWholeSoFar device.failed n (length device.completed)) lane.driven.whole_is m.whole in
+        let so : IsWholeSoFar device.failed lane.whole (length device.completed) =
+        subst (λ n. IsWholeSoFar device.failed n (length device.completed)) lane.driven.whole_is m.whole in
         record {
           whole = lane.whole;
           driven = driven;
           grew = subst (λ (b : Bool). WireGrew sends b lane.whole (texts_in session'.posted) start wire) (sym flag)
-              (subst (λ (list : List Sent). WireGrew sends device.failed lane.whole (texts_in list) start wire) (sym posted)
-              (wire_more device.failed lane.whole (length device.completed) session.posted more start wire few so (front_length device.completed session.posted m.in_order.completed.0 m.in_order.completed.1) lane.grew));
+              (subst (λ (list : List Sent). WireGrew sends device.failed lane.whole (texts_in list) start wire)
+              (sym posted)
+              (wire_more device.failed lane.whole (length device.completed) session.posted more start wire few so
+              (front_length device.completed session.posted m.in_order.completed.0 m.in_order.completed.1)
+              lane.grew));
         }
 
-    pub call_goes : (Also : List Command → Type 0) (input : Option (List ℕ)) (before n : ℕ) (kept : Option Command) (pump : PumpState) (said said' : Option End) (lane : IsLane sends fixed start given said events session device wire)
-        → GoesOn input before n kept said' pump (λ now. IsDriven fixed now said' lane.whole (events ++ event ∷ []) session' device' × Also now)
-        → GoesOn input before n kept said' pump (λ now. IsLane sends fixed start now said' (events ++ event ∷ []) session' device' wire × Also now)
-    call_goes Also input before n kept pump said said' lane goes = record { given = goes.given; asked = goes.asked; is = (lane_goes said said' lane goes.given goes.is.0, goes.is.1) }
+    pub call_goes : (Also : List Command → Type 0) (input : Option (List ℕ)) (before n : ℕ) (kept : Option Command)
+        (pump : PumpState) (said said' : Option End)
+        (lane : IsLane sends fixed start given said events session device wire)
+        → GoesOn input before n kept said' pump
+        (λ now. IsDriven fixed now said' lane.whole (events ++ event ∷ []) session' device' × Also now)
+        → GoesOn input before n kept said' pump
+        (λ now. IsLane sends fixed start now said' (events ++ event ∷ []) session' device' wire × Also now)
+    call_goes Also input before n kept pump said said' lane goes = record {
+      given = goes.given;
+      asked = goes.asked;
+      is = (lane_goes said said' lane goes.given goes.is.0, goes.is.1);
+    }
 
     pub reap_goes : (said : Option End) (lane : IsLane sends fixed start given said events session device wire)
-        → IsDriven fixed given said lane.whole (events ++ event ∷ []) session' device' → IsLane sends fixed start given said (events ++ event ∷ []) session' device' wire
+        → IsDriven fixed given said lane.whole (events ++ event ∷ []) session' device'
+        → IsLane sends fixed start given said (events ++ event ∷ []) session' device' wire
     reap_goes said lane driven = lane_goes said said lane given driven
 
 -- nothing was asked, and it goes on
-pub stays_asked : (input : Option (List ℕ)) (before : ℕ) (given : List Command) (olds news : List Sent) (kept : Option Command) (end : Option End) (pump : PumpState) (right : List Command → Type 0)
-    → news ≡ olds → IsAsked input before given (length olds) kept end pump → right given → GoesOn input before (length news) kept end pump right
+pub stays_asked : (input : Option (List ℕ)) (before : ℕ) (given : List Command) (olds news : List Sent)
+    (kept : Option Command) (end : Option End) (pump : PumpState) (right : List Command → Type 0)
+    → news ≡ olds → IsAsked input before given (length olds) kept end pump → right given
+    → GoesOn input before (length news) kept end pump right
 stays_asked input before given olds news kept end pump right same asked is =
-    record { given = given; asked = subst (λ (list : List Sent). IsAsked input before given (length list) kept end pump) (sym same) asked; is = is }
+    record {
+      given = given;
+      asked = subst (λ (list : List Sent). IsAsked input before given (length list) kept end pump)
+          (sym same) asked;
+      is = is;
+    }
 
 -- the same event in other words
-pub lane_same : {W : Type 0} (sends : Sending W) (fixed : Fixed) (start : W) (given : List Command) (end : Option End) (events : List Event) (event other : Event) (session : SessionShown) (device : DeviceShown) (wire : W)
-    → event ≡ other → IsLane sends fixed start given end (events ++ other ∷ []) session device wire → IsLane sends fixed start given end (events ++ event ∷ []) session device wire
-lane_same sends fixed start given end events event other session device wire same lane = subst (λ (e : Event). IsLane sends fixed start given end (events ++ e ∷ []) session device wire) (sym same) lane
+pub lane_same : {W : Type 0} (sends : Sending W) (fixed : Fixed) (start : W) (given : List Command) (end : Option End)
+    (events : List LineEvent) (event other : LineEvent) (session : SessionShown) (device : DeviceShown) (wire : W)
+    → event ≡ other → IsLane sends fixed start given end (events ++ other ∷ []) session device wire
+    → IsLane sends fixed start given end (events ++ event ∷ []) session device wire
+lane_same sends fixed start given end events event other session device wire same lane =
+    subst (λ (e : LineEvent). IsLane sends fixed start given end (events ++ e ∷ []) session device wire) (sym same) lane

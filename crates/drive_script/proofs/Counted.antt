@@ -6,10 +6,11 @@ use Rattle.session_pass.specs.Views.{SessionView}
 use Rattle.session_pass.specs.Calls.{ReapsOne}
 use Rattle.drive_script.specs.declared.happened.Happened.{Happened}
 use Rattle.drive_script.specs.declared.happened.Happened.TheVariants as Happen
-use Rattle.drive_script.specs.Happened.{event_of}
+use Rattle.drive_script.specs.Happened.{line_event}
 use Rattle.drive_script.specs.Recycled.{Recycles}
 
-pub call_counts : (happened : Happened) (old new : SessionView) → line_of (record { session = 0; event = event_of happened [] [] }) ≡ Call 0 → Recycles happened old new
+pub call_counts : (happened : Happened) (old new : SessionView)
+    → line_of (record { session = 0; event = line_event happened [] [] }) ≡ Call 0 → Recycles happened old new
 call_counts (Happen.Posted call freed) old new is = tt
 call_counts (Happen.RingFull need room) old new is = tt
 call_counts (Happen.StageFull need free) old new is = tt
@@ -20,7 +21,8 @@ call_counts Happen.NothingPosted old new is = tt
 call_counts (Happen.Reaped call recycled) old new is = absurd (cc)
 call_counts Happen.NothingReaped old new is = tt
 
-pub gather_counts : (happened : Happened) (old new : SessionView) → line_of (record { session = 0; event = event_of happened [] [] }) ≡ Gather 0 → Recycles happened old new
+pub gather_counts : (happened : Happened) (old new : SessionView)
+    → line_of (record { session = 0; event = line_event happened [] [] }) ≡ Gather 0 → Recycles happened old new
 gather_counts (Happen.Posted call freed) old new is = tt
 gather_counts (Happen.RingFull need room) old new is = tt
 gather_counts (Happen.StageFull need free) old new is = tt
@@ -32,5 +34,7 @@ gather_counts (Happen.Reaped call recycled) old new is = absurd (cc)
 gather_counts Happen.NothingReaped old new is = tt
 
 -- a reap, and a look at the device
-pub reap_counts : (old between new : SessionView) (call recycled told : ℕ) → ReapsOne old between call recycled → new ≡ record between { told = told } → Recycles (Happen.Reaped call recycled) old new
-reap_counts old between new call recycled told reaps is = (reaps.ended, ap (λ (s : SessionView). s.pass.seat.lasts) is ∙ reaps.lasts, reaps.counts)
+pub reap_counts : (old between new : SessionView) (call recycled told : ℕ) → ReapsOne old between call recycled
+    → new ≡ record between { told = told } → Recycles (Happen.Reaped call recycled) old new
+reap_counts old between new call recycled told reaps is =
+    (reaps.ended, ap (λ (s : SessionView). s.pass.seat.lasts) is ∙ reaps.lasts, reaps.counts)

@@ -7,7 +7,7 @@ use Rattle.flake_base.specs.declared.session.End.{End}
 use Rattle.command_exec.specs.Passes.{PassView}
 use Rattle.command_pump.specs.Pump.{PumpState}
 use Rattle.reply_planner.specs.Parcels.{Sent}
-use Rattle.transcript_model.specs.Lines.{Event}
+use Rattle.transcript_model.specs.Lines.{LineEvent}
 use Rattle.transcript_model.specs.Sessions.{Sending}
 use Rattle.drive_script.specs.Asked.{IsAsked, GoesOn}
 use Rattle.drive_script.specs.Driving.{Driving, fixed_at, IsUnderWay}
@@ -20,15 +20,22 @@ one_wire o one other is also = cc
 
 module _ {W : Type 0} (sends : Sending W) (z : Sizes) (shards : ℕ) where
   -- what a line says of a lane, said of all that the line needs
-  pub goes_on : (first old new : Driving W) (events : List Event) (event : Event) (wire wire' : W) → old.wire ≡ Some wire → new.ring ≡ new.session.ring → new.session.pass.stage ≡ old.session.pass.stage
-      → new.wire ≡ Some wire' → ((start : W) (given : List Command) → IsAsked first.pump.left first.pump.faults given (length old.session.posted) old.kept old.end old.pump
+  pub goes_on : (first old new : Driving W) (events : List LineEvent) (event : LineEvent) (wire wire' : W)
+      → old.wire ≡ Some wire → new.ring ≡ new.session.ring → new.session.pass.stage ≡ old.session.pass.stage
+      → new.wire ≡ Some wire'
+      → ((start : W) (given : List Command) → IsAsked first.pump.left first.pump.faults given
+      (length old.session.posted) old.kept old.end old.pump
       → IsLane sends (fixed_at z first.session) start given old.end events (session_shown z old.session) old.device wire
-      → GoesOn first.pump.left first.pump.faults (length new.session.posted) new.kept new.end new.pump (λ now. IsLane sends (fixed_at z first.session) start now new.end (events ++ event ∷ []) (session_shown z new.session) new.device wire'
+      → GoesOn first.pump.left first.pump.faults (length new.session.posted) new.kept new.end new.pump
+      (λ now. IsLane sends (fixed_at z first.session) start now new.end (events ++ event ∷ [])
+      (session_shown z new.session) new.device wire'
       × RunsOn z shards given old.end old.session now new.end new.session))
       → IsUnderWay sends z shards first events old → IsUnderWay sends z shards first (events ++ event ∷ []) new
   goes_on first old new events event wire wire' wire_is ring stage wire_is' right was =
-      let lane : IsLane sends (fixed_at z first.session) was.start was.given old.end events (session_shown z old.session) old.device wire =
-      subst (λ (w : W). IsLane sends (fixed_at z first.session) was.start was.given old.end events (session_shown z old.session) old.device w) (one_wire old.wire was.wire wire was.wire_is wire_is) was.lane in
+      let lane : IsLane sends (fixed_at z first.session) was.start was.given old.end events
+      (session_shown z old.session) old.device wire =
+      subst (λ (w : W). IsLane sends (fixed_at z first.session) was.start was.given old.end events
+      (session_shown z old.session) old.device w) (one_wire old.wire was.wire wire was.wire_is wire_is) was.lane in
       let goes = right was.start was.given was.asked lane in
       record {
         ring = ring;
@@ -45,19 +52,32 @@ module _ {W : Type 0} (sends : Sending W) (z : Sizes) (shards : ℕ) where
       }
 
   -- a gather asks for nothing
-  pub gather_goes_on : (first old new : Driving W) (events : List Event) (event : Event) (wire wire' : W) → old.wire ≡ Some wire → new.ring ≡ new.session.ring → new.session.pass ≡ old.session.pass → new.session.posted ≡ old.session.posted
-      → new.kept ≡ old.kept → new.end ≡ old.end → new.pump ≡ old.pump → new.wire ≡ Some wire' → ((start : W) (given : List Command) → IsLane sends (fixed_at z first.session) start given old.end events (session_shown z old.session) old.device wire
-      → IsLane sends (fixed_at z first.session) start given old.end (events ++ event ∷ []) (session_shown z new.session) new.device wire')
-      → ((given : List Command) (end : Option End) → RunsOn z shards given end old.session given end new.session) → IsUnderWay sends z shards first events old → IsUnderWay sends z shards first (events ++ event ∷ []) new
+  pub gather_goes_on : (first old new : Driving W) (events : List LineEvent) (event : LineEvent) (wire wire' : W)
+      → old.wire ≡ Some wire → new.ring ≡ new.session.ring → new.session.pass ≡ old.session.pass → new.session.posted
+      ≡ old.session.posted
+      → new.kept ≡ old.kept → new.end ≡ old.end → new.pump ≡ old.pump → new.wire ≡ Some wire'
+      → ((start : W) (given : List Command) → IsLane sends (fixed_at z first.session) start given old.end events
+      (session_shown z old.session) old.device wire
+      → IsLane sends (fixed_at z first.session) start given old.end (events ++ event ∷ []) (session_shown z new.session)
+      new.device wire')
+      → ((given : List Command) (end : Option End) → RunsOn z shards given end old.session given end new.session)
+      → IsUnderWay sends z shards first events old → IsUnderWay sends z shards first (events ++ event ∷ []) new
   gather_goes_on first old new events event wire wire' wire_is ring pass posted kept end pump wire_is' right runs =
-      goes_on first old new events event wire wire' wire_is ring (ap (λ (p : PassView). p.stage) pass) wire_is' (λ start given asked lane. record {
+      goes_on first old new events event wire wire' wire_is ring (ap (λ (p : PassView). p.stage) pass) wire_is'
+      (λ start given asked lane. record {
         given = given;
-        asked = subst (λ n. IsAsked first.pump.left first.pump.faults given n new.kept new.end new.pump) (ap (λ (list : List Sent). length list) (sym posted))
-            (subst (λ (k : Option Command). IsAsked first.pump.left first.pump.faults given (length old.session.posted) k new.end new.pump) (sym kept)
-            (subst (λ (e : Option End). IsAsked first.pump.left first.pump.faults given (length old.session.posted) old.kept e new.pump) (sym end)
-            (subst (λ (p : PumpState). IsAsked first.pump.left first.pump.faults given (length old.session.posted) old.kept old.end p) (sym pump) asked)));
+        asked = subst (λ n. IsAsked first.pump.left first.pump.faults given n new.kept new.end new.pump)
+            (ap (λ (list : List Sent). length list) (sym posted))
+            (subst (λ (k : Option Command). IsAsked first.pump.left first.pump.faults given (length old.session.posted)
+            k new.end new.pump) (sym kept)
+            (subst (λ (e : Option End). IsAsked first.pump.left first.pump.faults given (length old.session.posted)
+            old.kept e new.pump) (sym end)
+            (subst (λ (p : PumpState). IsAsked first.pump.left first.pump.faults given (length old.session.posted)
+            old.kept old.end p) (sym pump) asked)));
         is = (
-          subst (λ (e : Option End). IsLane sends (fixed_at z first.session) start given e (events ++ event ∷ []) (session_shown z new.session) new.device wire') (sym end) (right start given lane),
-          subst (λ (e : Option End). RunsOn z shards given old.end old.session given e new.session) (sym end) (runs given old.end),
+          subst (λ (e : Option End). IsLane sends (fixed_at z first.session) start given e (events ++ event ∷ [])
+              (session_shown z new.session) new.device wire') (sym end) (right start given lane),
+          subst (λ (e : Option End). RunsOn z shards given old.end old.session given e new.session) (sym end)
+              (runs given old.end),
         );
       })

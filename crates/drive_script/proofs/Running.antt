@@ -1,5 +1,6 @@
 -- The calls of a driven session, one by one.
-use Rattle.std.proofs.Common.{◌≡◌, ℕ, ◌+◌, ◌⊎◌, inl, inr, false, List, [], ◌∷◌, ◌++◌, Option, None, Some, length, refl, ap, sym, ◌∙◌, subst, arith, append-nil, length-append}
+use Rattle.std.proofs.Common.{◌≡◌, ℕ, ◌+◌, ◌⊎◌, inl, inr, false, List, [], ◌∷◌, ◌++◌, Option, None, Some, length, refl}
+use Rattle.std.proofs.Common.{ap, sym, ◌∙◌, subst, arith, append-nil, length-append}
 use Rattle.std.specs.Prelude.{is_some}
 use Rattle.std.proofs.lemmas.List.{map-append}
 use Rattle.view_sums.proofs.Sums.{total-append}
@@ -15,8 +16,8 @@ use Rattle.drive_model.specs.Matches.{texts_in}
 use Rattle.serve_model.specs.Going as model
 use Rattle.serve_model.proofs.Going.{going_rests, going_on, going_breaks}
 use Rattle.session_pass.specs.Calls.{KeepsRest, KeepsAll, CallPosts, CallReaps, CallRefused, ReapsOne, ReapsNone}
-use Rattle.session_pass.specs.Kept.{paid_in}
-use Rattle.session_pass.specs.Refused.{WhyRefused}
+use Rattle.session_pass.specs.Kept.{holds_paid}
+use Rattle.session_pass.specs.Refused.{WhyCallRefused}
 use Rattle.session_pass.specs.Views.{SessionView}
 use Rattle.session_pass.specs.declared.error.CallError.{CallError}
 use Rattle.session_pass.specs.declared.error.CallError.TheVariants.{RingFull, StageFull, Memory}
@@ -40,8 +41,10 @@ same_front (x ∷ xs) (y ∷ ys) more rest is long =
 -- the commands that were called are those before the next one
 called_front : (given called rest front : List Command) (command : Command) → given ≡ called ++ rest
     → (given ≡ front) ⊎ (given ≡ front ++ command ∷ []) → length called ≡ length front → called ≡ front
-called_front given called rest front command is (inl same) long = same_front called front rest [] (sym is ∙ same ∙ sym (append-nil front)) long
-called_front given called rest front command is (inr same) long = same_front called front rest (command ∷ []) (sym is ∙ same) long
+called_front given called rest front command is (inl same) long = same_front called front rest []
+    (sym is ∙ same ∙ sym (append-nil front)) long
+called_front given called rest front command is (inr same) long = same_front called front rest (command ∷ [])
+    (sym is ∙ same) long
 
 -- what neither a reap nor a look at the device changes
 pub record Stays (old new : SessionView) : Type 0 where
@@ -53,7 +56,14 @@ pub record Stays (old new : SessionView) : Type 0 where
   pub posted : new.posted ≡ old.posted
 
 pub stays_all : (old new : SessionView) → KeepsAll old new → Stays old new
-stays_all old new k = record { list = k.list; stage = k.rest.stage; opened = k.rest.opened; claims = k.claims; seen = k.looks; posted = k.posted }
+stays_all old new k = record {
+  list = k.list;
+  stage = k.rest.stage;
+  opened = k.rest.opened;
+  claims = k.claims;
+  seen = k.looks;
+  posted = k.posted;
+}
 
 pub stays_told : (old new : SessionView) (told : ℕ) → new ≡ record old { told = told } → Stays old new
 stays_told old new told is = record {
@@ -94,10 +104,16 @@ same_stays first old new s same = record {
 }
 
 same_rests : (first old new : SessionView) → KeepsRest old new → IsSame first old → IsSame first new
-same_rests first old new k same = record { number = k.number ∙ same.number; looks = k.looks ∙ same.looks; stage = k.stage ∙ same.stage; opened = k.opened ∙ same.opened }
+same_rests first old new k same = record {
+  number = k.number ∙ same.number;
+  looks = k.looks ∙ same.looks;
+  stage = k.stage ∙ same.stage;
+  opened = k.opened ∙ same.opened;
+}
 
 module _ (z : Sizes) (shards : ℕ) (first : SessionView) where
-  between_stays : (given : List Command) (old new : SessionView) → Stays old new → IsBetween z shards first given old → IsBetween z shards first given new
+  between_stays : (given : List Command) (old new : SessionView) → Stays old new → IsBetween z shards first given old
+      → IsBetween z shards first given new
   between_stays given old new s b =
       let n = first.pass.list.number in
       record {
@@ -106,13 +122,17 @@ module _ (z : Sizes) (shards : ℕ) (first : SessionView) where
         given_is = b.given_is;
         calls = b.calls;
         count = ap (λ (list : List Sent). length list) s.posted ∙ b.count;
-        going = subst (λ (ps : List Sent). model.IsGoing z shards n b.called b.calls (texts_in ps) (paid_in ps) new.pass.list.told first.pass.seat new.pass.seat) (sym s.posted)
-            (subst (λ (l : SessionList). model.IsGoing z shards n b.called b.calls (texts_in old.posted) (paid_in old.posted) l.told first.pass.seat new.pass.seat) (sym s.list)
-            (going_rests z shards n b.called b.calls (texts_in old.posted) (paid_in old.posted) old.pass.list.told first.pass.seat old.pass.seat new.pass.seat s.claims s.seen b.going));
+        going = subst (λ (ps : List Sent). model.IsGoing z shards n b.called b.calls (texts_in ps)
+            (holds_paid ps) new.pass.list.told first.pass.seat new.pass.seat) (sym s.posted)
+            (subst (λ (l : SessionList). model.IsGoing z shards n b.called b.calls (texts_in old.posted)
+            (holds_paid old.posted) l.told first.pass.seat new.pass.seat) (sym s.list)
+            (going_rests z shards n b.called b.calls (texts_in old.posted) (holds_paid old.posted) old.pass.list.told
+            first.pass.seat old.pass.seat new.pass.seat s.claims s.seen b.going));
         same = same_stays first old new s b.same;
       }
 
-  broken_stays : (given : List Command) (old new : SessionView) → Stays old new → IsBroken z shards first given old → IsBroken z shards first given new
+  broken_stays : (given : List Command) (old new : SessionView) → Stays old new → IsBroken z shards first given old
+      → IsBroken z shards first given new
   broken_stays given old new s b =
       let n = first.pass.list.number in
       record {
@@ -127,74 +147,124 @@ module _ (z : Sizes) (shards : ℕ) (first : SessionView) where
         claims = s.claims ∙ b.claims;
         seen = s.seen ∙ b.seen;
         ended = λ more looks end replies how.
-            subst (λ (ps : List Sent). model.HasEnded z shards n (record { commands = b.called ++ b.command ∷ more; calls = b.calls; behind = b.behind; looks = looks; end = end }) (texts_in ps) (paid_in ps) new.pass.list.told first.pass.seat b.after) (sym s.posted)
-            (subst (λ (l : SessionList). model.HasEnded z shards n (record { commands = b.called ++ b.command ∷ more; calls = b.calls; behind = b.behind; looks = looks; end = end }) (texts_in old.posted) (paid_in old.posted) l.told first.pass.seat b.after) (sym s.list)
+            subst (λ (ps : List Sent). model.CallsNoMore z shards n
+            (record {
+              commands = b.called ++ b.command ∷ more;
+              calls = b.calls;
+              behind = b.behind;
+              looks = looks;
+              end = end;
+            }) (texts_in ps) (holds_paid ps) new.pass.list.told first.pass.seat b.after) (sym s.posted)
+            (subst (λ (l : SessionList). model.CallsNoMore z shards n
+            (record {
+              commands = b.called ++ b.command ∷ more;
+              calls = b.calls;
+              behind = b.behind;
+              looks = looks;
+              end = end;
+            }) (texts_in old.posted) (holds_paid old.posted) l.told first.pass.seat b.after) (sym s.list)
             (b.ended more looks end replies how));
         same = same_stays first old new s b.same;
       }
 
-  running_stays : (given : List Command) (end : Option End) (old new : SessionView) → Stays old new → IsRunning z shards first given end old → IsRunning z shards first given end new
+  running_stays : (given : List Command) (end : Option End) (old new : SessionView) → Stays old new
+      → IsRunning z shards first given end old → IsRunning z shards first given end new
   running_stays given end old new s (inl b) = inl (between_stays given old new s b)
   running_stays given end old new s (inr w) = inr (w.0, broken_stays given old new s w.1)
 
   -- before the first call
-  pub running_starts : (pump : PumpState) (end : Option End) → IsFresh z first pump → IsRunning z shards first [] end first
+  pub running_starts : (pump : PumpState) (end : Option End) → IsFresh z first pump
+      → IsRunning z shards first [] end first
   running_starts pump end fresh =
       let w = work-starts z shards first pump fresh in
-      inl (record { called = []; rest = []; given_is = refl; calls = []; count = w.count; going = w.going; same = w.same })
+      inl (record {
+        called = [];
+        rest = [];
+        given_is = refl;
+        calls = [];
+        count = w.count;
+        going = w.going;
+        same = w.same;
+      })
 
-  module _ (input : Option (List ℕ)) (before : ℕ) (given : List Command) (old : SessionView) (b : IsBetween z shards first given old) (command : Command) (pump : PumpState)
+  module _ (input : Option (List ℕ)) (before : ℕ) (given : List Command) (old : SessionView)
+      (b : IsBetween z shards first given old) (command : Command) (pump : PumpState)
       (next : AsksNext input before given (length old.posted) command pump) where
     called_is : b.called ≡ next.front
-    called_is = called_front given b.called b.rest next.front command b.given_is next.given_is (sym b.count ∙ sym next.count)
+    called_is = called_front given b.called b.rest next.front command b.given_is next.given_is
+        (sym b.count ∙ sym next.count)
 
     -- a reply more was posted
-    between_posted : (new : SessionView) (call freed : ℕ) (sent stored : List Seg) → CallPosts z shards command old new call freed sent stored → IsBetween z shards first (next.front ++ command ∷ []) new
+    between_posted : (new : SessionView) (call freed : ℕ) (sent stored : List Seg)
+        → CallPosts z shards command old new call freed sent stored
+        → IsBetween z shards first (next.front ++ command ∷ []) new
     between_posted new call freed sent stored posts =
         let n = first.pass.list.number in
         let reply = posts.parcel in
         let seat = first.pass.seat in
         let all = b.called ++ command ∷ [] in
         let done = b.calls ++ posts.outcomes ∷ [] in
-        let executed : IsExecuted z shards n (length b.called) command posts.outcomes reply.text reply.paid old.pass.list.told new.pass.list.told old.pass.seat new.pass.seat =
-        subst (λ (k : ℕ). IsExecuted z shards k (length b.called) command posts.outcomes reply.text reply.paid old.pass.list.told new.pass.list.told old.pass.seat new.pass.seat) b.same.number
-        (subst (λ (k : ℕ). IsExecuted z shards old.pass.list.number k command posts.outcomes reply.text reply.paid old.pass.list.told new.pass.list.told old.pass.seat new.pass.seat) b.count posts.executed) in
-        let going = going_on z shards n b.called b.calls (texts_in old.posted) reply.text (paid_in old.posted) reply.paid command posts.outcomes old.pass.list.told new.pass.list.told seat old.pass.seat
+        let executed : IsExecuted z shards n (length b.called) command posts.outcomes reply.text reply.paid
+        old.pass.list.told new.pass.list.told old.pass.seat new.pass.seat =
+        subst (λ (k : ℕ). IsExecuted z shards k (length b.called) command posts.outcomes reply.text reply.paid
+        old.pass.list.told new.pass.list.told old.pass.seat new.pass.seat) b.same.number
+        (subst (λ (k : ℕ). IsExecuted z shards old.pass.list.number k command posts.outcomes reply.text reply.paid
+        old.pass.list.told new.pass.list.told old.pass.seat new.pass.seat) b.count posts.executed) in
+        let going = going_on z shards n b.called b.calls (texts_in old.posted) reply.text
+        (holds_paid old.posted) reply.paid command posts.outcomes old.pass.list.told new.pass.list.told seat
+        old.pass.seat
         new.pass.seat b.going executed in
-        let texts : texts_in (old.posted ++ reply ∷ []) ≡ texts_in old.posted ++ reply.text ∷ [] = map-append (λ (p : Sent). p.text) old.posted (reply ∷ []) in
-        let paid : paid_in (old.posted ++ reply ∷ []) ≡ paid_in old.posted + reply.paid = omega (arith, total-append (λ (p : Sent). p.paid) old.posted (reply ∷ [])) in
+        let texts : texts_in (old.posted ++ reply ∷ []) ≡ texts_in old.posted ++ reply.text ∷ [] =
+        map-append (λ (p : Sent). p.text) old.posted (reply ∷ []) in
+        let paid : holds_paid (old.posted ++ reply ∷ []) ≡ holds_paid old.posted + reply.paid =
+        omega (arith, total-append (λ (p : Sent). p.paid) old.posted (reply ∷ [])) in
         record {
           called = all;
           rest = [];
           given_is = ap (λ (list : List Command). list ++ command ∷ []) (sym called_is) ∙ sym (append-nil all);
           calls = done;
-          count = omega (arith, ap (λ (list : List Sent). length list) posts.posted, b.count, length-append old.posted (reply ∷ []), length-append b.called (command ∷ []));
-          going = subst (λ (ps : List Sent). model.IsGoing z shards n all done (texts_in ps) (paid_in ps) new.pass.list.told seat new.pass.seat) (sym posts.posted)
-              (subst (λ (t : List (List ℕ)). model.IsGoing z shards n all done t (paid_in (old.posted ++ reply ∷ [])) new.pass.list.told seat new.pass.seat) (sym texts)
-              (subst (λ (k : ℕ). model.IsGoing z shards n all done (texts_in old.posted ++ reply.text ∷ []) k new.pass.list.told seat new.pass.seat) (sym paid) going));
+          count = omega (
+            arith,
+            ap (λ (list : List Sent). length list) posts.posted,
+            b.count,
+            length-append old.posted
+                (reply ∷ []),
+            length-append b.called (command ∷ []),
+          );
+          going = subst (λ (ps : List Sent). model.IsGoing z shards n all done (texts_in ps)
+              (holds_paid ps) new.pass.list.told seat new.pass.seat) (sym posts.posted)
+              (subst (λ (t : List (List ℕ)). model.IsGoing z shards n all done t (holds_paid (old.posted ++ reply ∷ []))
+              new.pass.list.told seat new.pass.seat) (sym texts)
+              (subst (λ (k : ℕ). model.IsGoing z shards n all done (texts_in old.posted ++ reply.text ∷ []) k
+              new.pass.list.told seat new.pass.seat) (sym paid) going));
           same = same_rests first old new posts.rest b.same;
         }
 
     -- there was no room for it, and it is kept back
     between_kept : (new : SessionView) → CallReaps old new → IsBetween z shards first (next.front ++ command ∷ []) new
-    between_kept new reaps = between_stays (next.front ++ command ∷ []) old new (stays_all old new reaps.keeps) (record {
-      called = b.called;
-      rest = command ∷ [];
-      given_is = ap (λ (list : List Command). list ++ command ∷ []) (sym called_is);
-      calls = b.calls;
-      count = b.count;
-      going = b.going;
-      same = b.same;
-    })
+    between_kept new reaps = between_stays (next.front ++ command ∷ []) old new (stays_all old new reaps.keeps)
+        (record {
+          called = b.called;
+          rest = command ∷ [];
+          given_is = ap (λ (list : List Command). list ++ command ∷ []) (sym called_is);
+          calls = b.calls;
+          count = b.count;
+          going = b.going;
+          same = b.same;
+        })
 
     -- memory was wanting in its call
-    broken_short : (new : SessionView) → CallRefused z shards command old new → IsBroken z shards first (next.front ++ command ∷ []) new
+    broken_short : (new : SessionView) → CallRefused z shards command old new
+        → IsBroken z shards first (next.front ++ command ∷ []) new
     broken_short new r =
         let n = first.pass.list.number in
         let seat = first.pass.seat in
-        let cut : IsCutShort z shards n (length b.called) command r.outcomes old.pass.list.told new.pass.list.told old.pass.seat new.pass.seat =
-        subst (λ (k : ℕ). IsCutShort z shards k (length b.called) command r.outcomes old.pass.list.told new.pass.list.told old.pass.seat new.pass.seat) b.same.number
-        (subst (λ (k : ℕ). IsCutShort z shards old.pass.list.number k command r.outcomes old.pass.list.told new.pass.list.told old.pass.seat new.pass.seat) b.count r.cut) in
+        let cut : IsCutShort z shards n (length b.called) command r.outcomes old.pass.list.told new.pass.list.told
+        old.pass.seat new.pass.seat =
+        subst (λ (k : ℕ). IsCutShort z shards k (length b.called) command r.outcomes old.pass.list.told
+        new.pass.list.told old.pass.seat new.pass.seat) b.same.number
+        (subst (λ (k : ℕ). IsCutShort z shards old.pass.list.number k command r.outcomes old.pass.list.told
+        new.pass.list.told old.pass.seat new.pass.seat) b.count r.cut) in
         record {
           called = b.called;
           command = command;
@@ -207,31 +277,46 @@ module _ (z : Sizes) (shards : ℕ) (first : SessionView) where
           claims = refl;
           seen = refl;
           ended = λ more looks end replies how.
-              subst (λ (ps : List Sent). model.HasEnded z shards n (record { commands = b.called ++ command ∷ more; calls = b.calls; behind = r.outcomes; looks = looks; end = end }) (texts_in ps) (paid_in ps) new.pass.list.told seat new.pass.seat) (sym r.posted)
-              (going_breaks z shards n b.called more b.calls (texts_in old.posted) (paid_in old.posted) command r.outcomes old.pass.list.told new.pass.list.told seat old.pass.seat new.pass.seat looks end b.going cut replies how);
+              subst (λ (ps : List Sent). model.CallsNoMore z shards n
+              (record {
+                commands = b.called ++ command ∷ more;
+                calls = b.calls;
+                behind = r.outcomes;
+                looks = looks;
+                end = end;
+              }) (texts_in ps) (holds_paid ps) new.pass.list.told seat new.pass.seat) (sym r.posted)
+              (going_breaks z shards n b.called more b.calls (texts_in old.posted) (holds_paid old.posted) command
+              r.outcomes old.pass.list.told new.pass.list.told seat old.pass.seat new.pass.seat looks end b.going
+              cut replies how);
           same = same_rests first old new r.rest b.same;
         }
 
   -- no end was said yet
-  open_yet : (given : List Command) (said : Option End) (s : SessionView) → is_some said ≡ false → IsRunning z shards first given said s → IsBetween z shards first given s
+  open_yet : (given : List Command) (said : Option End) (s : SessionView) → is_some said ≡ false
+      → IsRunning z shards first given said s → IsBetween z shards first given s
   open_yet given said s none (inl b) = b
   open_yet given None s none (inr w) = absurd (cc (w.0))
   open_yet given (Some end) s none (inr w) = absurd (cc none)
 
   -- the session says its end
-  pub running_ends : (given : List Command) (said end : Option End) (s : SessionView) → is_some said ≡ false → IsRunning z shards first given said s → IsRunning z shards first given end s
+  pub running_ends : (given : List Command) (said end : Option End) (s : SessionView) → is_some said ≡ false
+      → IsRunning z shards first given said s → IsRunning z shards first given end s
   running_ends given said end s none r = inl (open_yet given said s none r)
 
-  module _ (input : Option (List ℕ)) (before : ℕ) (given : List Command) (old between new : SessionView) (told : ℕ) (told_is : new ≡ record between { told = told }) (command : Command) (pump : PumpState)
-      (next : AsksNext input before given (length old.posted) command pump) (said end : Option End) (none : is_some said ≡ false) where
-    pub running_posted : (call freed : ℕ) (sent stored : List Seg) → CallPosts z shards command old between call freed sent stored → IsRunning z shards first given said old
+  module _ (input : Option (List ℕ)) (before : ℕ) (given : List Command) (old between new : SessionView) (told : ℕ)
+      (told_is : new ≡ record between { told = told }) (command : Command) (pump : PumpState)
+      (next : AsksNext input before given (length old.posted) command pump) (said end : Option End)
+      (none : is_some said ≡ false) where
+    pub running_posted : (call freed : ℕ) (sent stored : List Seg)
+        → CallPosts z shards command old between call freed sent stored → IsRunning z shards first given said old
         → IsRunning z shards first (next.front ++ command ∷ []) end new
     running_posted call freed sent stored posts r =
         let b = open_yet given said old none r in
         inl (between_stays (next.front ++ command ∷ []) between new (stays_told between new told told_is)
         (between_posted input before given old b command pump next between call freed sent stored posts))
 
-    pub running_refused : (error : CallError) → end ≡ ended_by error said → WhyRefused z shards command old between error → IsRunning z shards first given said old
+    pub running_refused : (error : CallError) → end ≡ ended_by error said
+        → WhyCallRefused z shards command old between error → IsRunning z shards first given said old
         → IsRunning z shards first (next.front ++ command ∷ []) end new
     running_refused (RingFull need room) end_is why r =
         inl (between_stays (next.front ++ command ∷ []) between new (stays_told between new told told_is)
@@ -247,16 +332,23 @@ module _ (z : Sizes) (shards : ℕ) (first : SessionView) where
         )
 
   -- a look at the device
-  pub running_told : (given : List Command) (end : Option End) (old new : SessionView) (told : ℕ) → new ≡ record old { told = told } → IsRunning z shards first given end old → IsRunning z shards first given end new
+  pub running_told : (given : List Command) (end : Option End) (old new : SessionView) (told : ℕ)
+      → new ≡ record old { told = told } → IsRunning z shards first given end old
+      → IsRunning z shards first given end new
   running_told given end old new told is = running_stays given end old new (stays_told old new told is)
 
   -- a reap, and a look at the device
-  pub running_reaped : (given : List Command) (end : Option End) (old between new : SessionView) (call recycled told : ℕ) → ReapsOne old between call recycled → new ≡ record between { told = told }
+  pub running_reaped : (given : List Command) (end : Option End) (old between new : SessionView)
+      (call recycled told : ℕ) → ReapsOne old between call recycled → new ≡ record between { told = told }
       → IsRunning z shards first given end old → IsRunning z shards first given end new
   running_reaped given end old between new call recycled told reaps is =
-      running_stays given end old new (stays_on old between new (stays_all old between reaps.keeps) (stays_told between new told is))
+      running_stays given end old new
+      (stays_on old between new (stays_all old between reaps.keeps) (stays_told between new told is))
 
-  pub running_none : (given : List Command) (end : Option End) (old between new : SessionView) (told : ℕ) → ReapsNone old between → new ≡ record between { told = told } → IsRunning z shards first given end old
+  pub running_none : (given : List Command) (end : Option End) (old between new : SessionView) (told : ℕ)
+      → ReapsNone old between → new ≡ record between { told = told } → IsRunning z shards first given end old
       → IsRunning z shards first given end new
   running_none given end old between new told reaps is =
-      running_stays given end old new (stays_on old between new (stays_missed old between between.misses reaps.new_is) (stays_told between new told is))
+      running_stays given end old new
+      (stays_on old between new (stays_missed old between between.misses reaps.new_is)
+      (stays_told between new told is))

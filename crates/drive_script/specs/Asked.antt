@@ -12,7 +12,8 @@ IsKeptBack (Some command) given posted =
     (front : List Command) × (given ≡ front ++ command ∷ []) × (length front ≡ posted)
 
 -- Of an input, these commands were given, so many of them were posted, and there may be more. No read has failed.
-pub record IsOpen (input : Option (List ℕ)) (before : ℕ) (given : List Command) (posted : ℕ) (kept : Option Command)
+pub record MayGiveMore (input : Option (List ℕ)) (before : ℕ) (given : List Command) (posted : ℕ)
+    (kept : Option Command)
     (pump : PumpState) : Type 0 where
   pub pump_is : IsPump input before given pump
   pub kept_back : IsKeptBack kept given posted
@@ -28,15 +29,15 @@ pub record AsksNext (input : Option (List ℕ)) (before : ℕ) (given : List Com
   pub unfailed : pump.faults ≡ before
 
 -- the input ended, and all that it gave was posted; or memory was wanting in the call of the last command
-abbrev pub IsStopped : Option (List ℕ) → ℕ → List Command → ℕ → End → PumpState → Type 0
-IsStopped input before given posted end pump =
+abbrev pub IsSessionStopped : Option (List ℕ) → ℕ → List Command → ℕ → End → PumpState → Type 0
+IsSessionStopped input before given posted end pump =
     (HasEnded input before given end pump × (length given ≡ posted))
     ⊎ ((end ≡ Memory) × IsPump input before given pump × (length given ≡ posted + 1) × (pump.faults ≡ before))
 
 -- the session goes on, or ended so
 abbrev pub IsAsked : Option (List ℕ) → ℕ → List Command → ℕ → Option Command → Option End → PumpState → Type 0
-IsAsked input before given posted kept None pump = IsOpen input before given posted kept pump
-IsAsked input before given posted kept (Some end) pump = IsStopped input before given posted end pump
+IsAsked input before given posted kept None pump = MayGiveMore input before given posted kept pump
+IsAsked input before given posted kept (Some end) pump = IsSessionStopped input before given posted end pump
 
 -- What a line says holds of the commands that were given by then.
 pub record GoesOn (input : Option (List ℕ)) (before : ℕ) (posted : ℕ) (kept : Option Command) (end : Option End)

@@ -9,13 +9,13 @@ use Rattle.command_pump.specs.Pump.{PumpState}
 use Rattle.order_book.specs.Pages.{SessionList}
 use Rattle.pinned_pool.specs.declared.view.View.{View}
 use Rattle.schedule_text.specs.declared.line.Line.{Line}
-use Rattle.transcript_model.specs.Lines.{Said, line_of, line_text}
+use Rattle.transcript_model.specs.Lines.{EventLine, line_of, transcript_line}
 use Rattle.transcript_model.specs.Sessions.{events_of}
 use Rattle.drive_script.specs.Driving.{Driving}
 use Rattle.drive_script.specs.Lanes.{sends_by}
 use Rattle.drive_script.specs.Left.{HasLeft}
 use Rattle.drive_script.specs.Ran.{HasDriven}
-use Rattle.drive_script.specs.Says.{Says}
+use Rattle.drive_script.specs.Says.{PrintsText}
 
 -- what contracts see of what a session leaves
 pub record Leaving (W : Type 0) : Type 0 where
@@ -38,9 +38,9 @@ module _
   -- was said. What was said of each session is right from its first line to its last, and the session ran.
   pub record DroveAll (firsts : List (Driving W)) (schedule : List Line) (lasts : List (Leaving W)) (failed : Bool)
       (old new : HostTold) : Type 0 where
-    pub lines : List Said
+    pub lines : List EventLine
     pub answers : map line_of lines ≡ schedule
-    pub said : Says false failed (flat_map line_text lines) old new
+    pub said : PrintsText false failed (flat_map transcript_line lines) old new
     pub as_many : length lasts ≡ length firsts
     pub left : (session : ℕ) (first : Driving W) (last : Leaving W) → slice_get firsts session ≡ Some first
         → slice_get lasts session ≡ Some last

@@ -13,17 +13,17 @@ use Rattle.tx_descriptor.specs.declared.framed.Framed.{Ghosts}
 use Rattle.tx_ring.specs.Shown.{ring_size, device_ring}
 use Rattle.tx_ring.specs.declared.device.DeviceEnd.{DeviceEnd}
 use Rattle.reply_planner.specs.Parcels.{Sent}
-use Rattle.reply_planner.specs.Places.{addresses_of}
+use Rattle.reply_planner.specs.Places.{buffer_addresses}
 use Rattle.session_pass.specs.Views.{SessionView}
 use Rattle.session_serve.specs.Working.{IsFresh}
 use Rattle.schedule_text.specs.declared.line.Line.{Line}
-use Rattle.transcript_model.specs.Lines.{Event, Said, line_of, line_text}
+use Rattle.transcript_model.specs.Lines.{LineEvent, EventLine, line_of, transcript_line}
 use Rattle.transcript_model.specs.Sessions.{Sending, events_of}
 use Rattle.drive_model.specs.Views.{DeviceShown}
 use Rattle.drive_script.specs.Asked.{IsAsked}
 use Rattle.drive_script.specs.Lanes.{Fixed, IsLane}
 use Rattle.drive_script.specs.Running.{IsRunning}
-use Rattle.drive_script.specs.Says.{Says}
+use Rattle.drive_script.specs.Says.{PrintsText}
 use Rattle.drive_script.specs.Shown.{session_shown, device_shown}
 
 -- what contracts see of one
@@ -58,7 +58,7 @@ fixed_at z s = record {
   sizes = z;
   ring = ring_size s.ring;
   threshold = s.pass.threshold;
-  stage = addresses_of z s.pass.stage;
+  stage = buffer_addresses z s.pass.stage;
 }
 
 -- a line can be done
@@ -87,7 +87,7 @@ pub record IsNew {W : Type 0} (z : Sizes) (d : Driving W) : Type 0 where
 
 module _ {W : Type 0} (sends : Sending W) (z : Sizes) (shards : ℕ) where
   -- These events have led from there, where no call was made, to here, and are right by what is known now.
-  pub record IsUnderWay (first : Driving W) (events : List Event) (now : Driving W) : Type 0 where
+  pub record IsUnderWay (first : Driving W) (events : List LineEvent) (now : Driving W) : Type 0 where
     pub ring : now.ring ≡ now.session.ring
     pub small : Each (λ buffer. buffer < z.small) now.session.pass.stage
     pub start : W
@@ -102,7 +102,7 @@ module _ {W : Type 0} (sends : Sending W) (z : Sizes) (shards : ℕ) where
     pub running : IsRunning z shards first.session given now.end now.session
 
   -- so are the lines of each session
-  abbrev pub AreUnderWay : List (Driving W) → List Said → List (Driving W) → Type 0
+  abbrev pub AreUnderWay : List (Driving W) → List EventLine → List (Driving W) → Type 0
   AreUnderWay firsts lines nows = (session : ℕ) (first now : Driving W) → slice_get firsts session ≡ Some first
       → slice_get nows session ≡ Some now → IsUnderWay first (events_of session lines) now
 
@@ -114,8 +114,8 @@ module _ {W : Type 0} (sends : Sending W) (z : Sizes) (shards : ℕ) where
   -- The lines of this schedule were done and said. After a say that failed a front of them was said.
   pub record WereDriven (firsts : List (Driving W)) (schedule : List Line) (nows : List (Driving W)) (failed : Bool)
       (old new : HostTold) : Type 0 where
-    pub lines : List Said
+    pub lines : List EventLine
     pub answers : map line_of lines ≡ schedule
-    pub said : Says false failed (flat_map line_text lines) old new
+    pub said : PrintsText false failed (flat_map transcript_line lines) old new
     pub as_many : length nows ≡ length firsts
     pub are : AreUnderWay firsts lines nows

@@ -5,10 +5,10 @@ use Rattle.any_wire.specs.Sends.{Sends}
 use Rattle.flake_base.specs.declared.session.End.{End}
 use Rattle.flake_model.specs.Command.{Command}
 use Rattle.pin_core.specs.declared.sizes.Sizes.{Sizes}
-use Rattle.transcript_model.specs.Lines.{Event}
+use Rattle.transcript_model.specs.Lines.{LineEvent}
 use Rattle.transcript_model.specs.Sessions.{Sending, WireGrew}
 use Rattle.transcript_model.specs.Terms.{Terms}
-use Rattle.drive_model.specs.Matches.{IsKept, texts_in}
+use Rattle.drive_model.specs.Matches.{IsRightSoFar, texts_in}
 use Rattle.drive_model.specs.Quiet.{says_end}
 use Rattle.drive_model.specs.Views.{SessionShown, DeviceShown}
 
@@ -41,19 +41,19 @@ IsEndSaid (Some said) end = end ≡ said
 
 -- What was said of the session so far is right by what is known of it now: the commands that its input gave, its end,
 -- if that was said, and how many of its replies were sent whole.
-pub record IsDriven (fixed : Fixed) (given : List Command) (end : Option End) (whole : ℕ) (events : List Event)
+pub record IsDriven (fixed : Fixed) (given : List Command) (end : Option End) (whole : ℕ) (events : List LineEvent)
     (session : SessionShown) (device : DeviceShown) : Type 0 where
   pub terms : Terms
   pub fixed_is : fixed_of terms ≡ fixed
   pub given_is : terms.commands ≡ given
   pub whole_is : terms.whole ≡ whole
-  pub kept : IsKept terms session device events
+  pub kept : IsRightSoFar terms session device events
   pub ended_is : says_end events ≡ is_some end
   pub end_is : IsEndSaid end terms.end.end
 
 module _ {W : Type 0} (sends : Sending W) where
   -- and its wire, which was another at the start, was sent the texts of what was gathered
-  pub record IsLane (fixed : Fixed) (start : W) (given : List Command) (end : Option End) (events : List Event)
+  pub record IsLane (fixed : Fixed) (start : W) (given : List Command) (end : Option End) (events : List LineEvent)
       (session : SessionShown) (device : DeviceShown) (wire : W) : Type 0 where
     pub whole : ℕ
     pub driven : IsDriven fixed given end whole events session device

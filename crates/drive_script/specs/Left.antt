@@ -10,8 +10,8 @@ use Rattle.pin_core.specs.declared.sizes.Sizes.{Sizes}
 use Rattle.command_pump.specs.Pump.{PumpState}
 use Rattle.order_book.specs.Closed.{own_deeds}
 use Rattle.order_book.specs.Pages.{SessionList}
-use Rattle.transcript_model.specs.Lines.{Event, sent, dropped}
-use Rattle.transcript_model.specs.Sessions.{Sending, WireGrew, IsTold, texts_of}
+use Rattle.transcript_model.specs.Lines.{LineEvent, sent, dropped}
+use Rattle.transcript_model.specs.Sessions.{Sending, WireGrew, IsRightSession, texts_of}
 use Rattle.transcript_model.specs.Terms.{Terms}
 use Rattle.drive_model.specs.Matches.{HasMore}
 use Rattle.drive_model.specs.Quiet.{IsQuiet, says_end}
@@ -20,7 +20,7 @@ use Rattle.drive_script.specs.Driving.{Driving, fixed_at, IsUnderWay}
 use Rattle.drive_script.specs.Lanes.{Fixed}
 
 -- how many replies were gathered
-abbrev pub gathers_in : List Event → ℕ
+abbrev pub gathers_in : List LineEvent → ℕ
 gathers_in [] = 0
 gathers_in (sent call bytes ∷ events) = gathers_in events + 1
 gathers_in (dropped call bytes ∷ events) = gathers_in events + 1
@@ -43,19 +43,19 @@ module _ {W : Type 0} (sends : Sending W) (z : Sizes) (shards : ℕ) where
   -- some line can be behind it
   pub record IsGoing (now : Driving W) : Type 0 where
     pub first : Driving W
-    pub events : List Event
+    pub events : List LineEvent
     pub is : IsUnderWay sends z shards first events now
 
   -- at least so many replies were gathered without lines
-  pub record GoesQuietly (first : Driving W) (events : List Event) (count : ℕ) (now : Driving W) : Type 0 where
-    pub quiet : List Event
+  pub record GoesQuietly (first : Driving W) (events : List LineEvent) (count : ℕ) (now : Driving W) : Type 0 where
+    pub quiet : List LineEvent
     pub are : AllByRecursion IsQuiet quiet
     pub gathered : count ≤ gathers_in quiet
     pub is : IsUnderWay sends z shards first (events ++ quiet) now
 
   -- all replies were gathered, the last ones without lines
-  pub record GathersAll (first : Driving W) (events : List Event) (now : Driving W) : Type 0 where
-    pub quiet : List Event
+  pub record GathersAll (first : Driving W) (events : List LineEvent) (now : Driving W) : Type 0 where
+    pub quiet : List LineEvent
     pub are : AllByRecursion IsQuiet quiet
     pub is : IsUnderWay sends z shards first (events ++ quiet) now
     pub all : now.device.completed ≡ now.session.posted
@@ -64,12 +64,12 @@ module _ {W : Type 0} (sends : Sending W) (z : Sizes) (shards : ℕ) where
 module _ {W : Type 0} (sends : Sending W) (z : Sizes) where
   -- What was said of the session is right from its first line to its last, by its own list, whatever more its input
   -- asks for; and its wire was sent the texts of its replies.
-  pub record HasLeft (first : Driving W) (events : List Event) (end : SessionEnd) (mine : SessionList)
+  pub record HasLeft (first : Driving W) (events : List LineEvent) (end : SessionEnd) (mine : SessionList)
       (left : PumpState) (new : W) : Type 0 where
     pub given : List Command
     pub whole : ℕ
     pub told : (commands : List Command) → HasMore given commands
-        → IsTold (terms_at (fixed_at z first.session) commands end whole (own_deeds mine)) events
+        → IsRightSession (terms_at (fixed_at z first.session) commands end whole (own_deeds mine)) events
     pub start : W
     pub start_is : first.wire ≡ Some start
     pub sent : (commands : List Command) → HasMore given commands → WireGrew sends end.failed whole

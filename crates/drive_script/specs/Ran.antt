@@ -8,10 +8,10 @@ use Rattle.command_pump.specs.Pump.{PumpState, EndFaults}
 use Rattle.order_book.specs.Closed.{own_deeds}
 use Rattle.order_book.specs.Pages.{SessionList}
 use Rattle.pinned_pool.specs.declared.view.View.{View}
-use Rattle.serve_model.specs.Handed.{HasRun}
+use Rattle.serve_model.specs.Handed.{SessionHasRun}
 use Rattle.session_serve.specs.Wires.{SendsOut}
-use Rattle.transcript_model.specs.Lines.{Event}
-use Rattle.transcript_model.specs.Sessions.{WireGrew, IsTold, texts_of, joined}
+use Rattle.transcript_model.specs.Lines.{LineEvent}
+use Rattle.transcript_model.specs.Sessions.{WireGrew, IsRightSession, texts_of, joined}
 use Rattle.drive_model.specs.Matches.{texts_in}
 use Rattle.drive_script.specs.Driving.{Driving, fixed_at}
 use Rattle.drive_script.specs.Lanes.{sends_by}
@@ -33,19 +33,20 @@ module _
     (z : Sizes)
     (shards : ℕ) where
   -- All replies were gathered, and then the wire was flushed, where nothing had failed.
-  pub record GathersOut (first : Driving W) (events : List Event) (now : Driving W) : Type 0 where
+  pub record GathersOut (first : Driving W) (events : List LineEvent) (now : Driving W) : Type 0 where
     pub gathers : GathersAll (sends_by put_may flush_may) z shards first events now
     pub out : SendsOut put_may flush_may false now.device.failed (joined (texts_in now.session.posted)) gathers.is.start
         gathers.is.wire
 
   -- A session was driven and left: it ran, what was said of it is right by its own list, and its wire was sent the
   -- texts of its replies, and flushed last of all.
-  pub record HasDriven (first : Driving W) (events : List Event) (end : SessionEnd) (mine : SessionList) (seat : View)
+  pub record HasDriven (first : Driving W) (events : List LineEvent) (end : SessionEnd) (mine : SessionList)
+      (seat : View)
       (left : PumpState) (new : W) : Type 0 where
     pub texts : List (List ℕ)
-    pub ran : HasRun z shards first.session.pass.list.number first.pump.left left.left end mine seat texts
+    pub ran : SessionHasRun z shards first.session.pass.list.number first.pump.left left.left end mine seat texts
     pub whole : ℕ
-    pub told : IsTold (terms_at (fixed_at z first.session) ran.run.commands end whole (own_deeds mine)) events
+    pub told : IsRightSession (terms_at (fixed_at z first.session) ran.run.commands end whole (own_deeds mine)) events
     pub start : W
     pub start_is : first.wire ≡ Some start
     pub grew : WireGrew (sends_by put_may flush_may) end.failed whole

@@ -9,7 +9,7 @@ use Rattle.pin_core.specs.declared.sizes.Sizes.{Sizes}
 use Rattle.pinned_pool.specs.declared.view.View.{View}
 use Rattle.call_model.specs.Outcomes.{Outcomes}
 use Rattle.serve_model.specs.Going as model
-use Rattle.session_pass.specs.Kept.{paid_in}
+use Rattle.session_pass.specs.Kept.{holds_paid}
 use Rattle.session_pass.specs.Views.{SessionView}
 use Rattle.session_serve.specs.Working.{IsSame}
 use Rattle.drive_model.specs.Matches.{texts_in}
@@ -23,7 +23,7 @@ pub record IsBetween (z : Sizes) (shards : ℕ) (first : SessionView) (given : L
   pub calls : List Outcomes
   pub count : length session.posted ≡ length called
   pub going : model.IsGoing z shards first.pass.list.number called calls (texts_in session.posted)
-      (paid_in session.posted) session.pass.list.told first.pass.seat session.pass.seat
+      (holds_paid session.posted) session.pass.list.told first.pass.seat session.pass.seat
   pub same : IsSame first session
 
 -- Memory was wanting in the call of the last command that was given; those before have their replies.
@@ -41,9 +41,9 @@ pub record IsBroken (z : Sizes) (shards : ℕ) (first : SessionView) (given : Li
   pub claims : session.pass.seat.claims ≡ after.claims
   pub seen : session.pass.seat.looks ≡ after.looks
   pub ended : (more : List Command) (looks : List (ℕ × List Deed)) (end : SessionEnd) → end.replies ≡ length called
-      → end.end ≡ Memory → model.HasEnded z shards first.pass.list.number
+      → end.end ≡ Memory → model.CallsNoMore z shards first.pass.list.number
       (record { commands = called ++ command ∷ more; calls = calls; behind = behind; looks = looks; end = end })
-      (texts_in session.posted) (paid_in session.posted) session.pass.list.told first.pass.seat after
+      (texts_in session.posted) (holds_paid session.posted) session.pass.list.told first.pass.seat after
   pub same : IsSame first session
 
 -- Of these commands, from its first line on. A session in whose call memory was wanting has said its end.

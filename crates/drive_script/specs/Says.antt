@@ -11,7 +11,7 @@ pub record SameFiles (old new : HostTold) : Type 0 where
   pub open_faults : (name : List ℕ) → new.open_faults name ≡ old.open_faults name
 
 -- all of the text, or a front of it where a say fails now; and nothing where one failed before
-pub record Says (was now : Bool) (text : List ℕ) (old new : HostTold) : Type 0 where
+pub record PrintsText (was now : Bool) (text : List ℕ) (old new : HostTold) : Type 0 where
   pub silent : was ≡ true → (now ≡ true) × (new.said ≡ old.said) × (new.say_faults ≡ old.say_faults)
   pub said : was ≡ false → Grew now text old.said new.said × FaultIs now old.say_faults new.say_faults
   pub files : SameFiles old new

@@ -2,11 +2,11 @@
 ghost use Rattle.std.specs.Prelude.{◌≡◌, ◌-◌, ◌^◌, ◌<◌, ◌++◌, ◌∷◌, [], ℕ, List, Option, length};
 ghost use Rattle.view_sums.specs.Total.{Each};
 ghost use Rattle.flake_model.specs.Command.{Command as Meaning};
-ghost use Rattle.schedule_text.specs.Text.{session_of};
+ghost use Rattle.schedule_text.specs.Text.{line_session};
 ghost use Rattle.tx_ring.specs.Shown.{device_ring};
-ghost use Rattle.transcript_model.specs.Lines.{Event, line_of};
+ghost use Rattle.transcript_model.specs.Lines.{LineEvent, line_of};
 ghost use Rattle.drive_script.specs.Asked.{IsAsked, GoesOn};
-ghost use Rattle.drive_script.specs.Happened.{event_of};
+ghost use Rattle.drive_script.specs.Happened.{line_event};
 ghost use Rattle.drive_script.specs.Lanes.{Fixed, IsLane, sends_by};
 ghost use Rattle.drive_script.specs.Recycled.{Recycles};
 ghost use Rattle.drive_script.specs.Running.{RunsOn};
@@ -49,11 +49,11 @@ impl<N: BookName, P: PoolName + Send> Lane<N, P> {
         ensures ring { device_ring self.new.device.end ≡ self.new.session.ring }
         ensures stage { self.new.session.pass.stage ≡ self.old.session.pass.stage }
         ensures answers { line_of (record {
-          session = session_of line;
-          event = event_of result.1 sent.new.items stored.new.items;
+          session = line_session line;
+          event = line_event result.1 sent.new.items stored.new.items;
         }) ≡ line }
         ensures recycles { Recycles result.1 self.old.session self.new.session }
-        ensures right { (fixed : Fixed) (start : W) (given : List Meaning) (events : List Event)
+        ensures right { (fixed : Fixed) (start : W) (given : List Meaning) (events : List LineEvent)
             (input : Option (List ℕ)) (before : ℕ)
             → IsAsked input before given (length self.old.session.posted) asking.old.kept asking.old.end
             asking.old.pump
@@ -62,7 +62,7 @@ impl<N: BookName, P: PoolName + Send> Lane<N, P> {
             (device_shown self.old.device.failed self.old.device.end) wire
             → GoesOn input before (length self.new.session.posted) asking.new.kept asking.new.end asking.new.pump
             (λ now. IsLane (sends_by (λ w p r. PUT.post put.now w p r) (λ w r. FLUSH.post flush.now w r)) fixed
-            start now asking.new.end (events ++ event_of result.1 sent.new.items stored.new.items ∷ [])
+            start now asking.new.end (events ++ line_event result.1 sent.new.items stored.new.items ∷ [])
             (session_shown P.sizes self.new.session) (device_shown self.new.device.failed self.new.device.end)
             result.0
             × RunsOn P.sizes N.sizes.shards given asking.old.end self.old.session now asking.new.end

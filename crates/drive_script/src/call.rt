@@ -6,9 +6,9 @@ ghost use Rattle.flake_model.specs.Command.{Command as Meaning};
 ghost use Rattle.reply_planner.specs.Parcels.{Sent};
 ghost use Rattle.schedule_text.specs.declared.line.Line.TheVariants as asked;
 ghost use Rattle.tx_ring.specs.Shown.{device_ring};
-ghost use Rattle.transcript_model.specs.Lines.{Event, line_of};
+ghost use Rattle.transcript_model.specs.Lines.{LineEvent, line_of};
 ghost use Rattle.drive_script.specs.Asked.{IsAsked, GoesOn};
-ghost use Rattle.drive_script.specs.Happened.{event_of};
+ghost use Rattle.drive_script.specs.Happened.{line_event};
 ghost use Rattle.drive_script.specs.Lanes.{Fixed, IsDriven};
 ghost use Rattle.drive_script.specs.Running.{RunsOn};
 ghost use Rattle.drive_script.specs.Shown.{session_shown, device_shown};
@@ -42,9 +42,9 @@ impl<N: BookName, P: PoolName + Send> Lane<N, P> {
         ensures posted { (more : List Sent) × (self.new.session.posted ≡ self.old.session.posted ++ more)
             × (length more ≤ 1) }
         ensures answers { (session : ℕ) (segments fragments : List Seg)
-            → line_of (record { session = session; event = event_of result segments fragments })
+            → line_of (record { session = session; event = line_event result segments fragments })
             ≡ asked.Call session }
-        ensures right { (fixed : Fixed) (given : List Meaning) (whole : ℕ) (events : List Event)
+        ensures right { (fixed : Fixed) (given : List Meaning) (whole : ℕ) (events : List LineEvent)
             (input : Option (List ℕ)) (before : ℕ)
             → IsAsked input before given (length self.old.session.posted) asking.old.kept asking.old.end
             asking.old.pump
@@ -52,7 +52,7 @@ impl<N: BookName, P: PoolName + Send> Lane<N, P> {
             (device_shown self.old.device.failed self.old.device.end)
             → GoesOn input before (length self.new.session.posted) asking.new.kept asking.new.end asking.new.pump
             (λ now. IsDriven fixed now asking.new.end whole
-            (events ++ event_of result sent.new.items stored.new.items ∷ [])
+            (events ++ line_event result sent.new.items stored.new.items ∷ [])
             (session_shown P.sizes self.new.session) (device_shown self.new.device.failed self.new.device.end)
             × RunsOn P.sizes N.sizes.shards given asking.old.end self.old.session now asking.new.end
             self.new.session) }

@@ -1,9 +1,9 @@
 // A whole schedule.
 ghost use Rattle.std.specs.Prelude.{◌≡◌, ◌≤◌, ◌<◌, [], All, List, length, map, vec_capacity};
 ghost use Rattle.std.specs.List.{AllZip};
-ghost use Rattle.schedule_text.specs.Text.{session_of};
+ghost use Rattle.schedule_text.specs.Text.{line_session};
 ghost use Rattle.session_serve.specs.Working.{IsFresh};
-ghost use Rattle.transcript_model.specs.Lines.{Event};
+ghost use Rattle.transcript_model.specs.Lines.{LineEvent};
 ghost use Rattle.drive_script.specs.Driven.{leaving_of, DroveAll};
 ghost use Rattle.drive_script.specs.Driving.{Driving as Shown, driving_of, IsNew, IsUnderWay};
 ghost use Rattle.drive_script.specs.Lanes.{sends_by};
@@ -53,7 +53,7 @@ pub fn drive<
     flush: &FLUSH,
 ) -> Driven<N, P, S, W>
     requires calls { PUT.IsAlwaysCallable put.now × FLUSH.IsAlwaysCallable flush.now }
-    requires there { All (λ line. session_of line < length sessions.items) schedule.now }
+    requires there { All (λ line. line_session line < length sessions.items) schedule.now }
     requires fresh { All (λ d. IsNew P.sizes (driving_of d.lane.session d.lane.device.failed d.lane.device.end
         d.asking.kept d.asking.end d.asking.pump d.wire) × IsFresh P.sizes d.lane.session d.asking.pump)
         sessions.items }
@@ -101,7 +101,7 @@ fn leave_all<
         P.sizes N.sizes.shards (driving_of d.lane.session d.lane.device.failed d.lane.device.end d.asking.kept
         d.asking.end d.asking.pump d.wire)) sessions.items }
     requires room { (accounts.items ≡ []) × (length sessions.items ≤ vec_capacity accounts) }
-    ensures { AllZip (λ d a. (first : Shown W) (events : List Event)
+    ensures { AllZip (λ d a. (first : Shown W) (events : List LineEvent)
         → IsUnderWay (sends_by (λ w p r. PUT.post put.now w p r) (λ w r. FLUSH.post flush.now w r))
         P.sizes N.sizes.shards first events (driving_of d.lane.session d.lane.device.failed d.lane.device.end
         d.asking.kept d.asking.end d.asking.pump d.wire)

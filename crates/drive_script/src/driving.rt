@@ -1,11 +1,11 @@
 // A session that is driven, with its input and its wire.
 ghost use Rattle.std.specs.Prelude.{◌≡◌, ◌++◌, ◌∷◌, [], List, IsSome};
-ghost use Rattle.schedule_text.specs.Text.{session_of};
+ghost use Rattle.schedule_text.specs.Text.{line_session};
 ghost use Rattle.schedule_text.specs.declared.line.Line.TheVariants as asked;
 ghost use Rattle.tx_ring.specs.Shown.{device_ring};
-ghost use Rattle.transcript_model.specs.Lines.{Event, line_of};
+ghost use Rattle.transcript_model.specs.Lines.{LineEvent, line_of};
 ghost use Rattle.drive_script.specs.Driving.{Driving as Shown, driving_of, IsAble, IsUnderWay};
-ghost use Rattle.drive_script.specs.Happened.{event_of};
+ghost use Rattle.drive_script.specs.Happened.{line_event};
 ghost use Rattle.drive_script.specs.Lanes.{sends_by};
 ghost use Rattle.drive_script.specs.Left.{IsGoing, GathersAll};
 ghost use Rattle.drive_script.specs.Ran.{FlushesOnly, GathersOut};
@@ -51,16 +51,16 @@ impl<N: BookName, P: PoolName + Send, S: Source, W: Drop> Driving<N, P, S, W> {
         requires able { IsAble P.sizes (driving_of self.old.lane.session self.old.lane.device.failed
             self.old.lane.device.end self.old.asking.kept self.old.asking.end self.old.asking.pump self.old.wire) }
         ensures answers { line_of (record {
-          session = session_of line;
-          event = event_of result sent.new.items stored.new.items;
+          session = line_session line;
+          event = line_event result sent.new.items stored.new.items;
         }) ≡ line }
         ensures recycles { Recycles result self.old.lane.session self.new.lane.session }
-        ensures right { (first : Shown W) (events : List Event)
+        ensures right { (first : Shown W) (events : List LineEvent)
             → IsUnderWay (sends_by (λ w p r. PUT.post put.now w p r) (λ w r. FLUSH.post flush.now w r))
             P.sizes N.sizes.shards first events (driving_of self.old.lane.session self.old.lane.device.failed
             self.old.lane.device.end self.old.asking.kept self.old.asking.end self.old.asking.pump self.old.wire)
             → IsUnderWay (sends_by (λ w p r. PUT.post put.now w p r) (λ w r. FLUSH.post flush.now w r))
-            P.sizes N.sizes.shards first (events ++ event_of result sent.new.items stored.new.items ∷ []) (driving_of
+            P.sizes N.sizes.shards first (events ++ line_event result sent.new.items stored.new.items ∷ []) (driving_of
             self.new.lane.session self.new.lane.device.failed self.new.lane.device.end self.new.asking.kept
             self.new.asking.end self.new.asking.pump self.new.wire) }
     {
@@ -95,18 +95,18 @@ impl<N: BookName, P: PoolName + Send, S: Source, W: Drop> Driving<N, P, S, W> {
         ensures ring { device_ring self.new.lane.device.end ≡ self.new.lane.session.ring }
         ensures wire { IsSome self.new.wire }
         ensures posted { self.new.lane.session.posted ≡ self.old.lane.session.posted }
-        ensures answers { line_of (record { session = 0; event = event_of result [] [] }) ≡ asked.Gather 0 }
+        ensures answers { line_of (record { session = 0; event = line_event result [] [] }) ≡ asked.Gather 0 }
         ensures flushed { (result ≡ Happened.NothingPosted) → FlushesOnly (λ w r. FLUSH.post flush.now w r)
             (driving_of self.old.lane.session self.old.lane.device.failed self.old.lane.device.end
             self.old.asking.kept self.old.asking.end self.old.asking.pump self.old.wire)
             (driving_of self.new.lane.session self.new.lane.device.failed self.new.lane.device.end
             self.new.asking.kept self.new.asking.end self.new.asking.pump self.new.wire) }
-        ensures right { (first : Shown W) (events : List Event)
+        ensures right { (first : Shown W) (events : List LineEvent)
             → IsUnderWay (sends_by (λ w p r. PUT.post put.now w p r) (λ w r. FLUSH.post flush.now w r))
             P.sizes N.sizes.shards first events (driving_of self.old.lane.session self.old.lane.device.failed
             self.old.lane.device.end self.old.asking.kept self.old.asking.end self.old.asking.pump self.old.wire)
             → IsUnderWay (sends_by (λ w p r. PUT.post put.now w p r) (λ w r. FLUSH.post flush.now w r))
-            P.sizes N.sizes.shards first (events ++ event_of result [] [] ∷ []) (driving_of self.new.lane.session
+            P.sizes N.sizes.shards first (events ++ line_event result [] [] ∷ []) (driving_of self.new.lane.session
             self.new.lane.device.failed self.new.lane.device.end self.new.asking.kept self.new.asking.end
             self.new.asking.pump self.new.wire) }
     {
@@ -131,14 +131,14 @@ impl<N: BookName, P: PoolName + Send, S: Source, W: Drop> Driving<N, P, S, W> {
             self.old.lane.device.end self.old.asking.kept self.old.asking.end self.old.asking.pump self.old.wire) }
         ensures ring { device_ring self.new.lane.device.end ≡ self.new.lane.session.ring }
         ensures wire { IsSome self.new.wire }
-        ensures right { (first : Shown W) (events : List Event)
+        ensures right { (first : Shown W) (events : List LineEvent)
             → IsUnderWay (sends_by (λ w p r. PUT.post put.now w p r) (λ w r. FLUSH.post flush.now w r))
             P.sizes N.sizes.shards first events (driving_of self.old.lane.session self.old.lane.device.failed
             self.old.lane.device.end self.old.asking.kept self.old.asking.end self.old.asking.pump self.old.wire)
             → GathersAll (sends_by (λ w p r. PUT.post put.now w p r) (λ w r. FLUSH.post flush.now w r))
             P.sizes N.sizes.shards first events (driving_of self.new.lane.session self.new.lane.device.failed
             self.new.lane.device.end self.new.asking.kept self.new.asking.end self.new.asking.pump self.new.wire) }
-        ensures out { (first : Shown W) (events : List Event)
+        ensures out { (first : Shown W) (events : List LineEvent)
             → IsUnderWay (sends_by (λ w p r. PUT.post put.now w p r) (λ w r. FLUSH.post flush.now w r))
             P.sizes N.sizes.shards first events (driving_of self.old.lane.session self.old.lane.device.failed
             self.old.lane.device.end self.old.asking.kept self.old.asking.end self.old.asking.pump self.old.wire)

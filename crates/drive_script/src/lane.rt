@@ -6,8 +6,8 @@ ghost use Rattle.flake_base.specs.declared.session.End.{End};
 ghost use Rattle.flake_model.specs.Command.{Command as Meaning};
 ghost use Rattle.schedule_text.specs.declared.line.Line.TheVariants as asked;
 ghost use Rattle.tx_ring.specs.Shown.{device_ring, completed};
-ghost use Rattle.transcript_model.specs.Lines.{Event, line_of};
-ghost use Rattle.drive_script.specs.Happened.{event_of};
+ghost use Rattle.transcript_model.specs.Lines.{LineEvent, line_of};
+ghost use Rattle.drive_script.specs.Happened.{line_event};
 ghost use Rattle.drive_script.specs.Lanes.{Fixed, IsDriven, IsLane, sends_by};
 ghost use Rattle.drive_script.specs.Recycled.{Recycles};
 ghost use Rattle.drive_script.specs.Running.{RunsOn};
@@ -46,20 +46,20 @@ impl<N: BookName, P: PoolName + Send> Lane<N, P> {
         ensures ring { device_ring self.new.device.end ≡ self.new.session.ring }
         ensures pass { self.new.session.pass ≡ self.old.session.pass }
         ensures posted { self.new.session.posted ≡ self.old.session.posted }
-        ensures answers { (session : ℕ) → line_of (record { session = session; event = event_of result.1 [] [] })
+        ensures answers { (session : ℕ) → line_of (record { session = session; event = line_event result.1 [] [] })
             ≡ asked.Gather session }
-        ensures lists { (sent stored : List Seg) → event_of result.1 sent stored ≡ event_of result.1 [] [] }
+        ensures lists { (sent stored : List Seg) → line_event result.1 sent stored ≡ line_event result.1 [] [] }
         ensures flushed { (result.1 ≡ Happened.NothingPosted)
             → (completed self.new.device.end ≡ completed self.old.device.end)
             × Flushes (λ w r. FLUSH.post flush.now w r) self.old.device.failed self.new.device.failed wire result.0 }
         ensures runs { (given : List Meaning) (end : Option End)
             → RunsOn P.sizes N.sizes.shards given end self.old.session given end self.new.session }
-        ensures right { (fixed : Fixed) (start : W) (given : List Meaning) (end : Option End) (events : List Event)
+        ensures right { (fixed : Fixed) (start : W) (given : List Meaning) (end : Option End) (events : List LineEvent)
             → IsLane (sends_by (λ w p r. PUT.post put.now w p r) (λ w r. FLUSH.post flush.now w r)) fixed start
             given end events (session_shown P.sizes self.old.session)
             (device_shown self.old.device.failed self.old.device.end) wire
             → IsLane (sends_by (λ w p r. PUT.post put.now w p r) (λ w r. FLUSH.post flush.now w r)) fixed start
-            given end (events ++ event_of result.1 [] [] ∷ []) (session_shown P.sizes self.new.session)
+            given end (events ++ line_event result.1 [] [] ∷ []) (session_shown P.sizes self.new.session)
             (device_shown self.new.device.failed self.new.device.end) result.0 }
     {
         let (wire, gathered) = self.device.gather(pool, wire, put, flush);
@@ -78,18 +78,18 @@ impl<N: BookName, P: PoolName + Send> Lane<N, P> {
         requires ring { device_ring self.old.device.end ≡ self.old.session.ring }
         ensures ring { device_ring self.new.device.end ≡ self.new.session.ring }
         ensures stage { self.new.session.pass.stage ≡ self.old.session.pass.stage }
-        ensures answers { (session : ℕ) → line_of (record { session = session; event = event_of result [] [] })
+        ensures answers { (session : ℕ) → line_of (record { session = session; event = line_event result [] [] })
             ≡ asked.Reap session }
-        ensures lists { (sent stored : List Seg) → event_of result sent stored ≡ event_of result [] [] }
+        ensures lists { (sent stored : List Seg) → line_event result sent stored ≡ line_event result [] [] }
         ensures recycles { Recycles result self.old.session self.new.session }
         ensures posted { self.new.session.posted ≡ self.old.session.posted }
         ensures failed { self.new.device.failed ≡ self.old.device.failed }
         ensures runs { (given : List Meaning) (end : Option End)
             → RunsOn P.sizes N.sizes.shards given end self.old.session given end self.new.session }
-        ensures right { (fixed : Fixed) (given : List Meaning) (end : Option End) (whole : ℕ) (events : List Event)
+        ensures right { (fixed : Fixed) (given : List Meaning) (end : Option End) (whole : ℕ) (events : List LineEvent)
             → IsDriven fixed given end whole events (session_shown P.sizes self.old.session)
             (device_shown self.old.device.failed self.old.device.end)
-            → IsDriven fixed given end whole (events ++ event_of result [] [] ∷ [])
+            → IsDriven fixed given end whole (events ++ line_event result [] [] ∷ [])
             (session_shown P.sizes self.new.session) (device_shown self.new.device.failed self.new.device.end) }
     {
         let reaped = self.session.reap_one(shop);

@@ -4,7 +4,7 @@ ghost use Rattle.flake_base.specs.declared.session.End.TheVariants as ends;
 ghost use Rattle.command_pump.specs.Pump.{ended_at};
 ghost use Rattle.tx_ring.specs.Shown.{device_ring, completed};
 ghost use Rattle.session_serve.specs.Working.{IsLeft};
-ghost use Rattle.transcript_model.specs.Lines.{Event};
+ghost use Rattle.transcript_model.specs.Lines.{LineEvent};
 ghost use Rattle.drive_script.specs.Driving.{Driving as Shown, driving_of, IsUnderWay};
 ghost use Rattle.drive_script.specs.Lanes.{sends_by};
 ghost use Rattle.drive_script.specs.Left.{IsGoing, HasLeft};
@@ -87,13 +87,13 @@ impl<N: BookName, P: PoolName + Send, S: Source, W: Drop> Driving<N, P, S, W> {
         requires going { IsGoing (sends_by (λ w p r. PUT.post put.now w p r) (λ w r. FLUSH.post flush.now w r))
             P.sizes N.sizes.shards (driving_of self.lane.session self.lane.device.failed self.lane.device.end
             self.asking.kept self.asking.end self.asking.pump self.wire) }
-        ensures left { (first : Shown W) (events : List Event)
+        ensures left { (first : Shown W) (events : List LineEvent)
             → IsUnderWay (sends_by (λ w p r. PUT.post put.now w p r) (λ w r. FLUSH.post flush.now w r))
             P.sizes N.sizes.shards first events (driving_of self.lane.session self.lane.device.failed
             self.lane.device.end self.asking.kept self.asking.end self.asking.pump self.wire)
             → HasLeft (sends_by (λ w p r. PUT.post put.now w p r) (λ w r. FLUSH.post flush.now w r)) P.sizes first
             events result.end result.mine result.pump result.wire }
-        ensures driven { (first : Shown W) (events : List Event)
+        ensures driven { (first : Shown W) (events : List LineEvent)
             → IsUnderWay (sends_by (λ w p r. PUT.post put.now w p r) (λ w r. FLUSH.post flush.now w r))
             P.sizes N.sizes.shards first events (driving_of self.lane.session self.lane.device.failed
             self.lane.device.end self.asking.kept self.asking.end self.asking.pump self.wire)

@@ -1,6 +1,6 @@
 // The lines of a schedule, one after another.
 ghost use Rattle.std.specs.Prelude.{◌<◌, ◌≤◌, All, length, map, vec_capacity};
-ghost use Rattle.schedule_text.specs.Text.{session_of};
+ghost use Rattle.schedule_text.specs.Text.{line_session};
 ghost use Rattle.drive_script.specs.Driving.{driving_of, AreFresh, WereDriven};
 ghost use Rattle.drive_script.specs.Lanes.{sends_by};
 ghost use Rattle.drive_script.specs.Says.{text_room};
@@ -35,7 +35,7 @@ pub fn drive_lines<
     flush: &FLUSH,
 ) -> bool
     requires calls { PUT.IsAlwaysCallable put.now × FLUSH.IsAlwaysCallable flush.now }
-    requires there { All (λ line. session_of line < length sessions.old.items) schedule.now }
+    requires there { All (λ line. line_session line < length sessions.old.items) schedule.now }
     requires room { text_room ≤ vec_capacity room.old.text }
     requires fresh { AreFresh (sends_by (λ w p r. PUT.post put.now w p r) (λ w r. FLUSH.post flush.now w r))
         P.sizes N.sizes.shards (map (λ d. driving_of d.lane.session d.lane.device.failed d.lane.device.end d.asking.kept

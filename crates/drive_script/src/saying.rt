@@ -1,10 +1,10 @@
 // What is said, until a say fails.
 ghost use Rattle.std.specs.Prelude.{◌<◌, ◌≤◌, ◌++◌, ◌∷◌, [], IfOk, length, vec_capacity};
 ghost use Rattle.std.specs.List.{flat_map};
-ghost use Rattle.transcript_model.specs.Lines.{line_text, segment_text, stored_text};
+ghost use Rattle.transcript_model.specs.Lines.{transcript_line, segment_text, stored_text};
 ghost use Rattle.transcript_text.specs.Told.{said, line_room};
-ghost use Rattle.drive_script.specs.Happened.{event_of};
-ghost use Rattle.drive_script.specs.Says.{Says, text_room};
+ghost use Rattle.drive_script.specs.Happened.{line_event};
+ghost use Rattle.drive_script.specs.Says.{PrintsText, text_room};
 
 use crate::happened::Happened;
 use crate::telling::tell;
@@ -49,8 +49,8 @@ pub(crate) fn say_line<H: Host>(
     happened: Happened,
 ) -> bool
     requires { text_room ≤ vec_capacity room.old.text }
-    ensures said { Says failed result
-        (line_text (said session (event_of happened room.old.sent.items room.old.stored.items)))
+    ensures said { PrintsText failed result
+        (transcript_line (said session (line_event happened room.old.sent.items room.old.stored.items)))
         (H.host_told host.old) (H.host_told host.new) }
     ensures room { text_room ≤ vec_capacity room.new.text }
 {
@@ -82,7 +82,7 @@ fn say_long<H: Host>(
     stored: &[Seg],
 ) -> bool
     requires { text_room ≤ vec_capacity text.old }
-    ensures said { Says failed result (line_text (said session (event_of happened sent.now stored.now)))
+    ensures said { PrintsText failed result (transcript_line (said session (line_event happened sent.now stored.now)))
         (H.host_told host.old) (H.host_told host.new) }
     ensures room { vec_capacity text.old ≤ vec_capacity text.new }
 {
@@ -108,7 +108,7 @@ fn say_lists<H: Host>(
     stored: &[Seg],
 ) -> bool
     requires { line_room ≤ vec_capacity text.old }
-    ensures said { Says failed result (flat_map segment_text sent.now ++ stored_text stored.now ++ 10 ∷ [])
+    ensures said { PrintsText failed result (flat_map segment_text sent.now ++ stored_text stored.now ++ 10 ∷ [])
         (H.host_told host.old) (H.host_told host.new) }
     ensures room { vec_capacity text.old ≤ vec_capacity text.new }
 {
@@ -119,7 +119,7 @@ fn say_lists<H: Host>(
 
 fn say_stored<H: Host>(host: &mut H, failed: bool, text: &mut Vec<u8>, stored: &[Seg]) -> bool
     requires { line_room ≤ vec_capacity text.old }
-    ensures said { Says failed result (stored_text stored.now) (H.host_told host.old) (H.host_told host.new) }
+    ensures said { PrintsText failed result (stored_text stored.now) (H.host_told host.old) (H.host_told host.new) }
     ensures room { vec_capacity text.old ≤ vec_capacity text.new }
 {
     if stored.is_empty() {
@@ -131,7 +131,7 @@ fn say_stored<H: Host>(host: &mut H, failed: bool, text: &mut Vec<u8>, stored: &
 
 fn say_segments<H: Host>(host: &mut H, failed: bool, text: &mut Vec<u8>, segments: &[Seg]) -> bool
     requires { line_room ≤ vec_capacity text.old }
-    ensures said { Says failed result (flat_map segment_text segments.now)
+    ensures said { PrintsText failed result (flat_map segment_text segments.now)
         (H.host_told host.old) (H.host_told host.new) }
     ensures room { vec_capacity text.old ≤ vec_capacity text.new }
 {
@@ -146,7 +146,7 @@ fn say_segments<H: Host>(host: &mut H, failed: bool, text: &mut Vec<u8>, segment
 /// Says a text, unless a say failed before. Answers whether one has failed.
 pub(crate) fn say<H: Host>(host: &mut H, failed: bool, text: &[u8]) -> bool
     requires { 0 < length text.now }
-    ensures { Says failed result text.now (H.host_told host.old) (H.host_told host.new) }
+    ensures { PrintsText failed result text.now (H.host_told host.old) (H.host_told host.new) }
 {
     failed || host.say(text).is_err()
 }

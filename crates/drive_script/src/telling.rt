@@ -1,8 +1,8 @@
 // What is said of a line.
 ghost use Rattle.std.specs.Prelude.{◌≡◌, ◌+◌, ◌*◌, ◌≤◌, length, vec_capacity};
-ghost use Rattle.transcript_model.specs.Lines.{line_text};
+ghost use Rattle.transcript_model.specs.Lines.{transcript_line};
 ghost use Rattle.transcript_text.specs.Told.{said, line_room};
-ghost use Rattle.drive_script.specs.Happened.{event_of};
+ghost use Rattle.drive_script.specs.Happened.{line_event};
 
 use crate::happened::Happened;
 use flake_base::Seg;
@@ -12,7 +12,7 @@ use transcript_text as line;
 /// are its segments, and `stored` the fragments that were stored.
 pub fn tell(text: &mut Vec<u8>, session: u16, happened: Happened, sent: &[Seg], stored: &[Seg])
     requires { line_room + 42 * (length sent.now + length stored.now) ≤ vec_capacity text.old }
-    ensures text { text.new.items ≡ line_text (said session (event_of happened sent.now stored.now)) }
+    ensures text { text.new.items ≡ transcript_line (said session (line_event happened sent.now stored.now)) }
     ensures room { vec_capacity text.old ≤ vec_capacity text.new }
 {
     match happened {

@@ -7,11 +7,11 @@ use mathlib.Core.Logic.{dite}
 use native.Mathlib.Decide.{ℕ_discrete}
 use Rattle.view_sums.specs.Total.{total, same, Each}
 use Rattle.view_sums.proofs.Sums.{total-append, total-map}
-use Rattle.pin_core.specs.Buffers.{buffers, room}
+use Rattle.pin_core.specs.Buffers.{buffers, buffer_words}
 use Rattle.pin_core.specs.Holding.{loose_at}
 use Rattle.pin_core.specs.declared.sizes.Sizes.{Sizes}
 use Rattle.pinned_pool.specs.Addresses.{address_of}
-use Rattle.pinned_pool.specs.Moves.{joined}
+use Rattle.pinned_pool.specs.Moves.{joined_views}
 use Rattle.pinned_pool.specs.Views.{IsLoose}
 use Rattle.pinned_pool.specs.declared.view.View.{View}
 use Rattle.pinned_pool.proofs.Covering.{one_byte_each}
@@ -28,11 +28,11 @@ use Rattle.drive_told.proofs.Owned.{all_deeds}
 use Rattle.drive_told.proofs.Placed.{lies, is_left, apart_in}
 
 -- the store's seat has at most one hold of a buffer that is not pinned, as the last seat has
-pub loose_front : (main store : View) → IsLoose (joined main store) → IsLoose store
+pub loose_front : (main store : View) → IsLoose (joined_views main store) → IsLoose store
 loose_front main store loose b = omega (arith, loose b, total-append (loose_at b) main.holds store.holds)
 
 module _ (z : Sizes) where
-  some_room : (b : ℕ) → 0 < 8 * room z b
+  some_room : (b : ℕ) → 0 < 8 * buffer_words z b
   some_room b = by (nat_lt b z.small) where
     by : (small : Bool) → 0 < 8 * (if small then 64 else 512)
     by true = omega arith

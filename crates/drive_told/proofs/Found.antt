@@ -5,7 +5,7 @@ use Rattle.std.specs.List.{AllByRecursion}
 use Rattle.flake_base.specs.declared.journal.Entry.{Entry}
 use Rattle.flake_model.specs.Deed.{Deed, entries_of}
 use Rattle.flake_model.specs.Journal.{is_entry}
-use Rattle.flake_model.specs.Order.{IsBefore, IsRising}
+use Rattle.flake_model.specs.Order.{IsBefore, EntriesRise}
 use Rattle.flake_model.proofs.Entries.{entry_is, is_itself}
 use Rattle.flake_model.proofs.OneOrder.{Among, before_itself}
 use Rattle.transcript_model.specs.Deeds.{find_deed}
@@ -83,7 +83,7 @@ all_of P (first ∷ deeds) deed all (inl is) = subst (λ (d : Deed). P d.entry) 
 all_of P (first ∷ deeds) deed all (inr among) = all_of P deeds deed all.1 among
 
 -- entries that rise are all different
-pub rising_once : (deeds : List Deed) → IsRising (entries_of deeds) → AreOnce deeds
+pub rising_once : (deeds : List Deed) → EntriesRise (entries_of deeds) → AreOnce deeds
 rising_once [] rising a b in_a in_b same = absurd in_a
 rising_once (d ∷ deeds) rising a b (inl is_a) (inl is_b) same = sym is_a ∙ is_b
 rising_once (d ∷ deeds) rising a b (inl is_a) (inr in_b) same =

@@ -5,7 +5,7 @@ use Rattle.std.proofs.lemmas.List.{length-map}
 use Rattle.flake_base.specs.declared.journal.Entry.{Entry}
 use Rattle.flake_base.specs.declared.session.SessionEnd.{SessionEnd}
 use Rattle.pin_core.specs.declared.sizes.Sizes as pool_sizes
-use Rattle.pinned_pool.specs.Ends.{End, end_of}
+use Rattle.pinned_pool.specs.Ends.{End, pool_end}
 use Rattle.pinned_pool.specs.Views.{IsLoose}
 use Rattle.pinned_pool.specs.declared.view.View.{View}
 use Rattle.flake_model.specs.Deed as deed
@@ -25,7 +25,7 @@ use Rattle.serve_model.specs.Seats.{HasAll}
 use Rattle.serve_model.proofs.Ran.{was_run}
 use Rattle.serve_model.proofs.Seats.{joins_add}
 use Rattle.serve_model.proofs.Served.{lists_long}
-use Rattle.transcript_model.specs.Lines.{Said, line_of}
+use Rattle.transcript_model.specs.Lines.{EventLine, line_of}
 use Rattle.transcript_model.specs.Sessions.{Sending}
 use Rattle.transcript_model.specs.Sources.{AreSources}
 use Rattle.transcript_model.specs.Transcript as transcript
@@ -55,7 +55,8 @@ all_left shows (steps ∷ histories) =
     (λ i. left_by_replay shows finite.empty finite.empty steps i ∷ all_left shows histories i)
 
 module _ {W : Type 0} (sends : Sending W) (books : book_sizes.Sizes) (z : pool_sizes.Sizes) (ring threshold : ℕ)
-    (schedule : List Line) (lines : List Said) (each : List (OneDriven W)) (past : List W) (shards : List ShardList)
+    (schedule : List Line) (lines : List EventLine) (each : List (OneDriven W)) (past : List W)
+    (shards : List ShardList)
     (lists : List SessionList) (journal : List (List Entry)) (main store last : View) (closed : End)
     (answers : map line_of lines ≡ schedule)
     (are : AreDriven sends z books.shards ring threshold lines each lists main)
@@ -108,7 +109,7 @@ module _ {W : Type 0} (sends : Sending W) (books : book_sizes.Sizes) (z : pool_s
     sources : AreSources (driven_run z ring threshold (all_commands sessions) ends journal held) (all_deeds shards)
         (own_of own_lists) told_by.stages
     apart : AreAllApart
-        (transcript.final_places (driven_run z ring threshold (all_commands sessions) ends journal held) lines)
+        (transcript.transcript_places (driven_run z ring threshold (all_commands sessions) ends journal held) lines)
 
   judged : (held : End) → IsJudged held (map session_in all)
   judged held =
@@ -138,8 +139,8 @@ module _ {W : Type 0} (sends : Sending W) (books : book_sizes.Sizes) (z : pool_s
       let served = ran.served sends z books.shards ring threshold lines each are.all in
       let whole = was_run books z shards own_lists journal store _ _ ends _ _ _ book as_many were.parts served last
       (are.spare ∷ []) last_seat in
-      let right : IsJudged (end_of z last) whole.0.served.sessions =
-      subst (IsJudged (end_of z last)) (sym whole.1.sessions_are) (judged (end_of z last)) in
+      let right : IsJudged (pool_end z last) whole.0.served.sessions =
+      subst (IsJudged (pool_end z last)) (sym whole.1.sessions_are) (judged (pool_end z last)) in
       subst (HaveDriven sends z ring threshold schedule lines each past journal) (sym were.closed_is) (record {
         ran = whole.0;
         texts_are = whole.1.texts_are ∙ ran.texts_are sends z books.shards ring threshold lines 0 each are.all;

@@ -12,8 +12,9 @@ use Rattle.flake_model.specs.Deed.{Deed, entries_of, IsLegal}
 use Rattle.flake_model.specs.Journal.{commands_of, operation_at}
 use Rattle.flake_model.specs.Run.{all_commands}
 use Rattle.flake_model.proofs.OneOrder.{Among}
-use Rattle.order_book.specs.Pages.{Ranked, Page, session_of, placed, ShardList, SessionList, shown_shard, shown_session}
-use Rattle.order_book.specs.Rule.{of_session, in_shard}
+use Rattle.order_book.specs.Pages.{Ranked, Page, deed_session, shard_deeds, ShardList, SessionList, shown_shard}
+use Rattle.order_book.specs.Pages.{shown_session}
+use Rattle.order_book.specs.Rule.{deeds_of_session, deeds_in_shard}
 use Rattle.order_book.specs.Closed.{AreMeant, journal_of, own_deeds}
 use Rattle.order_book.specs.declared.rule.Sizes.{Sizes}
 use Rattle.order_book.proofs.Among.{each-among, among-append, among-filter, among-filtered, among-map, among-mapped}
@@ -88,7 +89,7 @@ record HasRanked (xs : List Ranked) (deed : Deed) : Type 0 where
   among : Among xs ranked
   is : ranked.deed ≡ deed
 
-behind_own : (xs : List Ranked) (deed : Deed) → Among (own (placed xs)) deed → HasRanked xs deed
+behind_own : (xs : List Ranked) (deed : Deed) → Among (own (shard_deeds xs)) deed → HasRanked xs deed
 behind_own [] deed among = absurd among
 behind_own (x ∷ xs) deed (inl is) = record { ranked = x; among = inl refl; is = is }
 behind_own (x ∷ xs) deed (inr among) =
@@ -172,9 +173,9 @@ module _ (books : Sizes) (all : List SessionRun) (shards : List ShardList) (list
     there : slice_get all deed.entry.session ≡ Some ran
     among : Among (told_by deed.entry.session ran) deed
 
-  among_own : (xs : List Ranked) (x : Ranked) → Among xs x → Among (own (placed xs)) x.deed
+  among_own : (xs : List Ranked) (x : Ranked) → Among xs x → Among (own (shard_deeds xs)) x.deed
   among_own xs x among =
-      among-map (λ (told : ℕ × Deed). told.1) (placed xs) (x.shard, x.deed)
+      among-map (λ (told : ℕ × Deed). told.1) (shard_deeds xs) (x.shard, x.deed)
       (among-map (λ (y : Ranked). (y.shard, y.deed)) xs x among)
 
   -- a shard's deed is one that its session was told
@@ -187,10 +188,10 @@ module _ (books : Sizes) (all : List SessionRun) (shards : List ShardList) (list
       subst (λ l. Among l (shown_session q)) (sym are.closed.sessions_shown ∙ are.told)
       (among-map shown_session qs q home.among) in
       let found = run_behind books.shards 0 all (shown_session q) listed in
-      let place : found.place ≡ session_of x =
+      let place : found.place ≡ deed_session x =
       omega (arith, ap (λ (l : SessionList). l.number) found.is, home.number_is) in
-      let e : 0 + found.place ≡ session_of x = omega (arith, place) in
-      let told : told_by (session_of x) found.ran ≡ own (placed q.deeds) =
+      let e : 0 + found.place ≡ deed_session x = omega (arith, place) in
+      let told : told_by (deed_session x) found.ran ≡ own (shard_deeds q.deeds) =
       ap (λ m. own (run_told books.shards m found.ran.run)) (sym e) ∙ ap own_deeds found.is in
       record {
         ran = found.ran;
@@ -228,17 +229,18 @@ module _ (books : Sizes) (all : List SessionRun) (shards : List ShardList) (list
   in_shards : (q : Page) (x : Ranked) → Among qs q → Among q.deeds x
       → Among (flat_map (λ d. d) (all_deeds shards)) x.deed
   in_shards q x q_is x_is =
-      let filed = each-among (λ (y : Ranked). (session_of y ≡ q.number) × (y.shard < books.shards)) q.deeds x
-      (each-among (λ (r : Page). Each (λ (y : Ranked). (session_of y ≡ r.number) × (y.shard < books.shards)) r.deeds)
+      let filed = each-among (λ (y : Ranked). (deed_session y ≡ q.number) × (y.shard < books.shards)) q.deeds x
+      (each-among (λ (r : Page). Each (λ (y : Ranked). (deed_session y ≡ r.number) × (y.shard < books.shards)) r.deeds)
       qs q are.closed.one.filed q_is) x_is in
       let home = all_present books.shards ps are.closed.one.shards_numbered ps_long x.shard filed.1 in
       let p = home.found in
-      let agree = each-among (λ (r : Page). of_session r.number p.deeds ≡ in_shard p.number r.deeds) qs q
-      (each-among (λ (s : Page). Each (λ (r : Page). of_session r.number s.deeds ≡ in_shard s.number r.deeds) qs) ps p
+      let agree = each-among (λ (r : Page). deeds_of_session r.number p.deeds ≡ deeds_in_shard p.number r.deeds) qs q
+      (each-among (λ (s : Page). Each
+      (λ (r : Page). deeds_of_session r.number s.deeds ≡ deeds_in_shard s.number r.deeds) qs) ps p
       are.closed.one.agree home.among) q_is in
       let there = among-filter (λ (y : Ranked). eqb y.shard p.number) q.deeds x x_is
       (eq-eqb x.shard p.number (sym home.number_is)) in
-      let x_in = among-filtered (λ (y : Ranked). eqb (session_of y) q.number) p.deeds x
+      let x_in = among-filtered (λ (y : Ranked). eqb (deed_session y) q.number) p.deeds x
       (subst (λ l. Among l x) (sym agree) there) in
       let shard_is : Among shards (shown_shard p) =
       subst (λ l. Among l (shown_shard p)) (sym are.closed.shards_shown) (among-map shown_shard ps p home.among) in
@@ -264,7 +266,7 @@ module _ (books : Sizes) (all : List SessionRun) (shards : List ShardList) (list
         let from = among-mapped shown_session qs (list_of books.shards session ran.run)
         (subst (λ l. Among l (list_of books.shards session ran.run)) are.closed.sessions_shown list) in
         let q = from.source in
-        let told : Among (own (placed q.deeds)) deed =
+        let told : Among (own (shard_deeds q.deeds)) deed =
         subst (λ l. Among l deed) (own_is session ran is ∙ sym (ap own_deeds from.is)) among in
         let one = behind_own q.deeds deed told in
         subst (Among (flat_map (λ d. d) (all_deeds shards))) one.is (in_shards q one.ranked from.among one.among)
@@ -296,7 +298,7 @@ module _ (books : Sizes) (all : List SessionRun) (shards : List ShardList) (list
   meant = means commands books shards lists are.closed (shards_long books all shards lists are)
       (sessions_long books all shards lists are) (answered books all shards lists are).meant
 
-  module _ (run : transcript.Run) (stages : List (List ℕ)) (sessions_are : run.sessions ≡ commands)
+  module _ (run : transcript.DrivenRun) (stages : List (List ℕ)) (sessions_are : run.sessions ≡ commands)
       (ends_are : run.ends ≡ map (λ (ran : SessionRun). ran.run.end) all)
       (journal_is : run.journal ≡ journal_of shards) (long : length stages ≡ length all) where
     own_deed : (shard : ShardList) (deed : Deed) → Among shards shard → Among shard.told deed

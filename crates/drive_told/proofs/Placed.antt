@@ -14,7 +14,8 @@ use Rattle.std.proofs.lemmas.Cmp.{nat_list_cmp_total}
 use Rattle.std.proofs.lemmas.List.{length-map}
 use Rattle.view_sums.specs.Total.{total, same}
 use Rattle.view_sums.proofs.Sums.{total-append}
-use Rattle.flake_model.specs.Deed.{Deed, Places, places_at, AreStored, placed, places_after, kept_fragments, AreApart}
+use Rattle.flake_model.specs.Deed.{Deed, Places, places_at, AreStored, places_with, places_after, kept_fragments}
+use Rattle.flake_model.specs.Deed.{AreApart}
 use Rattle.flake_model.specs.Deed.{IsLegalFrom, store_left, places_left, final_store, final_places, IsLegal}
 use Rattle.flake_model.specs.Fragments.{fragments_of}
 use Rattle.flake_model.specs.Store.{Store, Change, keeps, puts, removes, changed, change_by, bytes_at, key_of, after}
@@ -77,7 +78,7 @@ module _ (store : Store) (places : Places) (key : List ℕ) (are : Stands store 
         })
 
   stay : (change : Change) (kept : ℕ) (were stored : List ℕ) → AreStored change kept were stored
-      → Stands (changed store key change) (placed places key change stored)
+      → Stands (changed store key change) (places_with places key change stored)
   stay keeps kept were stored is = are
   stay (puts bytes) kept were stored is = inserted bytes stored is.0
   stay removes kept were stored is = removed

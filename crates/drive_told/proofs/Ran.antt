@@ -12,9 +12,9 @@ use Rattle.serve_model.specs.Handed.{SessionRun, session_in, runs_in, AreServed}
 use Rattle.serve_model.specs.Runs.{Run, IsRun, run_text, run_texts, replies_told, lists_told, texts_told}
 use Rattle.serve_model.specs.Runs.{all_texts_told}
 use Rattle.serve_model.specs.Seats.{AreSpentSeats}
-use Rattle.transcript_model.specs.Lines.{Said}
+use Rattle.transcript_model.specs.Lines.{EventLine}
 use Rattle.transcript_model.specs.Sessions.{Sending, events_of}
-use Rattle.transcript_model.specs.Transcript.{IsStage}
+use Rattle.transcript_model.specs.Transcript.{IsStageShown}
 use Rattle.drive_told.specs.Driven.{OneDriven, IsDriven, AllDriven}
 use Rattle.drive_told.specs.Together.{untold}
 
@@ -28,7 +28,7 @@ replies_of run = (run.end.failed, run_texts run)
 abbrev sent_of : {W : Type 0} → OneDriven W → Bool × List (List ℕ)
 sent_of one = (one.end.failed, one.texts)
 
-module _ {W : Type 0} (sends : Sending W) (z : Sizes) (shards ring threshold : ℕ) (lines : List Said) where
+module _ {W : Type 0} (sends : Sending W) (z : Sizes) (shards ring threshold : ℕ) (lines : List EventLine) where
   abbrev pub Driven : ℕ → OneDriven W → Type 0
   Driven session one = IsDriven sends z shards ring threshold session (events_of session lines) one
 
@@ -144,6 +144,6 @@ module _ {W : Type 0} (sends : Sending W) (z : Sizes) (shards ring threshold : �
       subst (λ n. IsAt n (runs_from session (first ∷ each) all) (suc k) one) e rest
 
   pub all_stages : (session : ℕ) (each : List (OneDriven W)) (all : Drove session each)
-      → AllByRecursion (IsStage z) (map (λ (one : OneDriven W). one.stage) each)
+      → AllByRecursion (IsStageShown z) (map (λ (one : OneDriven W). one.stage) each)
   all_stages session [] all = tt
   all_stages session (one ∷ each) all = (all.0.stage_is, all_stages (session + 1) each all.1)

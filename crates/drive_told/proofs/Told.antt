@@ -18,10 +18,10 @@ use Rattle.schedule_text.specs.declared.line.Line.{Line}
 use Rattle.serve_model.specs.Handed.{SessionRun, session_in}
 use Rattle.serve_model.proofs.Places.{index_at, get_map}
 use Rattle.transcript_model.specs.Frames.{deeds_of}
-use Rattle.transcript_model.specs.Lines.{Said, line_of}
-use Rattle.transcript_model.specs.Sessions.{Sending, WireGrew, IsTold, events_of, texts_from, texts_of}
+use Rattle.transcript_model.specs.Lines.{EventLine, line_of}
+use Rattle.transcript_model.specs.Sessions.{Sending, WireGrew, IsRightSession, events_of, texts_from, texts_of}
 use Rattle.transcript_model.specs.Terms.{Terms}
-use Rattle.transcript_model.specs.Transcript.{Run, terms_of, AreTold, AreSent, IsToldBy}
+use Rattle.transcript_model.specs.Transcript.{DrivenRun, terms_of, SessionsAreRight, AreSent, IsToldBy}
 use Rattle.drive_told.specs.Driven.{OneDriven, IsDriven, AllDriven, terms_by}
 use Rattle.drive_told.specs.Together.{driven_run}
 use Rattle.drive_told.proofs.Lists.{behind_map, same_place, front_place}
@@ -43,7 +43,7 @@ commands_at [] k ran is = absurd (let no : ⊥ = cc in no)
 commands_at (first ∷ all) zero ran is = let same : first ≡ ran = cc in ap (λ (r : SessionRun). Some r.run.commands) same
 commands_at (first ∷ all) (suc k) ran is = commands_at all k ran is
 
-module _ {W : Type 0} (sends : Sending W) (z : Sizes) (shards ring threshold : ℕ) (lines : List Said)
+module _ {W : Type 0} (sends : Sending W) (z : Sizes) (shards ring threshold : ℕ) (lines : List EventLine)
     (each : List (OneDriven W)) (all : AllDriven sends z shards ring threshold 0 lines each) (past : List W)
     (schedule : List Line) (answers : map line_of lines ≡ schedule) (journal : List (List Entry)) (closed : End) where
   abbrev pub ends : List SessionEnd
@@ -61,7 +61,7 @@ module _ {W : Type 0} (sends : Sending W) (z : Sizes) (shards ring threshold : �
   abbrev pub commands : List (List Command)
   commands = all_commands (map session_in (runs_from sends z shards ring threshold lines 0 each all))
 
-  abbrev pub run : Run
+  abbrev pub run : DrivenRun
   run = driven_run z ring threshold commands ends journal closed
 
   -- a session's terms are those of the run
@@ -95,7 +95,8 @@ module _ {W : Type 0} (sends : Sending W) (z : Sizes) (shards ring threshold : �
 
   -- one of them, as the run has it
   record IsOne (session : ℕ) (one : OneDriven W) : Type 0 where
-    told : IsTold (terms_of run (own_of lists_in session) session one.end one.stage (slice_index wholes session))
+    told : IsRightSession
+        (terms_of run (own_of lists_in session) session one.end one.stage (slice_index wholes session))
         (events_of session lines)
     grew : WireGrew sends one.end.failed (slice_index wholes session)
         (texts_of (terms_of run (own_of lists_in session) session one.end [] (slice_index wholes session))) one.old
@@ -113,20 +114,20 @@ module _ {W : Type 0} (sends : Sending W) (z : Sizes) (shards ring threshold : �
       sym (index_at (λ (o : OneDriven W). o.whole) each session one there) in
       let own = terms_of run (own_of lists_in session) session one.end one.stage (slice_index wholes session) in
       record {
-        told = subst (λ (t : Terms). IsTold t (events_of session lines)) terms at.0.told;
+        told = subst (λ (t : Terms). IsRightSession t (events_of session lines)) terms at.0.told;
         grew = subst (λ (texts : List (List ℕ)). WireGrew sends one.end.failed (slice_index wholes session) texts
             one.old one.new) (same_texts own [] 0 (take one.end.replies own.commands))
             (subst (λ (p : ℕ × Terms). WireGrew sends one.end.failed p.0 (texts_of p.1) one.old one.new)
             (λ i. (whole_is i, terms i)) at.0.grew);
       }
 
-  pub told_are : AreTold run (own_of lists_in) stages_in wholes lines
+  pub told_are : SessionsAreRight run (own_of lists_in) stages_in wholes lines
   told_are session end stage end_is stage_is =
       let from = behind_map (λ (o : OneDriven W). o.end) each session end end_is in
       let other = behind_map (λ (o : OneDriven W). o.stage) each session stage stage_is in
       let same = same_place each session other.source from.source other.there from.there in
       let stage_of : from.source.stage ≡ stage = sym (ap (λ (o : OneDriven W). o.stage) same) ∙ other.is in
-      subst (λ (p : SessionEnd × List ℕ). IsTold (terms_of run (own_of lists_in session) session p.0 p.1
+      subst (λ (p : SessionEnd × List ℕ). IsRightSession (terms_of run (own_of lists_in session) session p.0 p.1
       (slice_index wholes session)) (events_of session lines)) (λ i. (from.is i, stage_of i))
       (one_at session from.source from.there).told
 

@@ -5,9 +5,9 @@ use Rattle.std.proofs.lemmas.List.{length-map}
 use Rattle.flake_base.specs.Growth.{Grew}
 use Rattle.flake_model.specs.Deed.{Deed}
 use Rattle.schedule_text.specs.declared.line.Line.{Line}
-use Rattle.transcript_model.specs.Lines.{Said}
+use Rattle.transcript_model.specs.Lines.{EventLine}
 use Rattle.transcript_model.specs.Sessions.{Sending, WireGrew, texts_of}
-use Rattle.transcript_model.specs.Transcript.{Run, IsToldBy, terms_of}
+use Rattle.transcript_model.specs.Transcript.{DrivenRun, IsToldBy, terms_of}
 use Rattle.transcript_model.proofs.Sourced.{sourced}
 use Rattle.drive_told.specs.Together.{AreTold, TranscriptTold}
 use Rattle.drive_told.proofs.Lists.{behind_map}
@@ -21,7 +21,8 @@ module _ {W : Type 0} (sends : Sending W) (tells : W → Option (List ℕ)) (so 
     behind = so failed _ grew.middle new grew.behind;
   }
 
-  abbrev told_to : (run : Run) (olds news : List W) (own : ℕ → List Deed) (schedule : List Line) (lines : List Said)
+  abbrev told_to : (run : DrivenRun) (olds news : List W) (own : ℕ → List Deed) (schedule : List Line)
+      (lines : List EventLine)
       → IsToldBy sends run olds news own schedule lines
       → IsToldBy Grew run (map tells olds) (map tells news) own schedule lines
   told_to run olds news own schedule lines by_own = record {

@@ -16,7 +16,7 @@ use Rattle.flake_base.specs.declared.session.End.TheVariants.{Clean}
 use Rattle.pin_core.specs.declared.class.Class.{Class}
 use Rattle.pin_core.specs.declared.class.Class.TheVariants.{Small, Large}
 use Rattle.pinned_pool.specs.Classes.{buffers_in}
-use Rattle.pinned_pool.specs.Ends.{end_of}
+use Rattle.pinned_pool.specs.Ends.{pool_end}
 use Rattle.pinned_pool.specs.Views.{view}
 use Rattle.flake_model.specs.Deed.{places_at, AreApart, IsLegal}
 use Rattle.flake_model.specs.Fragments.{fragments_of}
@@ -29,14 +29,14 @@ use Rattle.order_book.specs.Pages.{ShardList, shown_session}
 use Rattle.call_model.specs.Stock.{AreParts, IsStock, fragments_left}
 use Rattle.reply_planner.specs.Stages.{IsAbove, IsRising}
 use Rattle.serve_model.specs.Demand.{session_row}
-use Rattle.serve_model.specs.Handed.{HasRun}
+use Rattle.serve_model.specs.Handed.{SessionHasRun}
 use Rattle.serve_model.specs.Runs.{session_of, list_of}
 use Rattle.serve_model.specs.Seats.{IsSpentSeat}
-use Rattle.serve_model.specs.Worked.{setting, getting, key, bytes, set_input, get_input}
-use Rattle.transcript_model.specs.Sessions.{IsTold, WireGrew, events_of, texts_of}
-use Rattle.transcript_model.specs.Standing.{fresh}
+use Rattle.serve_model.specs.Worked.{setting, getting, key_a, bytes, set_input, get_input}
+use Rattle.transcript_model.specs.Sessions.{IsRightSession, WireGrew, events_of, texts_of}
+use Rattle.transcript_model.specs.Standing.{at_first}
 use Rattle.transcript_model.specs.Terms.{Terms}
-use Rattle.transcript_model.specs.Transcript.{IsStage}
+use Rattle.transcript_model.specs.Transcript.{IsStageShown}
 use Rattle.transcript_model.specs.Whole.{stage_from}
 use Rattle.transcript_model.proofs.Judge.{all_ok, last_of, all_right, ok, after, post_ok, post_after, gather_ok}
 use Rattle.transcript_model.proofs.Judge.{reap_ok, fits, none_fits, are_segs, is_seg, all_buffers, is_buffer, is_small}
@@ -86,16 +86,16 @@ closed = record {
 key_is : (q k : List ℕ) → eq_by_cmp (slice_cmp nat_cmp) q k ≡ true → q ≡ k
 key_is q k is = (bytes_decides q k).0 (texts_ties q k ∙ is)
 
-get_own : (v : List ℕ) → finite.get (finite.insert (finite.empty {R = slice_cmp nat_cmp}) key v) key ≡ Some v
-get_own v = finite.get-insert nat_list_cmp_total finite.empty key v key
+get_own : (v : List ℕ) → finite.get (finite.insert (finite.empty {R = slice_cmp nat_cmp}) key_a v) key_a ≡ Some v
+get_own v = finite.get-insert nat_list_cmp_total finite.empty key_a v key_a
 
 placed_at : (k : List ℕ)
-    → places_at (finite.insert finite.empty key place) k ≡ cond (eq_by_cmp (slice_cmp nat_cmp) k key) place []
+    → places_at (finite.insert finite.empty key_a place) k ≡ cond (eq_by_cmp (slice_cmp nat_cmp) k key_a) place []
 placed_at k =
     ap (λ (o : Option (List ℕ)). unwrap_or o [])
-    (finite.get-insert nat_list_cmp_total finite.empty key place k
-    ∙ ap (cond (eq_by_cmp (slice_cmp nat_cmp) k key) (Some place)) (finite.get-empty (slice_cmp nat_cmp) k))
-    ∙ choose (eq_by_cmp (slice_cmp nat_cmp) k key) where
+    (finite.get-insert nat_list_cmp_total finite.empty key_a place k
+    ∙ ap (cond (eq_by_cmp (slice_cmp nat_cmp) k key_a) (Some place)) (finite.get-empty (slice_cmp nat_cmp) k))
+    ∙ choose (eq_by_cmp (slice_cmp nat_cmp) k key_a) where
       choose : (here : Bool) → unwrap_or (cond here (Some place) None) [] ≡ cond here place []
       choose true = refl
       choose false = refl
@@ -104,17 +104,17 @@ single : (x n a : ℕ) → slice_get (x ∷ []) n ≡ Some a → n ≡ 0
 single x zero a is = refl
 single x (suc n) a is = absurd (let no : ⊥ = cc in no)
 
-apart : AreApart (finite.insert finite.empty key place)
+apart : AreApart (finite.insert finite.empty key_a place)
 apart k other n m address is there =
-    both_there (eq_by_cmp (slice_cmp nat_cmp) k key) (eq_by_cmp (slice_cmp nat_cmp) other key) refl refl
+    both_there (eq_by_cmp (slice_cmp nat_cmp) k key_a) (eq_by_cmp (slice_cmp nat_cmp) other key_a) refl refl
     (subst (λ l. slice_get l n ≡ Some address) (placed_at k) is)
     (subst (λ l. slice_get l m ≡ Some address) (placed_at other) there) where
-      both_there : (here elsewhere : Bool) → eq_by_cmp (slice_cmp nat_cmp) k key ≡ here
-          → eq_by_cmp (slice_cmp nat_cmp) other key ≡ elsewhere
+      both_there : (here elsewhere : Bool) → eq_by_cmp (slice_cmp nat_cmp) k key_a ≡ here
+          → eq_by_cmp (slice_cmp nat_cmp) other key_a ≡ elsewhere
           → slice_get (cond here place []) n ≡ Some address → slice_get (cond elsewhere place []) m ≡ Some address
           → (k ≡ other) × (n ≡ m)
       both_there true true k_is other_is is there = (
-        key_is k key k_is ∙ sym (key_is other key other_is),
+        key_is k key_a k_is ∙ sym (key_is other key_a other_is),
         single 1179648 n address is ∙ sym (single 1179648 m address there),
       )
       both_there true false k_is other_is is there = absurd (let no : ⊥ = cc in no)
@@ -126,7 +126,7 @@ legal = (
     record { answered = refl; found_is = refl; first_is = refl; stored_is = (refl, refl); apart = apart },
     (
       record {
-        answered = ap (λ (o : Option (List ℕ)). answer_on o (part.get key)) (sym (get_own bytes));
+        answered = ap (λ (o : Option (List ℕ)). answer_on o (part.get key_a)) (sym (get_own bytes));
         found_is = ap (λ (o : Option (List ℕ)). unwrap_or o []) (sym (get_own place));
         first_is = refl;
         stored_is = refl;
@@ -142,21 +142,21 @@ no_length : {A : Type 0} (xs : List A) → length xs ≡ 0 → xs ≡ []
 no_length [] e = refl
 no_length (x ∷ xs) e = absurd (let no : ⊥ = omega arith in no)
 
-one_entry : finite.entries (finite.insert (finite.empty {R = slice_cmp nat_cmp}) key bytes) ≡ (key, bytes) ∷ []
+one_entry : finite.entries (finite.insert (finite.empty {R = slice_cmp nat_cmp}) key_a bytes) ≡ (key_a, bytes) ∷ []
 one_entry =
     let none : finite.entries (finite.empty {X = List ℕ} {R = slice_cmp nat_cmp}) ≡ [] =
     no_length _ (sym (finite.len-entries finite.empty) ∙ finite.len-empty (slice_cmp nat_cmp) (List ℕ)) in
-    finite.entries-insert nat_list_cmp_total finite.empty key bytes
-    ∙ ap (finite.put (slice_cmp nat_cmp) key bytes) none
+    finite.entries-insert nat_list_cmp_total finite.empty key_a bytes
+    ∙ ap (finite.put (slice_cmp nat_cmp) key_a bytes) none
 
 one_fragment : fragments_left shards ≡ (1179648, 1) ∷ []
 one_fragment =
-    let places = finite.insert (finite.empty {R = slice_cmp nat_cmp}) key place in
+    let places = finite.insert (finite.empty {R = slice_cmp nat_cmp}) key_a place in
     ap
     (λ (es : List (List ℕ × List ℕ)).
     flat_map (λ (e : List ℕ × List ℕ). zip (places_at places e.0) (map length (fragments_of e.1))) es ++ [])
     one_entry
-    ∙ ap (λ (addresses : List ℕ). (zip addresses (1 ∷ []) ++ []) ++ []) (placed_at key)
+    ∙ ap (λ (addresses : List ℕ). (zip addresses (1 ∷ []) ++ []) ++ []) (placed_at key_a)
 
 stock : IsStock pool shards store
 stock = record {
@@ -179,7 +179,7 @@ parts = record {
 no_looks : (b : ℕ) → 0 < 0 → ⊥
 no_looks b some = omega (arith, some)
 
-were : WereClosed books pool shards lists (journal_of shards) main store last (end_of pool last)
+were : WereClosed books pool shards lists (journal_of shards) main store last (pool_end pool last)
 were = record {
   parts = parts;
   book = closed;
@@ -283,7 +283,8 @@ get_seat = record {
   returned = omega arith;
 }
 
-set_ran : HasRun pool 1 0 (Some set_input) (Some []) set_run.end (list_of 1 0 set_run) (view [] 1 set_claims [] 0 [])
+set_ran : SessionHasRun pool 1 0 (Some set_input) (Some []) set_run.end (list_of 1 0 set_run)
+    (view [] 1 set_claims [] 0 [])
     (codes "+OK\r\n" ∷ [])
 unfolding digits
 set_ran = record {
@@ -296,7 +297,8 @@ set_ran = record {
   texts_are = refl;
 }
 
-get_ran : HasRun pool 1 1 (Some get_input) (Some []) get_run.end (list_of 1 1 get_run) (view [] 1 get_claims [] 0 [])
+get_ran : SessionHasRun pool 1 1 (Some get_input) (Some []) get_run.end (list_of 1 1 get_run)
+    (view [] 1 get_claims [] 0 [])
     (codes "$1\r\nx\r\n" ∷ [])
 unfolding digits
 get_ran = record {
@@ -322,7 +324,7 @@ stage_small : (first n : ℕ) → first + n ≤ 257 → Each (λ buffer. buffer 
 stage_small first zero within = tt
 stage_small first (suc n) within = (omega (arith, within), stage_small (first + 1) n (omega (arith, within)))
 
-set_stage : IsStage pool (stage_from 0)
+set_stage : IsStageShown pool (stage_from 0)
 set_stage = record {
   buffers = range_with_len 0 128;
   as_many = refl;
@@ -331,7 +333,7 @@ set_stage = record {
   addresses = refl;
 }
 
-get_stage : IsStage pool (stage_from 128)
+get_stage : IsStageShown pool (stage_from 128)
 get_stage = record {
   buffers = range_with_len 128 128;
   as_many = refl;
@@ -352,31 +354,31 @@ set_terms = terms_by Grew pool 1 1160 1 0 (setting ∷ []) set_one
 abbrev get_terms : Terms
 get_terms = terms_by Grew pool 1 1160 1 1 (getting ∷ []) get_one
 
-set_passes : all_ok set_terms fresh (events_of 0 lines) ≡ true
+set_passes : all_ok set_terms at_first (events_of 0 lines) ≡ true
 unfolding digits all_ok ok after post_ok post_after gather_ok reap_ok fits none_fits are_segs is_seg all_buffers
     is_buffer is_small is_large
 set_passes = refl
 
-get_passes : all_ok get_terms fresh (events_of 1 lines) ≡ true
+get_passes : all_ok get_terms at_first (events_of 1 lines) ≡ true
 unfolding digits all_ok ok after post_ok post_after fits none_fits are_segs is_seg all_buffers is_buffer is_small
     is_large
 get_passes = refl
 
-set_told : IsTold set_terms (events_of 0 lines)
+set_told : IsRightSession set_terms (events_of 0 lines)
 unfolding last_of after post_after
 set_told = record {
   last = _;
-  right = all_right set_terms fresh (events_of 0 lines) set_passes;
+  right = all_right set_terms at_first (events_of 0 lines) set_passes;
   served = refl;
   ended = refl;
   sent = refl;
 }
 
-get_told : IsTold get_terms (events_of 1 lines)
+get_told : IsRightSession get_terms (events_of 1 lines)
 unfolding last_of after post_after
 get_told = record {
   last = _;
-  right = all_right get_terms fresh (events_of 1 lines) get_passes;
+  right = all_right get_terms at_first (events_of 1 lines) get_passes;
   served = refl;
   ended = refl;
   sent = refl;
@@ -419,5 +421,5 @@ worked_drive = record {
   driven = are;
   closed = were;
   have = together Grew books pool 1160 1 schedule lines both (None ∷ []) shards lists (journal_of shards) main store
-      last (end_of pool last) refl are were;
+      last (pool_end pool last) refl are were;
 }

@@ -2,8 +2,8 @@
 use Rattle.std.specs.Prelude.{◌≡◌, List, length}
 use Rattle.flake_base.specs.declared.journal.Entry.{Entry}
 use Rattle.pin_core.specs.declared.sizes.Sizes as pool_sizes
-use Rattle.pinned_pool.specs.Ends.{End, LooksClaimed, end_of}
-use Rattle.pinned_pool.specs.Moves.{joined}
+use Rattle.pinned_pool.specs.Ends.{End, LooksClaimed, pool_end}
+use Rattle.pinned_pool.specs.Moves.{joined_views}
 use Rattle.pinned_pool.specs.Views.{IsLoose}
 use Rattle.pinned_pool.specs.declared.view.View.{View}
 use Rattle.order_book.specs.Closed.{AreClosed}
@@ -18,7 +18,7 @@ pub record WereClosed (books : book_sizes.Sizes) (z : pool_sizes.Sizes) (shards 
   pub parts : AreParts z books.shards shards journal store
   pub book : AreClosed books shards lists
   pub as_many : length lists ≡ books.sessions
-  pub last_is : last ≡ joined main store
+  pub last_is : last ≡ joined_views main store
   pub loose : IsLoose last
   pub looked : LooksClaimed last
-  pub closed_is : closed ≡ end_of z last
+  pub closed_is : closed ≡ pool_end z last

@@ -6,12 +6,12 @@ use Rattle.pin_core.specs.declared.sizes.Sizes.{Sizes}
 use Rattle.pinned_pool.specs.declared.view.View.{View}
 use Rattle.order_book.specs.Closed.{own_deeds}
 use Rattle.order_book.specs.Pages.{SessionList}
-use Rattle.serve_model.specs.Handed.{HasRun}
+use Rattle.serve_model.specs.Handed.{SessionHasRun}
 use Rattle.serve_model.specs.Seats.{HasAll, IsSpare}
-use Rattle.transcript_model.specs.Lines.{Event, Said}
-use Rattle.transcript_model.specs.Sessions.{Sending, WireGrew, IsTold, events_of, texts_of}
+use Rattle.transcript_model.specs.Lines.{LineEvent, EventLine}
+use Rattle.transcript_model.specs.Sessions.{Sending, WireGrew, IsRightSession, events_of, texts_of}
 use Rattle.transcript_model.specs.Terms.{Terms}
-use Rattle.transcript_model.specs.Transcript.{IsStage}
+use Rattle.transcript_model.specs.Transcript.{IsStageShown}
 
 -- what comes of one session: its end, its list, its seat, its replies' texts, the addresses of its staging buffers, how
 -- many replies were sent whole, and its wire before and behind it
@@ -43,21 +43,22 @@ module _ {W : Type 0} (sends : Sending W) (z : Sizes) (shards ring threshold : �
   }
 
   -- The session ran, what was said of it is right by its own list, and its wire was sent the texts of its replies.
-  pub record IsDriven (session : ℕ) (events : List Event) (one : OneDriven W) : Type 0 where
-    pub ran : HasRun z shards session one.input one.left one.end one.list one.seat one.texts
-    pub stage_is : IsStage z one.stage
-    pub told : IsTold (terms_by session ran.run.commands one) events
+  pub record IsDriven (session : ℕ) (events : List LineEvent) (one : OneDriven W) : Type 0 where
+    pub ran : SessionHasRun z shards session one.input one.left one.end one.list one.seat one.texts
+    pub stage_is : IsStageShown z one.stage
+    pub told : IsRightSession (terms_by session ran.run.commands one) events
     pub grew : WireGrew sends one.end.failed one.whole (texts_of (terms_by session ran.run.commands one)) one.old
         one.new
 
   -- so did each, from a number on
-  abbrev pub AllDriven : ℕ → List Said → List (OneDriven W) → Type 0
+  abbrev pub AllDriven : ℕ → List EventLine → List (OneDriven W) → Type 0
   AllDriven session lines [] = Unit {0}
   AllDriven session lines (one ∷ others) =
       IsDriven session (events_of session lines) one × AllDriven (session + 1) lines others
 
   -- All sessions did; the lists and the seat are theirs, but for a seat that has nothing.
-  pub record AreDriven (lines : List Said) (each : List (OneDriven W)) (lists : List SessionList) (main : View) : Type 0
+  pub record AreDriven (lines : List EventLine) (each : List (OneDriven W)) (lists : List SessionList)
+      (main : View) : Type 0
     where
       pub all : AllDriven 0 lines each
       pub lists_are : lists ≡ map (λ (one : OneDriven W). one.list) each

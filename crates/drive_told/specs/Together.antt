@@ -15,15 +15,16 @@ use Rattle.order_book.specs.declared.rule.Sizes as book_sizes
 use Rattle.schedule_text.specs.declared.line.Line.{Line}
 use Rattle.serve_model.specs.Replies.{all_replies}
 use Rattle.serve_model.specs.Shown.{WasRun}
-use Rattle.transcript_model.specs.Lines.{Said, line_of}
+use Rattle.transcript_model.specs.Lines.{EventLine, line_of}
 use Rattle.transcript_model.specs.Sessions.{Sending}
 use Rattle.transcript_model.specs.Sources.{AreSources}
-use Rattle.transcript_model.specs.Transcript.{Run, AreAllApart, final_places, IsToldBy, IsTranscript}
+use Rattle.transcript_model.specs.Transcript.{DrivenRun, AreAllApart, transcript_places, IsToldBy, IsTranscript}
 use Rattle.drive_told.specs.Closed.{WereClosed}
 use Rattle.drive_told.specs.Driven.{OneDriven, AreDriven}
 
 -- the run of a transcript
-abbrev pub driven_run : pool_sizes.Sizes → ℕ → ℕ → List (List Command) → List SessionEnd → List (List Entry) → End → Run
+abbrev pub driven_run : pool_sizes.Sizes → ℕ → ℕ → List (List Command) → List SessionEnd → List (List Entry) → End
+    → DrivenRun
 driven_run z ring threshold sessions ends journal closed = record {
   sizes = z;
   ring = ring;
@@ -42,7 +43,7 @@ untold ends = map (λ (_ : SessionEnd). None) ends
 module _ {W : Type 0} (sends : Sending W) where
   -- The inputs were served as a whole, the returned journal gives the texts of the replies, and what was said is right
   -- by the sessions' own deeds, which are those of the shards' histories.
-  pub record HaveDriven (z : pool_sizes.Sizes) (ring threshold : ℕ) (schedule : List Line) (lines : List Said)
+  pub record HaveDriven (z : pool_sizes.Sizes) (ring threshold : ℕ) (schedule : List Line) (lines : List EventLine)
       (each : List (OneDriven W)) (past : List W) (journal : List (List Entry)) (closed : End) : Type 0 where
     pub ran : WasRun z (map (λ (one : OneDriven W). one.input) each) (map (λ (one : OneDriven W). one.left) each)
         (map (λ (one : OneDriven W). one.end) each) journal (untold (map (λ (one : OneDriven W). one.end) each))
@@ -58,13 +59,13 @@ module _ {W : Type 0} (sends : Sending W) where
         (map (λ (one : OneDriven W). one.new) each ++ past) own schedule lines
     pub sources : AreSources (driven_run z ring threshold (all_commands ran.served.sessions)
         (map (λ (one : OneDriven W). one.end) each) journal closed) shards own told_by.stages
-    pub apart : AreAllApart (final_places (driven_run z ring threshold (all_commands ran.served.sessions)
+    pub apart : AreAllApart (transcript_places (driven_run z ring threshold (all_commands ran.served.sessions)
         (map (λ (one : OneDriven W). one.end) each) journal closed) lines)
 
   -- driven sessions and what was closed give that; wires past theirs are as they were
   abbrev pub DrivenTogether : Type 0
   DrivenTogether = (books : book_sizes.Sizes) (z : pool_sizes.Sizes) (ring threshold : ℕ) (schedule : List Line)
-      (lines : List Said) (each : List (OneDriven W)) (past : List W) (shards : List ShardList)
+      (lines : List EventLine) (each : List (OneDriven W)) (past : List W) (shards : List ShardList)
       (lists : List SessionList) (journal : List (List Entry)) (main store last : View) (closed : End)
       → map line_of lines ≡ schedule → AreDriven sends z books.shards ring threshold lines each lists main
       → WereClosed books z shards lists journal main store last closed
@@ -77,7 +78,7 @@ module _ {W : Type 0} (sends : Sending W) where
 
   -- what is right by the sessions' own deeds is a transcript of wires that tell what they are sent
   abbrev pub TranscriptTold : Type 0
-  TranscriptTold = (tells : W → Option (List ℕ)) → AreTold tells → (run : Run) (olds news : List W)
-      (own : ℕ → List Deed) (schedule : List Line) (lines : List Said) (shards : List (List Deed))
+  TranscriptTold = (tells : W → Option (List ℕ)) → AreTold tells → (run : DrivenRun) (olds news : List W)
+      (own : ℕ → List Deed) (schedule : List Line) (lines : List EventLine) (shards : List (List Deed))
       (by_own : IsToldBy sends run olds news own schedule lines) → AreSources run shards own by_own.stages
-      → AreAllApart (final_places run lines) → IsTranscript run (map tells olds) (map tells news) schedule lines
+      → AreAllApart (transcript_places run lines) → IsTranscript run (map tells olds) (map tells news) schedule lines

@@ -8,20 +8,20 @@ use Rattle.flake_model.specs.Command.{Command}
 use Rattle.flake_model.specs.Journal.{shard_of}
 use Rattle.flake_model.specs.Store as part
 use Rattle.pin_core.specs.declared.sizes.Sizes as pool_sizes
-use Rattle.pinned_pool.specs.Ends.{end_of}
-use Rattle.pinned_pool.specs.Moves.{joined}
+use Rattle.pinned_pool.specs.Ends.{pool_end}
+use Rattle.pinned_pool.specs.Moves.{joined_views}
 use Rattle.pinned_pool.specs.Views.{view}
 use Rattle.pinned_pool.specs.declared.view.View.{View}
 use Rattle.order_book.specs.Closed.{journal_of}
 use Rattle.order_book.specs.Pages.{Ranked, Page, page, ShardList, SessionList, shown_shard}
 use Rattle.order_book.specs.declared.rule.Sizes as book_sizes
-use Rattle.call_model.specs.Outcomes.{Done, entry_at, deed_of}
+use Rattle.call_model.specs.Outcomes.{PartOutcome, entry_at, deed_of}
 use Rattle.reply_layout.specs.Layout.{segment}
 use Rattle.schedule_text.specs.declared.line.Line.{Line}
 use Rattle.schedule_text.specs.declared.line.Line.TheVariants.{Call, Gather, Reap}
 use Rattle.serve_model.specs.Runs.{Run, list_of}
-use Rattle.serve_model.specs.Worked.{setting, getting, key, bytes, set_input, get_input}
-use Rattle.transcript_model.specs.Lines.{Said, posted, sent, reaped, line_of}
+use Rattle.serve_model.specs.Worked.{setting, getting, key_a, bytes, set_input, get_input}
+use Rattle.transcript_model.specs.Lines.{EventLine, posted, sent, reaped, line_of}
 use Rattle.transcript_model.specs.Whole.{stage_from}
 use Rattle.transcript_model.specs.Worked.{one}
 use Rattle.drive_told.specs.Closed.{WereClosed}
@@ -38,15 +38,15 @@ books = record { shards = 1; sessions = 2 }
 abbrev pub place : List ℕ
 place = 1179648 ∷ []
 
-abbrev pub was_set : Done
+abbrev pub was_set : PartOutcome
 was_set = record { answer = part.done; found = []; first = 0; stored = place }
 
-abbrev pub was_found : Done
+abbrev pub was_found : PartOutcome
 was_found = record { answer = part.value bytes; found = place; first = 0; stored = [] }
 
 -- a session that was asked one command, in so many bytes, and was left behind it
-abbrev pub asked : ℕ → Command → Done → Run
-asked taken command done = record {
+abbrev pub left_after_one : ℕ → Command → PartOutcome → Run
+left_after_one taken command done = record {
   commands = command ∷ [];
   calls = (Some done ∷ []) ∷ [];
   behind = [];
@@ -55,10 +55,10 @@ asked taken command done = record {
 }
 
 abbrev pub set_run : Run
-set_run = asked 27 setting was_set
+set_run = left_after_one 27 setting was_set
 
 abbrev pub get_run : Run
-get_run = asked 20 getting was_found
+get_run = left_after_one 20 getting was_found
 
 -- the buffers that the first session claimed, and the second one
 abbrev pub set_claims : List ℕ
@@ -90,15 +90,15 @@ both =
 -- the book: both deeds in the shard, in the order of their ranks
 abbrev pub set_deed : Ranked
 set_deed = record {
-  deed = deed_of (entry_at 0 0 0) (part.set part.always false key bytes) was_set;
-  shard = shard_of 1 key;
+  deed = deed_of (entry_at 0 0 0) (part.set part.always false key_a bytes) was_set;
+  shard = shard_of 1 key_a;
   rank = 1;
 }
 
 abbrev pub get_deed : Ranked
 get_deed = record {
-  deed = deed_of (entry_at 1 0 0) (part.get key) was_found;
-  shard = shard_of 1 key;
+  deed = deed_of (entry_at 1 0 0) (part.get key_a) was_found;
+  shard = shard_of 1 key_a;
   rank = 2;
 }
 
@@ -122,12 +122,12 @@ abbrev pub main : View
 main = view [] 3 (set_claims ++ get_claims) [] 0 []
 
 abbrev pub last : View
-last = joined main store
+last = joined_views main store
 
 abbrev pub schedule : List Line
 schedule = Call 0 ∷ Gather 0 ∷ Reap 0 ∷ Call 1 ∷ []
 
-abbrev pub lines : List Said
+abbrev pub lines : List EventLine
 lines =
     record { session = 0; event = posted 0 0 (one 1048576 5) (one 1179648 1) }
     ∷ record { session = 0; event = sent 0 5 }
@@ -142,5 +142,5 @@ lines =
 pub record WorkedDrive : Type 0 where
   pub answers : map line_of lines ≡ schedule
   pub driven : AreDriven Grew pool books.shards 1160 1 lines both lists main
-  pub closed : WereClosed books pool shards lists (journal_of shards) main store last (end_of pool last)
-  pub have : HaveDriven Grew pool 1160 1 schedule lines both (None ∷ []) (journal_of shards) (end_of pool last)
+  pub closed : WereClosed books pool shards lists (journal_of shards) main store last (pool_end pool last)
+  pub have : HaveDriven Grew pool 1160 1 schedule lines both (None ∷ []) (journal_of shards) (pool_end pool last)

@@ -1,5 +1,6 @@
 -- What is known of a reader or a writer, over several calls; windows of a list.
-use Rattle.std.proofs.Common.{◌≡◌, ℕ, ◌+◌, ◌-◌, ◌≤◌, List, [], ◌++◌, length, take, drop, slice_range, Option, Some, None, refl, sym, ap, ◌∙◌, arith, append_assoc}
+use Rattle.std.proofs.Common.{◌≡◌, ℕ, ◌+◌, ◌-◌, ◌≤◌, List, [], ◌++◌, length, take, drop, slice_range, Option, Some}
+use Rattle.std.proofs.Common.{None, refl, sym, ap, ◌∙◌, arith, append_assoc}
 use Rattle.std.proofs.lemmas.List.{append-nil, take-append-drop, take_all, drop-take, drop-drop, length-drop}
 use Rattle.std.specs.Io.KnownBytes.{Keeps, Appends, Consumes}
 use lib.Seq.{take-add}
@@ -32,7 +33,8 @@ Appends-Keeps (Some xs) None c bytes first then = absurd first
 Appends-Keeps (Some xs) (Some ys) None bytes first then = then
 Appends-Keeps (Some xs) (Some ys) (Some zs) bytes first then = then ∙ first
 
-pub Appends-trans : (a b c : Option (List ℕ)) (one two : List ℕ) → Appends a b one → Appends b c two → Appends a c (one ++ two)
+pub Appends-trans : (a b c : Option (List ℕ)) (one two : List ℕ) → Appends a b one → Appends b c two
+    → Appends a c (one ++ two)
 Appends-trans None b c one two first then = tt
 Appends-trans (Some xs) None c one two first then = absurd first
 Appends-trans (Some xs) (Some ys) None one two first then = then
@@ -40,7 +42,8 @@ Appends-trans (Some xs) (Some ys) (Some zs) one two first then =
     then ∙ ap (λ (t : List ℕ). t ++ two) first ∙ append_assoc xs one two
 
 -- bytes written further on
-pub take_further : (bytes : List ℕ) (count more : ℕ) → take (count + more) bytes ≡ take count bytes ++ take more (slice_range bytes count (length bytes))
+pub take_further : (bytes : List ℕ) (count more : ℕ) → take (count + more) bytes ≡ take count bytes
+    ++ take more (slice_range bytes count (length bytes))
 take_further bytes count more =
     let rest : slice_range bytes count (length bytes) ≡ drop count bytes
     = take_all (length bytes - count) (drop count bytes) (omega (arith, length-drop count bytes)) in
@@ -48,7 +51,8 @@ take_further bytes count more =
 
 pub Appends-further : (a b c : Option (List ℕ)) (bytes : List ℕ) (count more : ℕ) → Appends a b (take count bytes)
     → Appends b c (take more (slice_range bytes count (length bytes))) → Appends a c (take (count + more) bytes)
-Appends-further a b c bytes count more first then = rw (take_further bytes count more) (Appends-trans a b c (take count bytes) _ first then)
+Appends-further a b c bytes count more first then = rw (take_further bytes count more)
+    (Appends-trans a b c (take count bytes) _ first then)
 
 -- a window whose front was given
 pub given_front : (xs : List ℕ) (start end n : ℕ) → start + n ≤ end

@@ -9,7 +9,7 @@ use std::io::Write;
 use std::marker::Model;
 
 /// The most bytes that wait.
-const ROOM: usize = 65_536;
+const ROOM: usize = 262_144;
 
 /// Room for bytes that wait, of which those before `start` are written, and how many were written in all.
 #[derive(Drop)]
@@ -28,16 +28,16 @@ impl Model for Unwritten {
     ghost view = { λ u. record {
       waiting = drop u.start u.room.items;
       written = u.written;
-      free = 65536 - length u.room.items;
+      free = 262144 - length u.room.items;
     } };
 
     ghost invariant = { λ u. (u.start ≤ length u.room.items)
-        × (length u.room.items ≤ 65536) × (65536 ≤ vec_capacity u.room) };
+        × (length u.room.items ≤ 262144) × (262144 ≤ vec_capacity u.room) };
 }
 
 impl Unwritten {
     pub fn new(alloc: Global) -> Result<Self, Memory>
-        ensures { IfOk result (λ unwritten. unwritten ≡ record { waiting = []; written = 0; free = 65536 }) }
+        ensures { IfOk result (λ unwritten. unwritten ≡ record { waiting = []; written = 0; free = 262144 }) }
     {
         let room = Vec::with_capacity(alloc, ROOM)?;
         Ok(Unwritten {
@@ -88,7 +88,7 @@ impl Unwritten {
     /// Writes what waits. What can't be written still waits.
     pub fn write_out<F: Write>(&mut self, writer: &mut F) -> Result<(), Failed>
         ensures puts { Puts [] (F.contents writer.old) self.old (F.contents writer.new) self.new }
-        ensures ok { OnOk result ((self.new.waiting ≡ []) × (self.new.free ≡ 65536)) }
+        ensures ok { OnOk result ((self.new.waiting ≡ []) × (self.new.free ≡ 262144)) }
     {
         let count = write_front(writer, &self.room[self.start..]);
         self.start += count;

@@ -9,7 +9,7 @@ use std::alloc::Global;
 use std::fs;
 use std::rt::Files;
 
-/// A file that is made at the first put. Up to 64 KiB wait for a flush.
+/// A file that is made at the first put. Up to 256 KiB wait for a flush.
 #[derive(Drop)]
 pub struct FileWire<R: Files> {
     rt: R,

@@ -6,7 +6,7 @@ use Rattle.std.specs.List.{AllByRecursion}
 use Rattle.flake_base.specs.declared.session.End.TheVariants.{Clean, Protocol, Truncated}
 use Rattle.flake_model.specs.Resp.{Parses, array}
 use Rattle.flake_model.specs.Session.{IsSession}
-use Rattle.flake_model.specs.Sessions.{set_and_get, ping_and_front, get_two, sessions}
+use Rattle.flake_model.specs.Sessions.{set_and_get, ping_and_front, get_two, worked_sessions}
 use Rattle.flake_model.proofs.Vectors.{vectors_parse}
 
 two_parsed : Parses get_two ((codes "MGET" ∷ codes "a" ∷ codes "b" ∷ []) ∷ []) Clean
@@ -21,7 +21,7 @@ two_parsed = (
   },
 )
 
-pub sessions_are : AllByRecursion IsSession sessions
+pub sessions_are : AllByRecursion IsSession worked_sessions
 sessions_are = (
   record {
     gave = set_and_get;

@@ -4,8 +4,8 @@ use Rattle.flake_base.specs.declared.journal.Entry.{Entry}
 use Rattle.flake_base.specs.declared.session.End.{End}
 use Rattle.flake_base.specs.declared.session.SessionEnd.{SessionEnd}
 
-abbrev pub ended : End → ℕ → ℕ → SessionEnd
-ended end taken replies = record { end = end; taken = taken; replies = replies; failed = false }
+abbrev pub refused_end : End → ℕ → ℕ → SessionEnd
+refused_end end taken replies = record { end = end; taken = taken; replies = replies; failed = false }
 
 -- eight shards that did nothing
 abbrev pub nothing_done : List (List Entry)

@@ -8,14 +8,14 @@ use Rattle.flake_model.specs.Reply.{reply_text}
 use Rattle.flake_model.specs.OneThread.{replies_on}
 
 -- a byte in front of words: a space ends a word
-abbrev pub with_byte : ℕ → Words → Words
-with_byte byte [] = []
-with_byte byte (word ∷ words) = if byte == 32 then [] ∷ word ∷ words else (byte ∷ word) ∷ words
+abbrev pub with_word_byte : ℕ → Words → Words
+with_word_byte byte [] = []
+with_word_byte byte (word ∷ words) = if byte == 32 then [] ∷ word ∷ words else (byte ∷ word) ∷ words
 
 -- the words between the spaces of a line
 abbrev pub line_words : List ℕ → Words
 line_words [] = [] ∷ []
-line_words (byte ∷ bytes) = with_byte byte (line_words bytes)
+line_words (byte ∷ bytes) = with_word_byte byte (line_words bytes)
 
 pub record Row : Type 0 where
   -- a request a line
@@ -26,8 +26,8 @@ abbrev pub row : List (List ℕ) → List ℕ → Row
 row lines sent = record { lines = lines; sent = sent }
 
 -- what is sent for requests, from the empty store on
-abbrev pub sent_by : List Words → List ℕ
-sent_by requests = flat_map reply_text (replies_on finite.empty (map command_of requests))
+abbrev pub replies_text : List Words → List ℕ
+replies_text requests = flat_map reply_text (replies_on finite.empty (map command_of requests))
 
 abbrev pub rows : List Row
 rows =

@@ -19,9 +19,9 @@ pub record Session : Type 0 where
   pub begun : ℕ
 
 -- these are the bytes, where bytes are told
-abbrev pub IsTold : Option (List ℕ) → List ℕ → Type 0
-IsTold None bytes = Unit {0}
-IsTold (Some told) bytes = told ≡ bytes
+abbrev pub AreKnownBytes : Option (List ℕ) → List ℕ → Type 0
+AreKnownBytes None bytes = Unit {0}
+AreKnownBytes (Some told) bytes = told ≡ bytes
 
 -- a failed read, want of memory or a schedule stopped the session, whatever its input is
 abbrev pub is_stopped : End → Bool
@@ -73,8 +73,8 @@ pub record IsSession (session : Session) : Type 0 where
   -- the bytes that its source gave, and those that it has left: the input, where it is told
   pub gave : List ℕ
   pub left : List ℕ
-  pub input_is : IsTold session.input (gave ++ left)
-  pub left_is : IsTold session.left left
+  pub input_is : AreKnownBytes session.input (gave ++ left)
+  pub left_is : AreKnownBytes session.left left
   -- what the given bytes mean
   pub requests : List Words
   pub shown : End

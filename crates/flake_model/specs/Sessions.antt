@@ -31,8 +31,8 @@ ping_and_front = codes "*1\r\n$4\r\nPING\r\n*2\r\n$3\r\nGE"
 abbrev pub get_two : List ℕ
 get_two = codes "*3\r\n$4\r\nMGET\r\n$1\r\na\r\n$1\r\nb\r\n"
 
-abbrev pub sessions : List Session
-sessions =
+abbrev pub worked_sessions : List Session
+worked_sessions =
     session set_and_get [] set_get Clean 47 2 0
     ∷ session ping_and_front [] (ping ∷ []) (Truncated 14) 24 1 0
     -- an error is answered, whatever is behind it

@@ -1,9 +1,10 @@
 -- What a run of `check` says, by what it found.
-use Rattle.std.proofs.Common.{◌≡◌, inl, inr, ℕ, List, Option, Some, None, IsNone, Result, IfOk, IfErr, refl, sym, ◌∙◌, subst, ⊎_elim}
+use Rattle.std.proofs.Common.{◌≡◌, inl, inr, ℕ, List, Option, Some, None, IsNone, Result, IfOk, IfErr, refl, sym, ◌∙◌}
+use Rattle.std.proofs.Common.{subst, ⊎_elim}
 use Rattle.flake_base.specs.Causes.{Rose}
 use Rattle.flake_base.specs.Told.{HostTold, WireTold}
 use Rattle.check_files.specs.Answer.{FailedBy, HasCauseIn, WereJudged}
-use Rattle.check_files.specs.File.{are_there, faults_of, lefts_of}
+use Rattle.check_files.specs.File.{are_there, file_faults, file_lefts}
 use Rattle.check_files.specs.Named.{Named, NoneFailed}
 use Rattle.check_files.specs.declared.error.CheckError.{CheckError}
 use Rattle.check_files.specs.declared.file.File.{File}
@@ -12,18 +13,20 @@ use Rattle.replay_check.specs.declared.verdict.Verdict.TheVariants.{Same, Differ
 use Rattle.flake_run.specs.Checked.{Checked, ConcludesBy, IsConcluded, WasFound, IsStatus}
 use Rattle.flake_run.specs.Files.{opened_from}
 use Rattle.flake_run.specs.Finding.{found_by}
-use Rattle.flake_run.specs.Outcome.{Done}
+use Rattle.flake_run.specs.Outcome.{RunOutcome}
 use Rattle.flake_run.specs.Outside.{Outside, LeavesFiles, outside}
-use Rattle.flake_run.specs.Refusals.{IsRefused}
+use Rattle.flake_run.specs.Refusals.{RunRefused}
 use Rattle.flake_run.specs.declared.finding.Finding.{Finding}
-use Rattle.flake_run.specs.declared.finding.Finding.TheVariants.{BadWords, OpenFault, ReadFault, TooLarge, BadLine, Judged, Memory}
+use Rattle.flake_run.specs.declared.finding.Finding.TheVariants.{BadWords, OpenFault, ReadFault, TooLarge, BadLine}
+use Rattle.flake_run.specs.declared.finding.Finding.TheVariants.{Judged, Memory}
 use Rattle.flake_run.specs.declared.outcome.Refusal.TheVariants as refusal
 use Rattle.flake_run.proofs.CheckedFiles.{told_of, is_found, memory_found}
 use Rattle.flake_run.proofs.CheckedComplete.{checked_by}
 use Rattle.flake_run.proofs.Ran.{says_since}
 
 -- words that are refused
-pub refused_words : {W : Type 0} (task : Option (List Named)) (before after : Outside W) (done : Done) → task ≡ None → IsRefused refusal.BadWords before after done → Checked task before after done
+pub refused_words : {W : Type 0} (task : Option (List Named)) (before after : Outside W) (done : RunOutcome)
+    → task ≡ None → RunRefused refusal.BadWords before after done → Checked task before after done
 refused_words task before after done none refused =
     checked_by BadWords task before after done (record {
       status = refused.status;
@@ -38,7 +41,8 @@ refused_words task before after done none refused =
     (subst IsNone (sym none) refl, record { sources_are = refused.sources; files = refused.files })
 
 -- memory that is wanting before any file is opened
-pub refused_memory : {W : Type 0} (task : Option (List Named)) (before after : Outside W) (done : Done) → IsRefused refusal.Memory before after done → Checked task before after done
+pub refused_memory : {W : Type 0} (task : Option (List Named)) (before after : Outside W) (done : RunOutcome)
+    → RunRefused refusal.Memory before after done → Checked task before after done
 refused_memory task before after done refused =
     checked_by Memory task before after done (record {
       status = refused.status;
@@ -53,21 +57,26 @@ refused_memory task before after done refused =
     (inl (record { sources_are = refused.sources; files = refused.files }))
 
 -- where no say failed before
-pub status_since : (finding : Finding) (old mid new : HostTold) (status : ℕ) → mid.say_faults ≡ old.say_faults → IsStatus finding mid new status → IsStatus finding old new status
+pub status_since : (finding : Finding) (old mid new : HostTold) (status : ℕ) → mid.say_faults ≡ old.say_faults
+    → IsStatus finding mid new status → IsStatus finding old new status
 status_since BadWords old mid new status same is = is
 status_since (OpenFault n) old mid new status same is = is
 status_since (ReadFault n) old mid new status same is = is
 status_since (TooLarge n) old mid new status same is = is
 status_since (BadLine line) old mid new status same is = is
-status_since (Judged Same) old mid new status same is = ⊎_elim (λ ok. inl (ok.0, ok.1 ∙ same)) (λ failed. inr (failed.0, subst (λ n. Rose n new.say_faults) same failed.1)) is
+status_since (Judged Same) old mid new status same is = ⊎_elim (λ ok. inl (ok.0, ok.1 ∙ same))
+    (λ failed. inr (failed.0, subst (λ n. Rose n new.say_faults) same failed.1)) is
 status_since (Judged (Differs session place expected found)) old mid new status same is = is
 status_since (Judged (BadJournal shard place)) old mid new status same is = is
 status_since Memory old mid new status same is = is
 
-module _ {S W : Type 0} (left : S → Option (List ℕ)) (faults : S → ℕ) (tells : W → WireTold) (task : Option (List Named)) (words : List Named) (answer : Result Verdict CheckError)
-    (host mid now : HostTold) (wires after : List W) (before : Done) (files : List (File S)) where
-  concluded_since : (finding : Finding) → mid.said ≡ host.said → mid.say_faults ≡ host.say_faults → IsConcluded finding (outside mid wires tells) (outside now after tells) before
-      → IsConcluded finding (outside host wires tells) (outside now after tells) (record before { sources = told_of left faults (opened_from 0 files) })
+module _ {S W : Type 0} (left : S → Option (List ℕ)) (faults : S → ℕ) (tells : W → WireTold)
+    (task : Option (List Named)) (words : List Named) (answer : Result Verdict CheckError)
+    (host mid now : HostTold) (wires after : List W) (before : RunOutcome) (files : List (File S)) where
+  concluded_since : (finding : Finding) → mid.said ≡ host.said → mid.say_faults ≡ host.say_faults
+      → IsConcluded finding (outside mid wires tells) (outside now after tells) before
+      → IsConcluded finding (outside host wires tells) (outside now after tells)
+      (record before { sources = told_of left faults (opened_from 0 files) })
   concluded_since finding said same is = record {
     status = status_since finding host mid now before.status same is.status;
     detail = is.detail;
@@ -80,14 +89,24 @@ module _ {S W : Type 0} (left : S → Option (List ℕ)) (faults : S → ℕ) (t
   }
 
   -- files that were opened, or of which one did not open
-  pub checked_all : task ≡ Some words → IfOk answer (λ v. WereJudged words host mid (are_there files) (lefts_of left files) v) → IfOk answer (λ v. NoneFailed (faults_of faults files)) → IfErr answer (λ e. HasCauseIn words host mid (are_there files) (lefts_of left files) e)
-      → IfErr answer (λ e. FailedBy e (faults_of faults files)) → mid.said ≡ host.said → mid.say_faults ≡ host.say_faults → LeavesFiles mid now
+  pub checked_all : task ≡ Some words
+      → IfOk answer (λ v. WereJudged words host mid (are_there files) (file_lefts left files) v)
+      → IfOk answer (λ v. NoneFailed (file_faults faults files))
+      → IfErr answer (λ e. HasCauseIn words host mid (are_there files) (file_lefts left files) e)
+      → IfErr answer (λ e. FailedBy e (file_faults faults files)) → mid.said ≡ host.said → mid.say_faults
+      ≡ host.say_faults → LeavesFiles mid now
       → ConcludesBy (found_by answer) (outside mid wires tells) (outside now after tells) before
-      → Checked task (outside host wires tells) (outside now after tells) (record before { sources = told_of left faults (opened_from 0 files) })
+      → Checked task (outside host wires tells) (outside now after tells)
+      (record before { sources = told_of left faults (opened_from 0 files) })
   checked_all task_is judged none stopped failed said same leaves concludes =
       ⊎_elim
-      (λ is. checked_by (found_by answer) task (outside host wires tells) (outside now after tells) (record before { sources = told_of left faults (opened_from 0 files) }) (concluded_since (found_by answer) said same is)
-      (subst (λ t. WasFound (found_by answer) t host now (told_of left faults (opened_from 0 files))) (sym task_is) (is_found left faults answer words host mid now files judged none stopped failed leaves)))
-      (λ is. checked_by Memory task (outside host wires tells) (outside now after tells) (record before { sources = told_of left faults (opened_from 0 files) }) (concluded_since Memory said same is)
-      (subst (λ t. WasFound Memory t host now (told_of left faults (opened_from 0 files))) (sym task_is) (memory_found left faults answer words host mid now files judged stopped failed leaves)))
+      (λ is. checked_by (found_by answer) task (outside host wires tells) (outside now after tells)
+      (record before { sources = told_of left faults (opened_from 0 files) })
+      (concluded_since (found_by answer) said same is)
+      (subst (λ t. WasFound (found_by answer) t host now (told_of left faults (opened_from 0 files))) (sym task_is)
+      (is_found left faults answer words host mid now files judged none stopped failed leaves)))
+      (λ is. checked_by Memory task (outside host wires tells) (outside now after tells)
+      (record before { sources = told_of left faults (opened_from 0 files) }) (concluded_since Memory said same is)
+      (subst (λ t. WasFound Memory t host now (told_of left faults (opened_from 0 files))) (sym task_is)
+      (memory_found left faults answer words host mid now files judged stopped failed leaves)))
       concludes

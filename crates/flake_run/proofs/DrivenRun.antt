@@ -15,14 +15,20 @@ use Rattle.wire_told.specs.Sent.{AreTold}
 use Rattle.flake_run.specs.Driven.{IsDrivenRun}
 use Rattle.flake_run.proofs.Served.{run_told, run_sessions}
 
-module _ {W : Type 0} (put_may : W → Bor (List ℕ) → (W × Bool) → Type 0) (flush_may : W → (W × Bool) → Type 0) (told : W → WireTold) (says : AreTold put_may flush_may told) where
-  pub driven_to : (z : Sizes) (ring threshold : ℕ) (schedule : List Line) (failed : Bool) (inputs lefts : List (Option (List ℕ))) (ends : List SessionEnd) (journal : List (List Entry)) (closed : End) (olds news : List W) (old new : HostTold)
-      → DroveInputs put_may flush_may z ring threshold schedule failed inputs lefts ends journal closed olds news old new → IsDrivenRun z ring threshold schedule failed inputs lefts ends journal closed olds news told old new
+module _ {W : Type 0} (put_may : W → Bor (List ℕ) → (W × Bool) → Type 0) (flush_may : W → (W × Bool) → Type 0)
+    (told : W → WireTold) (says : AreTold put_may flush_may told) where
+  pub driven_to : (z : Sizes) (ring threshold : ℕ) (schedule : List Line) (failed : Bool)
+      (inputs lefts : List (Option (List ℕ))) (ends : List SessionEnd) (journal : List (List Entry)) (closed : End)
+      (olds news : List W) (old new : HostTold)
+      → DroveInputs put_may flush_may z ring threshold schedule failed inputs lefts ends journal closed olds news old
+      new → IsDrivenRun z ring threshold schedule failed inputs lefts ends journal closed olds news told old new
   driven_to z ring threshold schedule failed inputs lefts ends journal closed olds news old new d = record {
     run = run_told put_may flush_may told says z inputs lefts ends journal closed olds news d.ran d.sends;
     lines = d.lines;
-    transcript = subst (λ ss. IsTranscript (driven_run z ring threshold (all_commands ss) ends journal closed) (map (λ wire. (told wire).sent) olds) (map (λ wire. (told wire).sent) news) schedule d.lines)
+    transcript = subst (λ ss. IsTranscript (driven_run z ring threshold (all_commands ss) ends journal closed)
+        (map (λ wire. (told wire).sent) olds) (map (λ wire. (told wire).sent) news) schedule d.lines)
         (sym (run_sessions put_may flush_may told says z inputs lefts ends journal closed olds news d.ran d.sends))
-        (transcript_told put_may flush_may told says z ring threshold schedule failed inputs lefts ends journal closed olds news old new d);
+        (transcript_told put_may flush_may told says z ring threshold schedule failed inputs lefts ends journal closed
+        olds news old new d);
     said = d.said;
   }

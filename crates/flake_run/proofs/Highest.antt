@@ -1,11 +1,13 @@
 -- The highest of the sessions' statuses, and whether a session failed.
-use Rattle.std.proofs.Common.{◌≡◌, ◌≢◌, ◌≤◌, ◌<◌, ◌⊎◌, inl, inr, ◌||◌, ◌+◌, ℕ, zero, suc, Bool, true, false, List, [], ◌∷◌, ◌++◌, length, map, max, take, get_or, slice_index, arith, refl, sym, ap, ◌∙◌, subst}
+use Rattle.std.proofs.Common.{◌≡◌, ◌≢◌, ◌≤◌, ◌<◌, ◌⊎◌, inl, inr, ◌||◌, ◌+◌, ℕ, zero, suc, Bool, true, false, List, []}
+use Rattle.std.proofs.Common.{◌∷◌, ◌++◌, length, map, max, take, get_or, slice_index, arith, refl, sym, ap, ◌∙◌, subst}
 use Rattle.std.specs.List.{AllByRecursion, list_any}
 use Rattle.std.proofs.lemmas.Bool.{cases_order}
 use Rattle.std.proofs.lemmas.List.{map-append, take_more}
 use Rattle.flake_base.specs.Causes.{Rose}
 use Rattle.flake_base.specs.declared.session.End.{End}
-use Rattle.flake_base.specs.declared.session.End.TheVariants.{Clean, Protocol, Truncated, TooLong, ReadFault, Memory, Left}
+use Rattle.flake_base.specs.declared.session.End.TheVariants.{Clean, Protocol, Truncated, TooLong, ReadFault, Memory}
+use Rattle.flake_base.specs.declared.session.End.TheVariants.{Left}
 use Rattle.flake_base.specs.declared.session.SessionEnd.{SessionEnd}
 use Rattle.flake_model.specs.Wire.{FaultsAre}
 use Rattle.flake_run.specs.Causes.{status_by, highest_by}
@@ -31,24 +33,31 @@ highest_within (way ∷ ways) = omega (arith, within way, highest_within ways)
 -- no session is out of memory where the highest isn't
 pub none_is_six : (ways : List End) → highest_by ways ≢ 6 → AllByRecursion (λ way. status_by way ≢ 6) ways
 none_is_six [] not = tt
-none_is_six (way ∷ ways) not =
-    ((λ six. not (omega (arith, six, highest_within ways))), none_is_six ways (λ six. not (omega (arith, six, within way))))
+none_is_six (way ∷ ways) not = (
+  (λ six. not (omega (arith, six, highest_within ways))),
+  none_is_six ways
+      (λ six. not (omega (arith, six, within way))),
+)
 
 -- whether a session failed, by the list of that
-pub any_failed : (ends : List SessionEnd) → list_any (λ (end : SessionEnd). end.failed) ends ≡ list_any (λ (b : Bool). b) (map (λ (end : SessionEnd). end.failed) ends)
+pub any_failed : (ends : List SessionEnd) → list_any (λ (end : SessionEnd). end.failed) ends
+    ≡ list_any (λ (b : Bool). b) (map (λ (end : SessionEnd). end.failed) ends)
 any_failed [] = refl
 any_failed (end ∷ ends) = ap (λ (rest : Bool). end.failed || rest) (any_failed ends)
 
 -- no count of faults rose where none failed
-pub none_failed : (failed : List Bool) (olds news : List ℕ) → list_any (λ (b : Bool). b) failed ≡ false → FaultsAre failed olds news → news ≡ olds
+pub none_failed : (failed : List Bool) (olds news : List ℕ) → list_any (λ (b : Bool). b) failed ≡ false
+    → FaultsAre failed olds news → news ≡ olds
 none_failed [] olds news none faults = faults
 none_failed (one ∷ failed) [] news none faults = absurd faults
 none_failed (one ∷ failed) (old ∷ olds) [] none faults = absurd faults
 none_failed (true ∷ failed) (old ∷ olds) (new ∷ news) none faults = absurd (cc none)
-none_failed (false ∷ failed) (old ∷ olds) (new ∷ news) none faults = let rest = none_failed failed olds news none faults.1 in let here : new ≡ old = faults.0 in cc
+none_failed (false ∷ failed) (old ∷ olds) (new ∷ news) none faults = let rest =
+    none_failed failed olds news none faults.1 in let here : new ≡ old = faults.0 in cc
 
 -- and else one rose
-pub some_failed : (failed : List Bool) (olds news : List ℕ) → list_any (λ (b : Bool). b) failed ≡ true → FaultsAre failed olds news
+pub some_failed : (failed : List Bool) (olds news : List ℕ) → list_any (λ (b : Bool). b) failed ≡ true
+    → FaultsAre failed olds news
     → (session : ℕ) × (session < length failed) × Rose (slice_index olds session) (slice_index news session)
 some_failed [] olds news some faults = absurd (cc some)
 some_failed (one ∷ failed) [] news some faults = absurd faults
@@ -59,11 +68,14 @@ some_failed (false ∷ failed) (old ∷ olds) (new ∷ news) some faults =
     (suc rest.0, omega (arith, rest.1), rest.2)
 
 -- one session more
-pub highest_step : (ends : List SessionEnd) (k : ℕ) (d : SessionEnd) (status one new : ℕ) → status ≡ highest_by (ways (take k ends)) → one ≡ status_by (get_or ends k d).end → new ≡ max status one → k < length ends
+pub highest_step : (ends : List SessionEnd) (k : ℕ) (d : SessionEnd) (status one new : ℕ)
+    → status ≡ highest_by (ways (take k ends)) → one ≡ status_by (get_or ends k d).end → new ≡ max status one
+    → k < length ends
     → new ≡ highest_by (ways (take (k + 1) ends))
 highest_step ends k d status one new before here is within =
     let more : ways (take (k + 1) ends) ≡ ways (take k ends) ++ (get_or ends k d).end ∷ [] =
-    ap ways (take_more ends k d within) ∙ map-append (λ (end : SessionEnd). end.end) (take k ends) (get_or ends k d ∷ []) in
+    ap ways (take_more ends k d within) ∙ map-append (λ (end : SessionEnd). end.end) (take k ends)
+    (get_or ends k d ∷ []) in
     let highest = highest_more (ways (take k ends)) (get_or ends k d).end in
     omega (arith, before, here, is, highest, ap highest_by more)
 
@@ -92,4 +104,5 @@ pick a b (inr is) left right = subst IsHighest (sym is) right
 
 pub highest_is : (all : List End) → IsHighest (highest_by all)
 highest_is [] = inl refl
-highest_is (way ∷ rest) = pick (status_by way) (highest_by rest) (higher (status_by way) (highest_by rest)) (status_is way) (highest_is rest)
+highest_is (way ∷ rest) = pick (status_by way) (highest_by rest) (higher (status_by way) (highest_by rest))
+    (status_is way) (highest_is rest)

@@ -1,22 +1,26 @@
 -- Numbers from 0, one more, and lists that were walked to their end.
-use Rattle.std.proofs.Common.{◌≡◌, ℕ, ◌+◌, zero, suc, List, [], ◌∷◌, ◌++◌, Option, length, map, arith, refl, sym, ap, ◌∙◌, append-nil}
+use Rattle.std.proofs.Common.{◌≡◌, ℕ, ◌+◌, zero, suc, List, [], ◌∷◌, ◌++◌, Option, length, map, arith, refl, sym, ap}
+use Rattle.std.proofs.Common.{◌∙◌, append-nil}
 use Rattle.std.specs.List.{range_with_len}
-use Rattle.flake_run.specs.Outcome.{SourceTold, source_told, files_of, lefts_of, read_faults_of}
+use Rattle.flake_run.specs.Outcome.{SourceTold, source_told, files_of, source_lefts, read_faults_of}
 use Rattle.flake_run.specs.declared.outcome.Opened.{Opened}
 
 range_more : (a n : ℕ) → range_with_len a (suc n) ≡ range_with_len a n ++ (a + n) ∷ []
 range_more a zero = let same : a ≡ a + 0 = omega arith in ap (λ k. k ∷ []) same
-range_more a (suc n) = let same : a + 1 + n ≡ a + suc n = omega arith in ap (λ rest. a ∷ rest) (range_more (a + 1) n ∙ ap (λ k. range_with_len (a + 1) n ++ k ∷ []) same)
+range_more a (suc n) = let same : a + 1 + n ≡ a + suc n = omega arith in ap (λ rest. a ∷ rest)
+    (range_more (a + 1) n ∙ ap (λ k. range_with_len (a + 1) n ++ k ∷ []) same)
 
 longer : {A : Type 0} (xs : List A) (x : A) → length (xs ++ x ∷ []) ≡ suc (length xs)
 longer [] x = refl
 longer (y ∷ ys) x = ap suc (longer ys x)
 
 -- the number of one item more
-pub one_number : {A : Type 0} (xs : List A) (x : A) → range_with_len 0 (length (xs ++ x ∷ [])) ≡ range_with_len 0 (length xs) ++ length xs ∷ []
+pub one_number : {A : Type 0} (xs : List A) (x : A) → range_with_len 0 (length (xs ++ x ∷ []))
+    ≡ range_with_len 0 (length xs) ++ length xs ∷ []
 one_number xs x =
     let same : 0 + length xs ≡ length xs = omega arith in
-    ap (range_with_len 0) (longer xs x) ∙ range_more 0 (length xs) ∙ ap (λ k. range_with_len 0 (length xs) ++ k ∷ []) same
+    ap (range_with_len 0) (longer xs x) ∙ range_more 0 (length xs)
+    ∙ ap (λ k. range_with_len 0 (length xs) ++ k ∷ []) same
 
 pub all_given : {A : Type 0} (xs rest all : List A) → xs ++ rest ≡ all → rest ≡ [] → xs ≡ all
 all_given xs rest all is none = sym (append-nil xs) ∙ ap (λ r. xs ++ r) (sym none) ∙ is
@@ -27,24 +31,30 @@ none_left (x ∷ xs) len is none = absurd (omega (arith, is, none))
 
 -- what is told of sources that are numbered
 module _ {S : Type 0} (left : S → Option (List ℕ)) (faults : S → ℕ) where
-  told_lefts : (opened : List (Opened S)) → lefts_of (map (λ s. source_told s.file (left s.source) (faults s.source)) opened) ≡ map left (map (λ s. s.source) opened)
+  told_lefts : (opened : List (Opened S))
+      → source_lefts (map (λ s. source_told s.file (left s.source) (faults s.source)) opened)
+      ≡ map left (map (λ s. s.source) opened)
   told_lefts [] = refl
   told_lefts (one ∷ opened) = ap (λ rest. left one.source ∷ rest) (told_lefts opened)
 
-  told_faults : (opened : List (Opened S)) → read_faults_of (map (λ s. source_told s.file (left s.source) (faults s.source)) opened) ≡ map faults (map (λ s. s.source) opened)
+  told_faults : (opened : List (Opened S))
+      → read_faults_of (map (λ s. source_told s.file (left s.source) (faults s.source)) opened)
+      ≡ map faults (map (λ s. s.source) opened)
   told_faults [] = refl
   told_faults (one ∷ opened) = ap (λ rest. faults one.source ∷ rest) (told_faults opened)
 
-  told_files : (opened : List (Opened S)) → files_of (map (λ s. source_told s.file (left s.source) (faults s.source)) opened) ≡ map (λ s. s.file) opened
+  told_files : (opened : List (Opened S))
+      → files_of (map (λ s. source_told s.file (left s.source) (faults s.source)) opened) ≡ map (λ s. s.file) opened
   told_files [] = refl
   told_files (one ∷ opened) = ap (λ rest. one.file ∷ rest) (told_files opened)
 
   pub record AreNumbered (sources : List S) (told : List SourceTold) : Type 0 where
     pub files : files_of told ≡ range_with_len 0 (length sources)
-    pub lefts : lefts_of told ≡ map left sources
+    pub lefts : source_lefts told ≡ map left sources
     pub faults_are : read_faults_of told ≡ map faults sources
 
-  pub are_numbered : (opened : List (Opened S)) (sources : List S) → map (λ s. s.file) opened ≡ range_with_len 0 (length sources) → map (λ s. s.source) opened ≡ sources
+  pub are_numbered : (opened : List (Opened S)) (sources : List S) → map (λ s. s.file) opened
+      ≡ range_with_len 0 (length sources) → map (λ s. s.source) opened ≡ sources
       → AreNumbered sources (map (λ s. source_told s.file (left s.source) (faults s.source)) opened)
   are_numbered opened sources files are = record {
     files = told_files opened ∙ files;

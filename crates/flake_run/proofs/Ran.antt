@@ -1,5 +1,6 @@
 -- What is known of a run that served its files, and the clauses that this gives.
-use Rattle.std.proofs.Common.{◌≡◌, ◌≢◌, ◌⊎◌, inl, inr, ◌≤◌, ◌<◌, ℕ, Bool, false, true, List, [], ◌∷◌, Option, Some, All, length, map, refl, sym, ap, ◌∙◌, subst}
+use Rattle.std.proofs.Common.{◌≡◌, ◌≢◌, ◌⊎◌, inl, inr, ◌≤◌, ◌<◌, ℕ, Bool, false, true, List, [], ◌∷◌, Option, Some, All}
+use Rattle.std.proofs.Common.{length, map, refl, sym, ap, ◌∙◌, subst}
 use Rattle.std.specs.List.{range_with_len, list_any}
 use Rattle.std.proofs.lemmas.List.{length-map}
 use Rattle.std.proofs.lemmas.List.FromFn.{length-range_with_len}
@@ -12,32 +13,33 @@ use Rattle.flake_base.specs.declared.session.SessionEnd.{SessionEnd}
 use Rattle.flake_model.specs.Session.{Session}
 use Rattle.pin_core.specs.declared.class.Held.{Held}
 use Rattle.pinned_pool.specs.Ends.{End as PoolEnd}
-use Rattle.serve_house.specs.Opened.{pool_sizes}
-use Rattle.serve_house.specs.Ran.{AreReads}
+use Rattle.run_resources.specs.Opened.{pool_sizes}
+use Rattle.run_resources.specs.Ran.{AreReads}
 use Rattle.flake_run.specs.declared.outcome.Detail.TheVariants.{Nothing}
 use Rattle.flake_run.specs.Opening.{AreOpened}
-use Rattle.flake_run.specs.Task.{Job, Task}
+use Rattle.flake_run.specs.Task.{Job, RunTask}
 use Rattle.flake_run.specs.Outside.{outside, LeavesFiles}
-use Rattle.flake_run.specs.Outcome.{Done, SourceTold, ways, files_of, lefts_of, read_faults_of}
-use Rattle.flake_run.specs.Serving.{IsRun}
+use Rattle.flake_run.specs.Outcome.{RunOutcome, SourceTold, ways, files_of, source_lefts, read_faults_of}
+use Rattle.flake_run.specs.Serving.{IsServedRun}
 use Rattle.flake_run.specs.Served.{Served}
 use Rattle.flake_run.specs.Untouched.{Untouched}
 use Rattle.flake_run.specs.Causes.{Causes, AreCountsOf, highest_by}
 use Rattle.flake_run.specs.Complete.{Complete}
-use Rattle.flake_run.specs.Said.{Said, Says, SaysOrLacksRoom, served_text}
+use Rattle.flake_run.specs.Said.{Said, PrintsStatus, SaysOrLacksRoom, served_text}
 
 -- the statuses of what was served
 abbrev pub IsServedStatus : ℕ → Type 0
 IsServedStatus status = (status ≡ 0) ⊎ (status ≡ 3) ⊎ (status ≡ 4) ⊎ (status ≡ 5) ⊎ (status ≡ 6)
 
 -- the words were accepted
-pub record IsTask {W : Type 0} (task : Task) (job : Job) (wires : List W) : Type 0 where
+pub record IsTask {W : Type 0} (task : RunTask) (job : Job) (wires : List W) : Type 0 where
   pub task_is : task ≡ Some job
   pub some_names : 0 < length job.names
   pub some_wires : length job.names ≤ length wires
 
 -- the files were opened and their sessions served, and that was said
-pub record Ran {W : Type 0} (tells : W → WireTold) (job : Job) (host now : HostTold) (wires after : List W) (done : Done) : Type 0 where
+pub record Ran {W : Type 0} (tells : W → WireTold) (job : Job) (host now : HostTold) (wires after : List W)
+    (done : RunOutcome) : Type 0 where
   pub detail_is : done.detail ≡ Nothing
   -- the files were opened, with these inputs
   pub between : HostTold
@@ -49,7 +51,8 @@ pub record Ran {W : Type 0} (tells : W → WireTold) (job : Job) (host now : Hos
   pub pool : PoolEnd
   pub pool_is : done.pool ≡ Some pool
   pub held : (done.held.small ≡ pool.small) × (done.held.large ≡ pool.large)
-  pub run : IsRun (pool_sizes (length job.names) job.sizes) inputs (lefts_of done.sources) done.ends done.journal pool wires after tells
+  pub run : IsServedRun (pool_sizes (length job.names) job.sizes) inputs (source_lefts done.sources) done.ends
+      done.journal pool wires after tells
   pub shards : length done.journal ≡ job.sizes.shards
   pub reads : AreCountsOf (ways done.ends) (read_faults_of done.sources)
   pub to_the_end : All (λ way. way ≢ Left) (ways done.ends)
@@ -62,18 +65,23 @@ pub record Ran {W : Type 0} (tells : W → WireTold) (job : Job) (host now : Hos
 
 -- there are as many sources, and as many sessions, as files
 pub sources_are : (sources : List SourceTold) (n : ℕ) → files_of sources ≡ range_with_len 0 n → length sources ≡ n
-sources_are sources n is = sym (length-map sources (λ (source : SourceTold). source.file)) ∙ ap length is ∙ length-range_with_len 0 n
+sources_are sources n is = sym (length-map sources (λ (source : SourceTold). source.file)) ∙ ap length is
+    ∙ length-range_with_len 0 n
 
-pub sessions_are : {W : Type 0} (tells : W → WireTold) (job : Job) (host now : HostTold) (wires after : List W) (done : Done) → Ran tells job host now wires after done
+pub sessions_are : {W : Type 0} (tells : W → WireTold) (job : Job) (host now : HostTold) (wires after : List W)
+    (done : RunOutcome) → Ran tells job host now wires after done
     → length done.ends ≡ length job.names
 sessions_are tells job host now wires after done r =
     let sessions = r.run.run.sessions in
-    let ends : length sessions ≡ length done.ends = sym (length-map sessions (λ (session : Session). session.end)) ∙ ap length r.run.run.ends_are in
-    let inputs : length sessions ≡ length r.inputs = sym (length-map sessions (λ (session : Session). session.input)) ∙ ap length r.run.run.inputs_are in
+    let ends : length sessions ≡ length done.ends = sym (length-map sessions (λ (session : Session). session.end))
+    ∙ ap length r.run.run.ends_are in
+    let inputs : length sessions ≡ length r.inputs = sym (length-map sessions (λ (session : Session). session.input))
+    ∙ ap length r.run.run.inputs_are in
     sym ends ∙ inputs ∙ r.opened.as_many
 
 -- all clauses of a run
-pub record Clauses {W : Type 0} (tells : W → WireTold) (task : Task) (host now : HostTold) (wires after : List W) (done : Done) : Type 0 where
+pub record Clauses {W : Type 0} (tells : W → WireTold) (task : RunTask) (host now : HostTold) (wires after : List W)
+    (done : RunOutcome) : Type 0 where
   pub served : done.ends ≢ [] → Served task (outside host wires tells) (outside now after tells) done
   pub untouched : Untouched task (outside host wires tells) (outside now after tells) done
   pub causes : Causes task (outside host wires tells) (outside now after tells) done
@@ -81,18 +89,23 @@ pub record Clauses {W : Type 0} (tells : W → WireTold) (task : Task) (host now
   pub said : Said task (outside host wires tells) (outside now after tells) done
 
 -- said behind a call that said nothing
-pub says_since : (text : List ℕ) (old mid new : HostTold) → mid.said ≡ old.said → mid.say_faults ≡ old.say_faults → Says text mid new → Says text old new
+pub says_since : (text : List ℕ) (old mid new : HostTold) → mid.said ≡ old.said → mid.say_faults ≡ old.say_faults
+    → PrintsStatus text mid new → PrintsStatus text old new
 says_since text old mid new said count says = record {
   front = subst (λ o. Grew true text o new.said) said says.front;
-  whole = λ quiet. subst (λ o. Grew false text o new.said) said (says.whole (λ rose. quiet (subst (λ n. Rose n new.say_faults) count rose)));
+  whole = λ quiet. subst (λ o. Grew false text o new.said) said
+      (says.whole (λ rose. quiet (subst (λ n. Rose n new.say_faults) count rose)));
 }
 
-pub told_since : (status : ℕ) (text : List ℕ) (old mid new : HostTold) → mid.said ≡ old.said → mid.say_faults ≡ old.say_faults → SaysOrLacksRoom status text mid new → SaysOrLacksRoom status text old new
+pub told_since : (status : ℕ) (text : List ℕ) (old mid new : HostTold) → mid.said ≡ old.said → mid.say_faults
+    ≡ old.say_faults → SaysOrLacksRoom status text mid new → SaysOrLacksRoom status text old new
 told_since status text old mid new said count (inl says) = inl (says_since text old mid new said count says)
-told_since status text old mid new said count (inr lacks) = inr (lacks.0, record { said = lacks.1.said ∙ said; none_failed = lacks.1.none_failed ∙ count })
+told_since status text old mid new said count (inr lacks) =
+    inr (lacks.0, record { said = lacks.1.said ∙ said; none_failed = lacks.1.none_failed ∙ count })
 
 -- sources whose reads had not failed before
-pub counts_from : {A : Type 0} (ends : List SessionEnd) (names : List A) (nows : List ℕ) → AreReads ends (map (λ (_ : A). 0) names) nows → AreCountsOf (ways ends) nows
+pub counts_from : {A : Type 0} (ends : List SessionEnd) (names : List A) (nows : List ℕ)
+    → AreReads ends (map (λ (_ : A). 0) names) nows → AreCountsOf (ways ends) nows
 counts_from [] [] [] reads = refl
 counts_from [] [] (now ∷ nows) reads = absurd reads
 counts_from [] (name ∷ names) nows reads = absurd reads
@@ -101,7 +114,8 @@ counts_from (end ∷ ends) (name ∷ names) [] reads = absurd reads
 counts_from (end ∷ ends) (name ∷ names) (now ∷ nows) reads = (reads.0, counts_from ends names nows reads.1)
 
 -- what a report of sessions has said and answered
-pub record Reported (old new : HostTold) (status : ℕ) (shows : Bool) (journal : List (List Entry)) (ends : List SessionEnd) (held : Held) : Type 0 where
+pub record Reported (old new : HostTold) (status : ℕ) (shows : Bool) (journal : List (List Entry))
+    (ends : List SessionEnd) (held : Held) : Type 0 where
   pub said : SaysOrLacksRoom status (served_text shows journal ends held) old new
   pub statuses : IsServedStatus status
   pub by_end : status ≢ 5 → status ≢ 6 → (status ≡ highest_by (ways ends))

@@ -1,8 +1,8 @@
 -- All clauses of a run that served its files.
 use Rattle.std.proofs.Common.{List}
 use Rattle.flake_base.specs.Told.{HostTold, WireTold}
-use Rattle.flake_run.specs.Task.{Job, Task}
-use Rattle.flake_run.specs.Outcome.{Done}
+use Rattle.flake_run.specs.Task.{Job, RunTask}
+use Rattle.flake_run.specs.Outcome.{RunOutcome}
 use Rattle.flake_run.proofs.Ran.{Ran, IsTask, Clauses}
 use Rattle.flake_run.proofs.RanServed.{ran_served}
 use Rattle.flake_run.proofs.RanUntouched.{ran_untouched}
@@ -10,7 +10,8 @@ use Rattle.flake_run.proofs.RanCauses.{ran_causes}
 use Rattle.flake_run.proofs.RanComplete.{ran_complete}
 use Rattle.flake_run.proofs.RanSaid.{ran_said}
 
-pub ran_all : {W : Type 0} (tells : W → WireTold) (task : Task) (job : Job) (host now : HostTold) (wires after : List W) (done : Done)
+pub ran_all : {W : Type 0} (tells : W → WireTold) (task : RunTask) (job : Job) (host now : HostTold)
+    (wires after : List W) (done : RunOutcome)
     → IsTask task job wires → Ran tells job host now wires after done → Clauses tells task host now wires after done
 ran_all tells task job host now wires after done t r = record {
   served = λ some. ran_served tells task job host now wires after done t r;

@@ -1,5 +1,6 @@
 -- What a run of generated requests comes to.
-use Rattle.std.proofs.Common.{◌≡◌, ◌≢◌, ◌⊎◌, ◌≤◌, inl, inr, ℕ, ◌+◌, Bool, true, false, List, [], ◌∷◌, Option, Some, None, length, map, arith, refl, sym, ap, ◌∙◌, subst}
+use Rattle.std.proofs.Common.{◌≡◌, ◌≢◌, ◌⊎◌, ◌≤◌, inl, inr, ℕ, ◌+◌, Bool, true, false, List, [], ◌∷◌, Option, Some}
+use Rattle.std.proofs.Common.{None, length, map, arith, refl, sym, ap, ◌∙◌, subst}
 use Rattle.std.specs.Prelude.{max, IfSome}
 use Rattle.std.specs.Borrow.{Bor}
 use Rattle.std.specs.List.{AllByRecursion, list_any}
@@ -16,17 +17,18 @@ use Rattle.pin_core.specs.declared.class.Held.{Held}
 use Rattle.pinned_pool.specs.Ends.{End as PoolEnd}
 use Rattle.serve_model.specs.Replies.{all_replies}
 use Rattle.serve_inputs.specs.Whole.{SentWhole}
-use Rattle.serve_house.specs.Opened.{pool_sizes}
-use Rattle.serve_house.specs.Ran.{AllWhole}
+use Rattle.run_resources.specs.Opened.{pool_sizes}
+use Rattle.run_resources.specs.Ran.{AllWhole}
 use Rattle.wire_told.specs.Sent.{AreTold}
 use Rattle.wire_told.proofs.Sent.{sends_told}
 use Rattle.gen_words.specs.declared.task.GenTask.{GenTask}
-use Rattle.serve_generated.specs.Generated.{IsTooMuch, RanGenerated, inputs_of, sizes_of}
+use Rattle.serve_generated.specs.Generated.{IsTooMuch, RanGenerated, inputs_of, generated_sizes}
 use Rattle.flake_run.specs.Causes.{highest_by, status_by, SomePutFailed}
-use Rattle.flake_run.specs.Generated.{AllInWhole, Generated, IsGeneratedRun, IsUngenerated, SentInWhole, bytes_in, replies_in, sum_of, total_line}
-use Rattle.flake_run.specs.Outcome.{Done, ways}
+use Rattle.flake_run.specs.Generated.{AllInWhole, Generated, IsGeneratedRun, IsUngenerated, SentInWhole, texts_length}
+use Rattle.flake_run.specs.Generated.{replies_in, sum_of, total_line}
+use Rattle.flake_run.specs.Outcome.{RunOutcome, ways}
 use Rattle.flake_run.specs.Outside.{Outside, LeavesFiles, outside}
-use Rattle.flake_run.specs.Refusals.{IsRefused}
+use Rattle.flake_run.specs.Refusals.{RunRefused}
 use Rattle.flake_run.specs.Said.{SaysOrLacksRoom}
 use Rattle.flake_run.specs.declared.outcome.Detail.TheVariants.{Nothing}
 use Rattle.flake_run.specs.declared.outcome.Refusal.{Refusal}
@@ -47,16 +49,19 @@ record AreExact (replies : List (Bool × List (List ℕ))) (shown : List ℕ) (o
   wholes : AllInWhole replies counts olds news
   sums : raised 0 (sum_of shown) ≡ raised 0 (sum_of counts)
 
-sums_more : (count n shown sum : ℕ) → shown ≡ raised 0 n → raised 0 count ≡ raised 0 sum → raised 0 (shown + count) ≡ raised 0 (n + sum)
+sums_more : (count n shown sum : ℕ) → shown ≡ raised 0 n → raised 0 count ≡ raised 0 sum → raised 0 (shown + count)
+    ≡ raised 0 (n + sum)
 sums_more count n shown sum is rest = omega (arith, is, rest)
 
-module _ {W : Type 0} (put_may : W → Bor (List ℕ) → (W × Bool) → Type 0) (flush_may : W → (W × Bool) → Type 0) (told : W → WireTold) (says : AreTold put_may flush_may told) where
-  whole_told : (replies : Bool × List (List ℕ)) (shown : ℕ) (old new : W) → SentWhole put_may flush_may replies.0 replies.1 shown old new → IsExact replies shown (told old) (told new)
+module _ {W : Type 0} (put_may : W → Bor (List ℕ) → (W × Bool) → Type 0) (flush_may : W → (W × Bool) → Type 0)
+    (told : W → WireTold) (says : AreTold put_may flush_may told) where
+  whole_told : (replies : Bool × List (List ℕ)) (shown : ℕ) (old new : W)
+      → SentWhole put_may flush_may replies.0 replies.1 shown old new → IsExact replies shown (told old) (told new)
   whole_told replies shown old new is =
       let before = sends_told put_may flush_may told says false _ old is.grew.middle is.grew.before in
       let behind = sends_told put_may flush_may told says replies.0 _ is.grew.middle new is.grew.behind in
       record {
-        bytes = bytes_in is.whole replies.1;
+        bytes = texts_length is.whole replies.1;
         sent = record {
           whole = is.whole;
           are_whole = is.are_whole;
@@ -66,52 +71,72 @@ module _ {W : Type 0} (put_may : W → Bor (List ℕ) → (W × Bool) → Type 0
             behind = behind.sent;
           };
           bytes_are = refl;
-          put = put_between replies.0 is.whole replies.1 (told old).bytes (told is.grew.middle).bytes (told new).bytes before.bytes behind.bytes;
+          put = put_between replies.0 is.whole replies.1 (told old).bytes (told is.grew.middle).bytes
+              (told new).bytes before.bytes behind.bytes;
         };
         shown_is = is.bytes_are;
       }
 
-  all_told : (replies : List (Bool × List (List ℕ))) (shown : List ℕ) (olds news : List W) → AllWhole put_may flush_may replies shown olds news
+  all_told : (replies : List (Bool × List (List ℕ))) (shown : List ℕ) (olds news : List W)
+      → AllWhole put_may flush_may replies shown olds news
       → AreExact replies shown (map told olds) (map told news)
-  all_told [] shown olds news is = record { counts = []; wholes = (refl, ap (map told) is.1); sums = ap (λ ns. raised 0 (sum_of ns)) is.0 }
+  all_told [] shown olds news is = record {
+    counts = [];
+    wholes = (refl, ap (map told) is.1);
+    sums = ap (λ ns. raised 0 (sum_of ns)) is.0;
+  }
   all_told (replies ∷ more) [] olds news is = absurd is
   all_told (replies ∷ more) (count ∷ shown) [] news is = absurd is
   all_told (replies ∷ more) (count ∷ shown) (old ∷ olds) [] is = absurd is
   all_told (replies ∷ more) (count ∷ shown) (old ∷ olds) (new ∷ news) is =
       let this = whole_told replies count old new is.0 in
       let rest = all_told more shown olds news is.1 in
-      record { counts = this.bytes ∷ rest.counts; wholes = (this.sent, rest.wholes); sums = sums_more (sum_of shown) this.bytes count (sum_of rest.counts) this.shown_is rest.sums }
+      record {
+        counts = this.bytes ∷ rest.counts;
+        wholes = (this.sent, rest.wholes);
+        sums = sums_more (sum_of shown) this.bytes count (sum_of rest.counts) this.shown_is rest.sums;
+      }
 
   -- of wires whose puts and flushes tell what they do
-  pub generated_to : (task : GenTask) (lefts : List (Option (List ℕ))) (ends : List SessionEnd) (shown : List ℕ) (journal : List (List Entry)) (pool : PoolEnd) (olds news : List W)
-      → RanGenerated put_may flush_may task lefts ends shown journal pool olds news → IsGeneratedRun task lefts ends shown journal pool olds news told
+  pub generated_to : (task : GenTask) (lefts : List (Option (List ℕ))) (ends : List SessionEnd) (shown : List ℕ)
+      (journal : List (List Entry)) (pool : PoolEnd) (olds news : List W)
+      → RanGenerated put_may flush_may task lefts ends shown journal pool olds news
+      → IsGeneratedRun task lefts ends shown journal pool olds news told
   generated_to task lefts ends shown journal pool olds news ran =
-      let z = pool_sizes task.sessions (sizes_of task) in
+      let z = pool_sizes task.sessions (generated_sizes task) in
       let exact = all_told (all_replies ran.ran.ran.served.sessions journal) shown olds news ran.ran.wholes in
-      let run = served_to put_may flush_may told says z (inputs_of task) lefts ends shown journal pool olds news ran.ran in
-      let same : run.run.sessions ≡ ran.ran.ran.served.sessions = served_sessions put_may flush_may told says z (inputs_of task) lefts ends shown journal pool olds news ran.ran in
+      let run = served_to put_may flush_may told says z (inputs_of task) lefts ends shown journal pool olds news ran.ran
+      in
+      let same : run.run.sessions ≡ ran.ran.ran.served.sessions = served_sessions put_may flush_may told says z
+      (inputs_of task) lefts ends shown journal pool olds news ran.ran in
       record {
         run = run;
         ways = ran.ways;
         commands = λ memory. ap all_commands same ∙ ran.commands memory;
         none_missing = λ memory. ap (λ ss. missing_writes ss journal) same ∙ ran.none_missing memory;
         counts = exact.counts;
-        wholes = subst (λ ss. AllInWhole (all_replies ss journal) exact.counts (map told olds) (map told news)) (sym same) exact.wholes;
+        wholes = subst (λ ss. AllInWhole (all_replies ss journal) exact.counts (map told olds) (map told news))
+            (sym same) exact.wholes;
         sums = exact.sums;
       }
 
 -- there are as many ends as sessions
-pub generated_count : {W : Type 0} (task : GenTask) (lefts : List (Option (List ℕ))) (ends : List SessionEnd) (shown : List ℕ) (journal : List (List Entry)) (pool : PoolEnd) (olds news : List W) (told : W → WireTold)
+pub generated_count : {W : Type 0} (task : GenTask) (lefts : List (Option (List ℕ))) (ends : List SessionEnd)
+    (shown : List ℕ) (journal : List (List Entry)) (pool : PoolEnd) (olds news : List W) (told : W → WireTold)
     → IsGeneratedRun task lefts ends shown journal pool olds news told → length ends ≡ task.sessions
 generated_count task lefts ends shown journal pool olds news told r =
-    ends_count (pool_sizes task.sessions (sizes_of task)) (inputs_of task) lefts ends journal pool olds news told r.run ∙ length-map-range_with_len _ 0 task.sessions
+    ends_count (pool_sizes task.sessions (generated_sizes task)) (inputs_of task) lefts ends journal pool olds news told
+    r.run ∙ length-map-range_with_len _ 0 task.sessions
 
 -- the highest status of such ends
-highest_way : (ends : List SessionEnd) → AllByRecursion (λ end. (end.end ≡ Clean) ⊎ (end.end ≡ Memory)) ends → (highest_by (ways ends) ≡ 0) ⊎ (highest_by (ways ends) ≡ 6)
+highest_way : (ends : List SessionEnd) → AllByRecursion (λ end. (end.end ≡ Clean) ⊎ (end.end ≡ Memory)) ends
+    → (highest_by (ways ends) ≡ 0) ⊎ (highest_by (ways ends) ≡ 6)
 highest_way [] each = inl refl
 highest_way (end ∷ ends) each = both each.0 (highest_way ends each.1)
   where
-    both : (end.end ≡ Clean) ⊎ (end.end ≡ Memory) → (highest_by (ways ends) ≡ 0) ⊎ (highest_by (ways ends) ≡ 6) → (max (status_by end.end) (highest_by (ways ends)) ≡ 0) ⊎ (max (status_by end.end) (highest_by (ways ends)) ≡ 6)
+    both : (end.end ≡ Clean) ⊎ (end.end ≡ Memory) → (highest_by (ways ends) ≡ 0) ⊎ (highest_by (ways ends) ≡ 6)
+        → (max (status_by end.end) (highest_by (ways ends)) ≡ 0)
+        ⊎ (max (status_by end.end) (highest_by (ways ends)) ≡ 6)
     both (inl clean) (inl none) = let s = ap status_by clean in inl (omega (arith, s, none))
     both (inl clean) (inr six) = let s = ap status_by clean in inr (omega (arith, s, six))
     both (inr memory) (inl none) = let s = ap status_by memory in inr (omega (arith, s, none))
@@ -121,13 +146,16 @@ some_ends : (ends : List SessionEnd) (n : ℕ) → length ends ≡ n → 1 ≤ n
 some_ends ends n count some none = omega (arith, count, some, ap length none)
 
 -- the wires came back
-pub refused_as : {W : Type 0} (refusal : Refusal) (host now : HostTold) (tells : W → WireTold) (wires back after : List W) (done : Done) → back ≡ wires
-    → IsRefused refusal (outside host back tells) (outside now after tells) done → IsRefused refusal (outside host wires tells) (outside now after tells) done
-refused_as refusal host now tells wires back after done is r = subst (λ ws. IsRefused refusal (outside host ws tells) (outside now after tells) done) is r
+pub refused_as : {W : Type 0} (refusal : Refusal) (host now : HostTold) (tells : W → WireTold)
+    (wires back after : List W) (done : RunOutcome) → back ≡ wires
+    → RunRefused refusal (outside host back tells) (outside now after tells) done
+    → RunRefused refusal (outside host wires tells) (outside now after tells) done
+refused_as refusal host now tells wires back after done is r =
+    subst (λ ws. RunRefused refusal (outside host ws tells) (outside now after tells) done) is r
 
-module _ {W : Type 0} (task : Option GenTask) (before after : Outside W) (done : Done) where
+module _ {W : Type 0} (task : Option GenTask) (before after : Outside W) (done : RunOutcome) where
   -- nothing was served: bad words, or no pool or too few wires for them
-  pub refused_all : IsRefused BadWords before after done → IsUngenerated task before → Generated task before after done
+  pub refused_all : RunRefused BadWords before after done → IsUngenerated task before → Generated task before after done
   refused_all r un = record {
     statuses = inr (inl r.status);
     served = λ some. absurd (some r.ends);
@@ -155,13 +183,14 @@ module _ {W : Type 0} (task : Option GenTask) (before after : Outside W) (done :
 
       is_whole : (task : Option GenTask) → IsUngenerated task before
           → IfSome task (λ task. task.sessions ≤ length before.wires → (IsTooMuch task → ⊥) → done.status ≢ 6
-          → (Rose before.host.say_faults after.host.say_faults → ⊥) → (SomePutFailed task.sessions before after → ⊥) → done.status ≡ 0)
+          → (Rose before.host.say_faults after.host.say_faults → ⊥) → (SomePutFailed task.sessions before after → ⊥)
+          → done.status ≡ 0)
       is_whole None un = tt
       is_whole (Some task) (inl few) = λ enough fits six says puts. absurd (omega (arith, few, enough))
       is_whole (Some task) (inr much) = λ enough fits six says puts. absurd (fits much)
 
   -- memory was wanting before anything was served
-  pub wanting_all : IsRefused NoMemory before after done → Generated task before after done
+  pub wanting_all : RunRefused NoMemory before after done → Generated task before after done
   wanting_all r = record {
     statuses = inr (inr (inr r.status));
     served = λ some. absurd (some r.ends);
@@ -189,19 +218,23 @@ module _ {W : Type 0} (task : Option GenTask) (before after : Outside W) (done :
 
       is_whole : (task : Option GenTask)
           → IfSome task (λ task. task.sessions ≤ length before.wires → (IsTooMuch task → ⊥) → done.status ≢ 6
-          → (Rose before.host.say_faults after.host.say_faults → ⊥) → (SomePutFailed task.sessions before after → ⊥) → done.status ≡ 0)
+          → (Rose before.host.say_faults after.host.say_faults → ⊥) → (SomePutFailed task.sessions before after → ⊥)
+          → done.status ≡ 0)
       is_whole None = tt
       is_whole (Some task) = λ enough fits six says puts. absurd (six r.status)
 
 -- what was said, and the status
 pub record Reported (host now : HostTold) (status : ℕ) (ends : List SessionEnd) (bytes : ℕ) (held : Held) : Type 0 where
   pub said : SaysOrLacksRoom status (total_line (replies_in ends) bytes held) host now
-  pub by_end : status ≢ 5 → status ≢ 6 → (status ≡ highest_by (ways ends)) × (list_any (λ (end : SessionEnd). end.failed) ends ≡ false) × (now.say_faults ≡ host.say_faults)
-  pub failed : status ≡ 5 → (highest_by (ways ends) ≢ 6) × ((list_any (λ (end : SessionEnd). end.failed) ends ≡ true) ⊎ Rose host.say_faults now.say_faults)
+  pub by_end : status ≢ 5 → status ≢ 6 → (status ≡ highest_by (ways ends))
+      × (list_any (λ (end : SessionEnd). end.failed) ends ≡ false) × (now.say_faults ≡ host.say_faults)
+  pub failed : status ≡ 5 → (highest_by (ways ends) ≢ 6)
+      × ((list_any (λ (end : SessionEnd). end.failed) ends ≡ true) ⊎ Rose host.say_faults now.say_faults)
   pub statuses : (status ≡ 0) ⊎ (status ≡ 3) ⊎ (status ≡ 4) ⊎ (status ≡ 5) ⊎ (status ≡ 6)
 
 -- what a run that served its requests has done, and answers
-pub record Answered {W : Type 0} (task : GenTask) (tells : W → WireTold) (host now : HostTold) (wires after : List W) (done : Done) : Type 0 where
+pub record Answered {W : Type 0} (task : GenTask) (tells : W → WireTold) (host now : HostTold) (wires after : List W)
+    (done : RunOutcome) : Type 0 where
   pub detail_is : done.detail ≡ Nothing
   pub sources : done.sources ≡ []
   pub some : 1 ≤ task.sessions
@@ -217,8 +250,10 @@ pub record Answered {W : Type 0} (task : GenTask) (tells : W → WireTold) (host
   pub files : LeavesFiles host now
   pub reported : Reported host now done.status done.ends (raised 0 (sum_of shown)) done.held
 
-pub answered_all : {W : Type 0} (task : GenTask) (tells : W → WireTold) (host now : HostTold) (wires after : List W) (done : Done)
-    → Answered task tells host now wires after done → Generated (Some task) (outside host wires tells) (outside now after tells) done
+pub answered_all : {W : Type 0} (task : GenTask) (tells : W → WireTold) (host now : HostTold) (wires after : List W)
+    (done : RunOutcome)
+    → Answered task tells host now wires after done → Generated (Some task) (outside host wires tells)
+    (outside now after tells) done
 answered_all {W} task tells host now wires after done a = record {
   statuses = four a.reported.statuses;
   served = λ some. (
@@ -241,7 +276,8 @@ answered_all {W} task tells host now wires after done a = record {
       shards = a.shards;
       counts = a.run.counts;
       wholes = a.run.wholes;
-      said = subst (λ bytes. SaysOrLacksRoom done.status (total_line (replies_in done.ends) bytes done.held) host now) a.run.sums a.reported.said;
+      said = subst (λ bytes. SaysOrLacksRoom done.status (total_line (replies_in done.ends) bytes done.held) host now)
+          a.run.sums a.reported.said;
     },
   );
   some = λ status. there;
@@ -256,8 +292,10 @@ answered_all {W} task tells host now wires after done a = record {
   nothing = λ one. absurd (not_one (four a.reported.statuses) one);
   refused = λ six un. absurd (not_refused un);
   write_fault = λ five.
-      let why = a.reported.failed five in
-      (All-from_recursion (λ (way : End). status_by way ≢ 6) (ways done.ends) (none_is_six (ways done.ends) why.0), put_or_said done.ends _ _ _ a.run.run.faults why.1);
+      let why = a.reported.failed five in (
+        All-from_recursion (λ (way : End). status_by way ≢ 6) (ways done.ends) (none_is_six (ways done.ends) why.0),
+        put_or_said done.ends _ _ _ a.run.run.faults why.1,
+      );
   written = λ zero.
       let so = a.reported.by_end (λ five. omega (arith, zero, five)) (λ six. omega (arith, zero, six)) in
       (so.2, quiet so.1);
@@ -275,8 +313,10 @@ answered_all {W} task tells host now wires after done a = record {
   middle n is which = absurd (two which (highest_way done.ends a.run.ways))
     where
       so : (n ≡ 3) ⊎ (n ≡ 4) → done.status ≡ highest_by (ways done.ends)
-      so (inl three) = (a.reported.by_end (λ five. omega (arith, is, three, five)) (λ six. omega (arith, is, three, six))).0
-      so (inr more) = (a.reported.by_end (λ five. omega (arith, is, more, five)) (λ six. omega (arith, is, more, six))).0
+      so (inl three) = (a.reported.by_end (λ five. omega (arith, is, three, five))
+          (λ six. omega (arith, is, three, six))).0
+      so (inr more) = (a.reported.by_end (λ five. omega (arith, is, more, five))
+          (λ six. omega (arith, is, more, six))).0
 
       two : (n ≡ 3) ⊎ (n ≡ 4) → (highest_by (ways done.ends) ≡ 0) ⊎ (highest_by (ways done.ends) ≡ 6) → ⊥
       two (inl three) (inl zero) = omega (arith, is, three, so (inl three), zero)
@@ -284,7 +324,8 @@ answered_all {W} task tells host now wires after done a = record {
       two (inr more) (inl zero) = omega (arith, is, more, so (inr more), zero)
       two (inr more) (inr six) = omega (arith, is, more, so (inr more), six)
 
-  four : (done.status ≡ 0) ⊎ (done.status ≡ 3) ⊎ (done.status ≡ 4) ⊎ (done.status ≡ 5) ⊎ (done.status ≡ 6) → (done.status ≡ 0) ⊎ (done.status ≡ 1) ⊎ (done.status ≡ 5) ⊎ (done.status ≡ 6)
+  four : (done.status ≡ 0) ⊎ (done.status ≡ 3) ⊎ (done.status ≡ 4) ⊎ (done.status ≡ 5) ⊎ (done.status ≡ 6)
+      → (done.status ≡ 0) ⊎ (done.status ≡ 1) ⊎ (done.status ≡ 5) ⊎ (done.status ≡ 6)
   four (inl zero) = inl zero
   four (inr (inl three)) = absurd (middle 3 three (inl refl))
   four (inr (inr (inl more))) = absurd (middle 4 more (inr refl))
@@ -305,17 +346,22 @@ answered_all {W} task tells host now wires after done a = record {
   not_refused (inl few) = omega (arith, few, a.enough)
   not_refused (inr much) = a.fits much
 
-  quiet : list_any (λ (end : SessionEnd). end.failed) done.ends ≡ false → map (λ wire. (tells wire).faults) after ≡ map (λ wire. (tells wire).faults) wires
-  quiet none = none_failed (map (λ (end : SessionEnd). end.failed) done.ends) _ _ (sym (any_failed done.ends) ∙ none) a.run.run.faults
+  quiet : list_any (λ (end : SessionEnd). end.failed) done.ends ≡ false → map (λ wire. (tells wire).faults) after
+      ≡ map (λ wire. (tells wire).faults) wires
+  quiet none = none_failed (map (λ (end : SessionEnd). end.failed) done.ends) _ _ (sym (any_failed done.ends) ∙ none)
+      a.run.run.faults
 
-  failing : done.status ≡ 5 → (Rose host.say_faults now.say_faults → ⊥) → (SomePutFailed task.sessions (outside host wires tells) (outside now after tells) → ⊥) → ⊥
+  failing : done.status ≡ 5 → (Rose host.say_faults now.say_faults → ⊥)
+      → (SomePutFailed task.sessions (outside host wires tells) (outside now after tells) → ⊥) → ⊥
   failing five says puts = by (put_or_said done.ends _ _ _ a.run.run.faults (a.reported.failed five).1)
     where
-      by : Rose host.say_faults now.say_faults ⊎ SomePutFailed (length done.ends) (outside host wires tells) (outside now after tells) → ⊥
+      by : Rose host.say_faults now.say_faults ⊎ SomePutFailed (length done.ends) (outside host wires tells)
+          (outside now after tells) → ⊥
       by (inl rose) = says rose
       by (inr put) = puts (subst (λ n. SomePutFailed n (outside host wires tells) (outside now after tells)) count put)
 
-  is_zero : (Rose host.say_faults now.say_faults → ⊥) → (SomePutFailed task.sessions (outside host wires tells) (outside now after tells) → ⊥) → done.status ≢ 6
+  is_zero : (Rose host.say_faults now.say_faults → ⊥)
+      → (SomePutFailed task.sessions (outside host wires tells) (outside now after tells) → ⊥) → done.status ≢ 6
       → (done.status ≡ 0) ⊎ (done.status ≡ 1) ⊎ (done.status ≡ 5) ⊎ (done.status ≡ 6) → done.status ≡ 0
   is_zero says puts six (inl zero) = zero
   is_zero says puts six (inr (inl one)) = absurd (not_one (inr (inl one)) one)

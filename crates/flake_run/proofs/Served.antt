@@ -1,5 +1,6 @@
 -- Served sources are a served run of their sessions.
-use Rattle.std.proofs.Common.{◌≡◌, ℕ, ◌+◌, Bool, true, false, List, [], ◌∷◌, Option, length, map, drop, refl, sym, ap, ◌∙◌, subst}
+use Rattle.std.proofs.Common.{◌≡◌, ℕ, ◌+◌, Bool, true, false, List, [], ◌∷◌, Option, length, map, drop, refl, sym, ap}
+use Rattle.std.proofs.Common.{◌∙◌, subst}
 use Rattle.std.specs.Borrow.{Bor}
 use Rattle.std.proofs.lemmas.List.{length-map}
 use Rattle.flake_base.specs.Growth.{Grew}
@@ -7,21 +8,22 @@ use Rattle.flake_base.specs.Told.{WireTold}
 use Rattle.flake_base.specs.declared.journal.Entry.{Entry}
 use Rattle.flake_base.specs.declared.session.SessionEnd.{SessionEnd}
 use Rattle.flake_model.specs.Command.{Command}
-use Rattle.flake_model.specs.Run.{all_commands, texts_from, wire_texts}
+use Rattle.flake_model.specs.Run.{all_commands, wire_texts_from, wire_texts}
 use Rattle.flake_model.specs.Session.{Session}
 use Rattle.flake_model.specs.Wire.{EachWire, WiresGrew, HasPut, BytesAre, FaultIs, FaultsAre, KeptIs, KeptAre}
 use Rattle.pin_core.specs.declared.sizes.Sizes.{Sizes}
 use Rattle.pinned_pool.specs.Ends.{End}
-use Rattle.serve_house.specs.Ran.{AllSent, no_wires}
+use Rattle.run_resources.specs.Ran.{AllSent, no_wires}
 use Rattle.serve_inputs.specs.Ran.{RanAll}
 use Rattle.serve_model.specs.Shown.{WasRun}
 use Rattle.wire_told.specs.Sent.{WasSent, AreTold}
 use Rattle.wire_told.proofs.Sent.{sends_told, flush_told}
-use Rattle.flake_run.specs.Serving.{IsRun}
+use Rattle.flake_run.specs.Serving.{IsServedRun}
 
 -- what each change of a wire says of something that the wire tells, by something of its session
 each_told : {A B S V : Type 0} (Changes : A → B → B → Type 0) (Says : S → V → V → Type 0) (of : A → S) (tells : B → V)
-    → ((session : A) (old new : B) → Changes session old new → Says (of session) (tells old) (tells new)) → (sessions : List A) (olds news : List B)
+    → ((session : A) (old new : B) → Changes session old new → Says (of session) (tells old) (tells new))
+    → (sessions : List A) (olds news : List B)
     → EachWire Changes sessions olds news → EachWire Says (map of sessions) (map tells olds) (map tells news)
 each_told Changes Says of tells so [] olds news each = ap (map tells) each
 each_told Changes Says of tells so (session ∷ sessions) [] news each = absurd each
@@ -34,7 +36,8 @@ all_as_is [] = refl
 all_as_is (x ∷ xs) = ap (λ ys. x ∷ ys) (all_as_is xs)
 
 -- the wires past the sessions
-past : {A B : Type 0} (Changes : A → B → B → Type 0) (sessions : List A) (olds news : List B) → EachWire Changes sessions olds news
+past : {A B : Type 0} (Changes : A → B → B → Type 0) (sessions : List A) (olds news : List B)
+    → EachWire Changes sessions olds news
     → drop (length sessions) news ≡ drop (length sessions) olds
 past Changes [] olds news each = each
 past Changes (session ∷ sessions) [] news each = absurd each
@@ -43,9 +46,11 @@ past Changes (session ∷ sessions) (old ∷ olds) (new ∷ news) each = past Ch
 
 -- which of the sessions' wires failed
 failed_are : (commands : List (List Command)) (journal : List (List Entry)) (number : ℕ) (sessions : List Session)
-    → map (λ (text : Bool × List ℕ). text.0) (texts_from commands journal number sessions) ≡ map (λ (end : SessionEnd). end.failed) (map (λ (session : Session). session.end) sessions)
+    → map (λ (text : Bool × List ℕ). text.0) (wire_texts_from commands journal number sessions)
+    ≡ map (λ (end : SessionEnd). end.failed) (map (λ (session : Session). session.end) sessions)
 failed_are commands journal number [] = refl
-failed_are commands journal number (session ∷ sessions) = ap (λ (rest : List Bool). session.end.failed ∷ rest) (failed_are commands journal (number + 1) sessions)
+failed_are commands journal number (session ∷ sessions) = ap (λ (rest : List Bool). session.end.failed ∷ rest)
+    (failed_are commands journal (number + 1) sessions)
 
 -- a wire was sent a text, and was flushed behind it
 abbrev WasPut : {W : Type 0} (told : W → WireTold) → (Bool × List ℕ) → W → W → Type 0
@@ -55,28 +60,35 @@ kept_from : (failed : Bool) (first mid new : ℕ) → KeptIs failed mid new → 
 kept_from true first mid new kept = tt
 kept_from false first mid new kept = kept
 
-module _ {W : Type 0} (put_may : W → Bor (List ℕ) → (W × Bool) → Type 0) (flush_may : W → (W × Bool) → Type 0) (told : W → WireTold) (says : AreTold put_may flush_may told) where
-  all_put : (texts : List (Bool × List ℕ)) (olds news : List W) → AllSent put_may flush_may texts olds news → EachWire (WasPut told) texts olds news
+module _ {W : Type 0} (put_may : W → Bor (List ℕ) → (W × Bool) → Type 0) (flush_may : W → (W × Bool) → Type 0)
+    (told : W → WireTold) (says : AreTold put_may flush_may told) where
+  all_put : (texts : List (Bool × List ℕ)) (olds news : List W) → AllSent put_may flush_may texts olds news
+      → EachWire (WasPut told) texts olds news
   all_put [] olds news sent = sent
   all_put (text ∷ texts) [] news sent = absurd sent
   all_put (text ∷ texts) (old ∷ olds) [] sent = absurd sent
   all_put (text ∷ texts) (old ∷ olds) (new ∷ news) sent =
       let was = sends_told put_may flush_may told says sent.0.between text.1 old sent.0.middle sent.0.sends in
-      let flushed = flush_told put_may flush_may told says sent.0.between text.0 text.1 old sent.0.middle new was sent.0.flushed in
+      let flushed = flush_told put_may flush_may told says sent.0.between text.0 text.1 old sent.0.middle new was
+      sent.0.flushed in
       ((flushed.0, kept_from text.0 _ _ _ flushed.1), all_put texts olds news sent.1)
 
   -- of wires whose puts and flushes tell what they do
-  pub run_told : (z : Sizes) (inputs lefts : List (Option (List ℕ))) (ends : List SessionEnd) (journal : List (List Entry)) (pool : End) (olds news : List W)
-      → (ran : WasRun z inputs lefts ends journal (no_wires ends) (no_wires ends) pool) → AllSent put_may flush_may (wire_texts ran.served.sessions journal) olds news
-      → IsRun z inputs lefts ends journal pool olds news told
+  pub run_told : (z : Sizes) (inputs lefts : List (Option (List ℕ))) (ends : List SessionEnd)
+      (journal : List (List Entry)) (pool : End) (olds news : List W)
+      → (ran : WasRun z inputs lefts ends journal (no_wires ends) (no_wires ends) pool)
+      → AllSent put_may flush_may (wire_texts ran.served.sessions journal) olds news
+      → IsServedRun z inputs lefts ends journal pool olds news told
   run_told z inputs lefts ends journal pool olds news ran sends =
       let was = ran.served in
       let texts = wire_texts was.sessions journal in
       let each : EachWire (WasPut told) texts olds news = all_put texts olds news sends in
       let failed : map (λ (text : Bool × List ℕ). text.0) texts ≡ map (λ (end : SessionEnd). end.failed) ends =
-      failed_are (all_commands was.sessions) journal 0 was.sessions ∙ ap (map (λ (end : SessionEnd). end.failed)) was.ends_are in
+      failed_are (all_commands was.sessions) journal 0 was.sessions
+      ∙ ap (map (λ (end : SessionEnd). end.failed)) was.ends_are in
       let as_many : length texts ≡ length ends =
-      sym (length-map texts (λ (text : Bool × List ℕ). text.0)) ∙ ap length failed ∙ length-map ends (λ (end : SessionEnd). end.failed) in
+      sym (length-map texts (λ (text : Bool × List ℕ). text.0)) ∙ ap length failed
+      ∙ length-map ends (λ (end : SessionEnd). end.failed) in
       record {
         run = record {
           sessions = was.sessions;
@@ -87,48 +99,71 @@ module _ {W : Type 0} (put_may : W → Bor (List ℕ) → (W × Bool) → Type 0
           orderly = was.orderly;
           one_order = was.one_order;
           one_history = was.one_history;
-          wires = subst (λ ts. WiresGrew ts (map (λ w. (told w).sent) olds) (map (λ w. (told w).sent) news)) (all_as_is texts)
-              (each_told (WasPut told) (λ (text : Bool × List ℕ) (old new : Option (List ℕ)). Grew text.0 text.1 old new) (λ (text : Bool × List ℕ). text) (λ w. (told w).sent) (λ text old new put. put.0.sent) texts olds news each);
+          wires = subst (λ ts. WiresGrew ts (map (λ w. (told w).sent) olds) (map (λ w. (told w).sent) news))
+              (all_as_is texts)
+              (each_told (WasPut told)
+              (λ (text : Bool × List ℕ) (old new : Option (List ℕ)). Grew text.0 text.1 old new)
+              (λ (text : Bool × List ℕ). text) (λ w. (told w).sent) (λ text old new put. put.0.sent) texts olds news
+              each);
         };
         counted = ran.counted;
-        bytes = subst (λ ts. BytesAre ts (map (λ w. (told w).bytes) olds) (map (λ w. (told w).bytes) news)) (all_as_is texts)
-            (each_told (WasPut told) (λ (text : Bool × List ℕ) (old new : ℕ). HasPut text.0 (length text.1) old new) (λ (text : Bool × List ℕ). text) (λ w. (told w).bytes) (λ text old new put. put.0.bytes) texts olds news each);
+        bytes = subst (λ ts. BytesAre ts (map (λ w. (told w).bytes) olds) (map (λ w. (told w).bytes) news))
+            (all_as_is texts)
+            (each_told (WasPut told) (λ (text : Bool × List ℕ) (old new : ℕ). HasPut text.0 (length text.1) old new)
+            (λ (text : Bool × List ℕ). text) (λ w. (told w).bytes) (λ text old new put. put.0.bytes) texts olds news
+            each);
         faults = subst (λ fs. FaultsAre fs (map (λ w. (told w).faults) olds) (map (λ w. (told w).faults) news)) failed
-            (each_told (WasPut told) FaultIs (λ (text : Bool × List ℕ). text.0) (λ w. (told w).faults) (λ text old new put. put.0.faults) texts olds news each);
+            (each_told (WasPut told) FaultIs (λ (text : Bool × List ℕ). text.0) (λ w. (told w).faults)
+            (λ text old new put. put.0.faults) texts olds news each);
         flushed = subst (λ fs. KeptAre fs (map (λ w. (told w).kept) olds) (map (λ w. (told w).kept) news)) failed
-            (each_told (WasPut told) KeptIs (λ (text : Bool × List ℕ). text.0) (λ w. (told w).kept) (λ text old new put. put.1) texts olds news each);
+            (each_told (WasPut told) KeptIs (λ (text : Bool × List ℕ). text.0) (λ w. (told w).kept)
+            (λ text old new put. put.1) texts olds news each);
         others = subst (λ n. drop n news ≡ drop n olds) as_many (past (WasPut told) texts olds news each);
       }
 
   -- its sessions are those that ran
-  pub run_sessions : (z : Sizes) (inputs lefts : List (Option (List ℕ))) (ends : List SessionEnd) (journal : List (List Entry)) (pool : End) (olds news : List W)
-      → (ran : WasRun z inputs lefts ends journal (no_wires ends) (no_wires ends) pool) → (sends : AllSent put_may flush_may (wire_texts ran.served.sessions journal) olds news)
+  pub run_sessions : (z : Sizes) (inputs lefts : List (Option (List ℕ))) (ends : List SessionEnd)
+      (journal : List (List Entry)) (pool : End) (olds news : List W)
+      → (ran : WasRun z inputs lefts ends journal (no_wires ends) (no_wires ends) pool)
+      → (sends : AllSent put_may flush_may (wire_texts ran.served.sessions journal) olds news)
       → (run_told z inputs lefts ends journal pool olds news ran sends).run.sessions ≡ ran.served.sessions
   unfolding run_told
   run_sessions z inputs lefts ends journal pool olds news ran sends = refl
 
-  pub served_to : (z : Sizes) (inputs lefts : List (Option (List ℕ))) (ends : List SessionEnd) (counts : List ℕ) (journal : List (List Entry)) (pool : End) (olds news : List W)
-      → RanAll put_may flush_may z inputs lefts ends counts journal pool olds news → IsRun z inputs lefts ends journal pool olds news told
-  served_to z inputs lefts ends counts journal pool olds news ran = run_told z inputs lefts ends journal pool olds news ran.ran ran.sends
+  pub served_to : (z : Sizes) (inputs lefts : List (Option (List ℕ))) (ends : List SessionEnd) (counts : List ℕ)
+      (journal : List (List Entry)) (pool : End) (olds news : List W)
+      → RanAll put_may flush_may z inputs lefts ends counts journal pool olds news
+      → IsServedRun z inputs lefts ends journal pool olds news told
+  served_to z inputs lefts ends counts journal pool olds news ran = run_told z inputs lefts ends journal pool olds news
+      ran.ran ran.sends
 
-  pub served_sessions : (z : Sizes) (inputs lefts : List (Option (List ℕ))) (ends : List SessionEnd) (counts : List ℕ) (journal : List (List Entry)) (pool : End) (olds news : List W)
-      → (ran : RanAll put_may flush_may z inputs lefts ends counts journal pool olds news) → (served_to z inputs lefts ends counts journal pool olds news ran).run.sessions ≡ ran.ran.served.sessions
+  pub served_sessions : (z : Sizes) (inputs lefts : List (Option (List ℕ))) (ends : List SessionEnd) (counts : List ℕ)
+      (journal : List (List Entry)) (pool : End) (olds news : List W)
+      → (ran : RanAll put_may flush_may z inputs lefts ends counts journal pool olds news)
+      → (served_to z inputs lefts ends counts journal pool olds news ran).run.sessions ≡ ran.ran.served.sessions
   unfolding served_to
-  served_sessions z inputs lefts ends counts journal pool olds news ran = run_sessions z inputs lefts ends journal pool olds news ran.ran ran.sends
+  served_sessions z inputs lefts ends counts journal pool olds news ran = run_sessions z inputs lefts ends journal pool
+      olds news ran.ran ran.sends
 
 -- there are as many sources behind a run, and ends, as inputs
-pub lefts_count : {W : Type 0} (z : Sizes) (inputs lefts : List (Option (List ℕ))) (ends : List SessionEnd) (journal : List (List Entry)) (pool : End) (olds news : List W) (told : W → WireTold)
-    → IsRun z inputs lefts ends journal pool olds news told → length lefts ≡ length inputs
+pub lefts_count : {W : Type 0} (z : Sizes) (inputs lefts : List (Option (List ℕ))) (ends : List SessionEnd)
+    (journal : List (List Entry)) (pool : End) (olds news : List W) (told : W → WireTold)
+    → IsServedRun z inputs lefts ends journal pool olds news told → length lefts ≡ length inputs
 lefts_count z inputs lefts ends journal pool olds news told r =
     let sessions = r.run.sessions in
-    let left : length sessions ≡ length lefts = sym (length-map sessions (λ (session : Session). session.left)) ∙ ap length r.run.lefts_are in
-    let input : length sessions ≡ length inputs = sym (length-map sessions (λ (session : Session). session.input)) ∙ ap length r.run.inputs_are in
+    let left : length sessions ≡ length lefts = sym (length-map sessions (λ (session : Session). session.left))
+    ∙ ap length r.run.lefts_are in
+    let input : length sessions ≡ length inputs = sym (length-map sessions (λ (session : Session). session.input))
+    ∙ ap length r.run.inputs_are in
     sym left ∙ input
 
-pub ends_count : {W : Type 0} (z : Sizes) (inputs lefts : List (Option (List ℕ))) (ends : List SessionEnd) (journal : List (List Entry)) (pool : End) (olds news : List W) (told : W → WireTold)
-    → IsRun z inputs lefts ends journal pool olds news told → length ends ≡ length inputs
+pub ends_count : {W : Type 0} (z : Sizes) (inputs lefts : List (Option (List ℕ))) (ends : List SessionEnd)
+    (journal : List (List Entry)) (pool : End) (olds news : List W) (told : W → WireTold)
+    → IsServedRun z inputs lefts ends journal pool olds news told → length ends ≡ length inputs
 ends_count z inputs lefts ends journal pool olds news told r =
     let sessions = r.run.sessions in
-    let end : length sessions ≡ length ends = sym (length-map sessions (λ (session : Session). session.end)) ∙ ap length r.run.ends_are in
-    let input : length sessions ≡ length inputs = sym (length-map sessions (λ (session : Session). session.input)) ∙ ap length r.run.inputs_are in
+    let end : length sessions ≡ length ends = sym (length-map sessions (λ (session : Session). session.end))
+    ∙ ap length r.run.ends_are in
+    let input : length sessions ≡ length inputs = sym (length-map sessions (λ (session : Session). session.input))
+    ∙ ap length r.run.inputs_are in
     sym end ∙ input

@@ -6,7 +6,8 @@ use Rattle.flake_base.specs.Told.{raised}
 use Rattle.flake_base.specs.declared.session.SessionEnd.{SessionEnd}
 use Rattle.flake_run.specs.Generated.{replies_in, sum_of}
 
-pub sum_step : (counts : List ℕ) (k d bytes next : ℕ) → bytes ≡ raised 0 (sum_of (take k counts)) → next ≡ raised bytes (get_or counts k d) → k < length counts
+pub sum_step : (counts : List ℕ) (k d bytes next : ℕ) → bytes ≡ raised 0 (sum_of (take k counts))
+    → next ≡ raised bytes (get_or counts k d) → k < length counts
     → next ≡ raised 0 (sum_of (take (k + 1) counts))
 sum_step counts k d bytes next before is within =
     omega (
@@ -17,10 +18,12 @@ sum_step counts k d bytes next before is within =
       total-append (λ (count : ℕ). count) (take k counts) (get_or counts k d ∷ []),
     )
 
-pub sum_all : (counts : List ℕ) (k bytes : ℕ) → bytes ≡ raised 0 (sum_of (take k counts)) → length counts ≤ k → bytes ≡ raised 0 (sum_of counts)
+pub sum_all : (counts : List ℕ) (k bytes : ℕ) → bytes ≡ raised 0 (sum_of (take k counts)) → length counts ≤ k
+    → bytes ≡ raised 0 (sum_of counts)
 sum_all counts k bytes before past = before ∙ ap (λ cs. raised 0 (sum_of cs)) (take_all k counts past)
 
-pub replies_step : (ends : List SessionEnd) (k : ℕ) (d : SessionEnd) (replies next : ℕ) → replies ≡ replies_in (take k ends) → next ≡ replies + (get_or ends k d).replies → k < length ends
+pub replies_step : (ends : List SessionEnd) (k : ℕ) (d : SessionEnd) (replies next : ℕ)
+    → replies ≡ replies_in (take k ends) → next ≡ replies + (get_or ends k d).replies → k < length ends
     → next ≡ replies_in (take (k + 1) ends)
 replies_step ends k d replies next before is within =
     omega (
@@ -31,5 +34,6 @@ replies_step ends k d replies next before is within =
       total-append (λ (end : SessionEnd). end.replies) (take k ends) (get_or ends k d ∷ []),
     )
 
-pub replies_all : (ends : List SessionEnd) (k replies : ℕ) → replies ≡ replies_in (take k ends) → length ends ≤ k → replies ≡ replies_in ends
+pub replies_all : (ends : List SessionEnd) (k replies : ℕ) → replies ≡ replies_in (take k ends) → length ends ≤ k
+    → replies ≡ replies_in ends
 replies_all ends k replies before past = before ∙ ap replies_in (take_all k ends past)

@@ -1,5 +1,6 @@
 -- What a run says of which a file did not open.
-use Rattle.std.proofs.Common.{◌≡◌, inl, inr, ℕ, suc, ◌==◌, if◌then◌else◌, List, [], Option, Some, IsSomeAnd, length, map, take, slice_get, arith, ap, sym, ◌∙◌, subst}
+use Rattle.std.proofs.Common.{◌≡◌, inl, inr, ℕ, suc, ◌==◌, if◌then◌else◌, List, [], Option, Some, IsSomeAnd, length}
+use Rattle.std.proofs.Common.{map, take, slice_get, arith, ap, sym, ◌∙◌, subst}
 use Rattle.std.specs.List.{range_with_len}
 use Rattle.std.proofs.lemmas.List.{length-take}
 use Rattle.std.proofs.lemmas.List.Elements.{recursion_from_All}
@@ -8,14 +9,14 @@ use Rattle.flake_base.specs.Causes.{Rose}
 use Rattle.flake_base.specs.Told.{HostTold, WireTold}
 use Rattle.check_files.specs.Named.{AreOther, counted_times}
 use Rattle.flake_run.specs.Opening.{FailsToOpen}
-use Rattle.flake_run.specs.Task.{Job, Task}
+use Rattle.flake_run.specs.Task.{Job, RunTask}
 use Rattle.flake_run.specs.Outside.{outside}
-use Rattle.flake_run.specs.Outcome.{Done, SourceTold, files_of, lefts_of, read_faults_of}
-use Rattle.flake_run.specs.Refusals.{IsRefused}
+use Rattle.flake_run.specs.Outcome.{RunOutcome, SourceTold, files_of, source_lefts, read_faults_of}
+use Rattle.flake_run.specs.Refusals.{RunRefused}
 use Rattle.flake_run.specs.Untouched.{Untouched}
 use Rattle.flake_run.specs.Causes.{Causes, OpenFailed}
 use Rattle.flake_run.specs.Complete.{Complete}
-use Rattle.flake_run.specs.Said.{Said, Says, served_text, text_of}
+use Rattle.flake_run.specs.Said.{Said, PrintsStatus, served_text, status_text}
 use Rattle.flake_run.specs.declared.outcome.Detail.TheVariants.{File}
 use Rattle.flake_run.specs.declared.outcome.Refusal.TheVariants.{OpenFault}
 use Rattle.flake_run.proofs.Ran.{Clauses, IsTask, says_since}
@@ -23,17 +24,19 @@ use Rattle.flake_run.proofs.Stopped.{not_served, not_written, not_refusable, at_
 use Rattle.flake_run.proofs.Unread.{distinct_front, none_read}
 
 -- the files in front were opened, the open of the next one failed, and that was said
-pub record Unopened {W : Type 0} (tells : W → WireTold) (job : Job) (host mid now : HostTold) (wires after : List W) (before : Done) (sources : List SourceTold) : Type 0 where
+pub record Unopened {W : Type 0} (tells : W → WireTold) (job : Job) (host mid now : HostTold) (wires after : List W)
+    (before : RunOutcome) (sources : List SourceTold) : Type 0 where
   pub lefts : List (Option (List ℕ))
   pub zeros : List ℕ
   pub fails : FailsToOpen job.names host mid lefts zeros
-  pub refused : IsRefused (OpenFault (length sources)) (outside mid wires tells) (outside now after tells) before
+  pub refused : RunRefused (OpenFault (length sources)) (outside mid wires tells) (outside now after tells) before
   pub as_many : length lefts ≡ length sources
-  pub lefts_are : lefts_of sources ≡ lefts
+  pub lefts_are : source_lefts sources ≡ lefts
   pub faults_are : read_faults_of sources ≡ zeros
   pub files_are : files_of sources ≡ range_with_len 0 (length sources)
 
-module _ {W : Type 0} (tells : W → WireTold) (task : Task) (job : Job) (host mid now : HostTold) (wires after : List W) (before : Done) (sources : List SourceTold)
+module _ {W : Type 0} (tells : W → WireTold) (task : RunTask) (job : Job) (host mid now : HostTold)
+    (wires after : List W) (before : RunOutcome) (sources : List SourceTold)
     (t : IsTask task job wires) (u : Unopened tells job host mid now wires after before sources) where
   two : before.status ≡ 2
   two = u.refused.status
@@ -44,7 +47,8 @@ module _ {W : Type 0} (tells : W → WireTold) (task : Task) (job : Job) (host m
   rose_since : Rose (host.open_faults u.fails.name) (now.open_faults u.fails.name)
   rose_since =
       subst (λ n. Rose n (now.open_faults u.fails.name)) (u.fails.opened.open_faults u.fails.name)
-      (subst (Rose (u.fails.between.open_faults u.fails.name)) (sym (u.refused.files.open_faults u.fails.name)) u.fails.unopened.rose)
+      (subst (Rose (u.fails.between.open_faults u.fails.name)) (sym (u.refused.files.open_faults u.fails.name))
+      u.fails.unopened.rose)
 
   open_failed : OpenFailed job.names before.detail host now
   open_failed = subst (λ d. OpenFailed job.names d host now) (sym u.refused.detail)
@@ -52,12 +56,16 @@ module _ {W : Type 0} (tells : W → WireTold) (task : Task) (job : Job) (host m
 
   holds_since : (other : List ℕ) → AreOther other (take (length sources) job.names) → now.holds other ≡ host.holds other
   holds_since other all =
-      u.refused.files.holds other ∙ u.fails.unopened.holds other ∙ u.fails.opened.holds other (subst (λ n. AreOther other (take n job.names)) (sym u.as_many) all)
+      u.refused.files.holds other ∙ u.fails.unopened.holds other
+      ∙ u.fails.opened.holds other (subst (λ n. AreOther other (take n job.names)) (sym u.as_many) all)
 
   opens_since : now.opens ≡ counted_times (suc (length sources)) host.opens
-  opens_since = u.refused.files.opens ∙ u.fails.unopened.opens ∙ ap counted (u.fails.opened.opens ∙ ap (λ n. counted_times n host.opens) (sym u.fails.opened.as_many ∙ u.as_many))
+  opens_since = u.refused.files.opens ∙ u.fails.unopened.opens
+      ∙ ap counted (u.fails.opened.opens ∙ ap (λ n. counted_times n host.opens)
+      (sym u.fails.opened.as_many ∙ u.as_many))
 
-  unopened_untouched : Untouched (Some job) (outside host wires tells) (outside now after tells) (record before { sources = sources })
+  unopened_untouched : Untouched (Some job) (outside host wires tells) (outside now after tells)
+      (record before { sources = sources })
   unopened_untouched = record {
     wires = λ none. u.refused.wires;
     journal = λ none. u.refused.journal;
@@ -70,10 +78,12 @@ module _ {W : Type 0} (tells : W → WireTold) (task : Task) (job : Job) (host m
     holds = λ one. absurd (omega (arith, one, two));
     other_files = holds_since;
     unopened = λ one. absurd (omega (arith, one, two));
-    opens = opens_since ∙ ap (λ s. counted_times (if s == 2 then suc (length sources) else length sources) host.opens) (sym two);
+    opens = opens_since ∙ ap (λ s. counted_times (if s == 2 then suc (length sources) else length sources) host.opens)
+        (sym two);
   }
 
-  unopened_causes : Causes (Some job) (outside host wires tells) (outside now after tells) (record before { sources = sources })
+  unopened_causes : Causes (Some job) (outside host wires tells) (outside now after tells)
+      (record before { sources = sources })
   unopened_causes = record {
     statuses = inr (inr (inl two));
     served = λ status. not_served before.status (inl two) status;
@@ -92,29 +102,37 @@ module _ {W : Type 0} (tells : W → WireTold) (task : Task) (job : Job) (host m
     in_order = u.files_are;
   }
 
-  unopened_complete : Complete (Some job) (outside host wires tells) (outside now after tells) (record before { sources = sources })
+  unopened_complete : Complete (Some job) (outside host wires tells) (outside now after tells)
+      (record before { sources = sources })
   unopened_complete = record {
-    whole = λ enough distinct nothing whole. absurd (at_place (λ (name : List ℕ). Rose (host.open_faults name) (now.open_faults name) → ⊥) job.names (length sources) u.fails.name
-        (recursion_from_All (λ (name : List ℕ). Rose (host.open_faults name) (now.open_faults name) → ⊥) job.names nothing.opens) name_is rose_since);
+    whole = λ enough distinct nothing whole. absurd
+        (at_place (λ (name : List ℕ). Rose (host.open_faults name) (now.open_faults name) → ⊥) job.names
+        (length sources) u.fails.name
+        (recursion_from_All (λ (name : List ℕ). Rose (host.open_faults name) (now.open_faults name) → ⊥) job.names
+        nothing.opens) name_is rose_since);
   }
 
-  text_is : text_of before.status before.detail (served_text job.journal before.journal before.ends before.held) ≡ text_of 2 (File (length sources)) []
-  text_is = ap (λ s. text_of s before.detail (served_text job.journal before.journal before.ends before.held)) two
-      ∙ ap (λ d. text_of 2 d (served_text job.journal before.journal before.ends before.held)) u.refused.detail
+  text_is : status_text before.status before.detail (served_text job.journal before.journal before.ends before.held)
+      ≡ status_text 2 (File (length sources)) []
+  text_is = ap (λ s. status_text s before.detail (served_text job.journal before.journal before.ends before.held)) two
+      ∙ ap (λ d. status_text 2 d (served_text job.journal before.journal before.ends before.held)) u.refused.detail
 
-  unopened_said : Said (Some job) (outside host wires tells) (outside now after tells) (record before { sources = sources })
+  unopened_said : Said (Some job) (outside host wires tells) (outside now after tells)
+      (record before { sources = sources })
   unopened_said = record {
-    text = λ other. subst (λ text. Says text host now) (sym text_is)
-        (says_since _ host mid now (u.fails.unopened.said ∙ u.fails.opened.said) (u.fails.unopened.say_faults ∙ u.fails.opened.say_faults) u.refused.said);
+    text = λ other. subst (λ text. PrintsStatus text host now) (sym text_is)
+        (says_since _ host mid now (u.fails.unopened.said ∙ u.fails.opened.said)
+        (u.fails.unopened.say_faults ∙ u.fails.opened.say_faults) u.refused.said);
     no_memory = λ six. absurd (omega (arith, six, two));
     served = λ some. absurd (some u.refused.ends);
   }
 
   pub unopened_all : Clauses tells task host now wires after (record before { sources = sources })
-  unopened_all = subst (λ t. Clauses tells t host now wires after (record before { sources = sources })) (sym t.task_is) (record {
-    served = λ some. absurd (some u.refused.ends);
-    untouched = unopened_untouched;
-    causes = unopened_causes;
-    complete = unopened_complete;
-    said = unopened_said;
-  })
+  unopened_all = subst (λ t. Clauses tells t host now wires after (record before { sources = sources })) (sym t.task_is)
+      (record {
+        served = λ some. absurd (some u.refused.ends);
+        untouched = unopened_untouched;
+        causes = unopened_causes;
+        complete = unopened_complete;
+        said = unopened_said;
+      })

@@ -1,14 +1,15 @@
 -- What a run says that opened its files, and for which memory was wanting before the first read.
-use Rattle.std.proofs.Common.{◌≡◌, inl, inr, ℕ, suc, ◌==◌, if◌then◌else◌, List, Option, Some, length, map, take, arith, ap, sym, ◌∙◌, subst}
+use Rattle.std.proofs.Common.{◌≡◌, inl, inr, ℕ, suc, ◌==◌, if◌then◌else◌, List, Option, Some, length, map, take, arith}
+use Rattle.std.proofs.Common.{ap, sym, ◌∙◌, subst}
 use Rattle.std.specs.List.{range_with_len}
 use Rattle.std.proofs.lemmas.List.{take_all}
 use Rattle.flake_base.specs.Told.{HostTold, WireTold}
 use Rattle.check_files.specs.Named.{AreOther, counted_times}
 use Rattle.flake_run.specs.Opening.{AreOpened}
-use Rattle.flake_run.specs.Task.{Job, Task}
+use Rattle.flake_run.specs.Task.{Job, RunTask}
 use Rattle.flake_run.specs.Outside.{outside}
-use Rattle.flake_run.specs.Outcome.{Done, SourceTold, files_of, lefts_of, read_faults_of}
-use Rattle.flake_run.specs.Refusals.{IsRefused}
+use Rattle.flake_run.specs.Outcome.{RunOutcome, SourceTold, files_of, source_lefts, read_faults_of}
+use Rattle.flake_run.specs.Refusals.{RunRefused}
 use Rattle.flake_run.specs.Untouched.{Untouched}
 use Rattle.flake_run.specs.Causes.{Causes}
 use Rattle.flake_run.specs.declared.outcome.Refusal.TheVariants.{Memory}
@@ -17,16 +18,18 @@ use Rattle.flake_run.proofs.Stopped.{not_served, not_written, not_refusable}
 use Rattle.flake_run.proofs.Unread.{none_read}
 
 -- the files were opened, and want of memory was said
-pub record Unserved {W : Type 0} (tells : W → WireTold) (job : Job) (host mid now : HostTold) (wires after : List W) (before : Done) (sources : List SourceTold) : Type 0 where
+pub record Unserved {W : Type 0} (tells : W → WireTold) (job : Job) (host mid now : HostTold) (wires after : List W)
+    (before : RunOutcome) (sources : List SourceTold) : Type 0 where
   pub lefts : List (Option (List ℕ))
   pub zeros : List ℕ
   pub opened : AreOpened job.names host mid lefts zeros
-  pub refused : IsRefused Memory (outside mid wires tells) (outside now after tells) before
+  pub refused : RunRefused Memory (outside mid wires tells) (outside now after tells) before
   pub files_are : files_of sources ≡ range_with_len 0 (length job.names)
-  pub lefts_are : lefts_of sources ≡ lefts
+  pub lefts_are : source_lefts sources ≡ lefts
   pub faults_are : read_faults_of sources ≡ zeros
 
-module _ {W : Type 0} (tells : W → WireTold) (task : Task) (job : Job) (host mid now : HostTold) (wires after : List W) (before : Done) (sources : List SourceTold)
+module _ {W : Type 0} (tells : W → WireTold) (task : RunTask) (job : Job) (host mid now : HostTold)
+    (wires after : List W) (before : RunOutcome) (sources : List SourceTold)
     (t : IsTask task job wires) (u : Unserved tells job host mid now wires after before sources) where
   six : before.status ≡ 6
   six = u.refused.status
@@ -37,7 +40,8 @@ module _ {W : Type 0} (tells : W → WireTold) (task : Task) (job : Job) (host m
   all_names : take (length sources) job.names ≡ job.names
   all_names = take_all (length sources) job.names (omega (arith, as_many))
 
-  unserved_untouched : Untouched (Some job) (outside host wires tells) (outside now after tells) (record before { sources = sources })
+  unserved_untouched : Untouched (Some job) (outside host wires tells) (outside now after tells)
+      (record before { sources = sources })
   unserved_untouched = record {
     wires = λ none. u.refused.wires;
     journal = λ none. u.refused.journal;
@@ -47,13 +51,15 @@ module _ {W : Type 0} (tells : W → WireTold) (task : Task) (job : Job) (host m
     refused = λ status. u.refused.ends;
     sources = λ one. absurd (omega (arith, one, six));
     holds = λ one. absurd (omega (arith, one, six));
-    other_files = λ other differs. u.refused.files.holds other ∙ u.opened.holds other (subst (AreOther other) all_names differs);
+    other_files = λ other differs. u.refused.files.holds other
+        ∙ u.opened.holds other (subst (AreOther other) all_names differs);
     unopened = λ one. absurd (omega (arith, one, six));
     opens = u.refused.files.opens ∙ u.opened.opens ∙ ap (λ n. counted_times n host.opens) (sym as_many)
         ∙ ap (λ s. counted_times (if s == 2 then suc (length sources) else length sources) host.opens) (sym six);
   }
 
-  unserved_causes : Causes (Some job) (outside host wires tells) (outside now after tells) (record before { sources = sources })
+  unserved_causes : Causes (Some job) (outside host wires tells) (outside now after tells)
+      (record before { sources = sources })
   unserved_causes = record {
     statuses = inr (inr (inr (inr (inr (inr six)))));
     served = λ status. not_served before.status (inr six) status;
@@ -73,14 +79,15 @@ module _ {W : Type 0} (tells : W → WireTold) (task : Task) (job : Job) (host m
   }
 
   pub unserved_all : Clauses tells task host now wires after (record before { sources = sources })
-  unserved_all = subst (λ t. Clauses tells t host now wires after (record before { sources = sources })) (sym t.task_is) (record {
-    served = λ some. absurd (some u.refused.ends);
-    untouched = unserved_untouched;
-    causes = unserved_causes;
-    complete = record { whole = λ enough distinct nothing whole. absurd (nothing.memory six) };
-    said = record {
-      text = λ other. absurd (other six);
-      no_memory = λ is none. says_since _ host mid now u.opened.said u.opened.say_faults u.refused.said;
-      served = λ some. absurd (some u.refused.ends);
-    };
-  })
+  unserved_all = subst (λ t. Clauses tells t host now wires after (record before { sources = sources })) (sym t.task_is)
+      (record {
+        served = λ some. absurd (some u.refused.ends);
+        untouched = unserved_untouched;
+        causes = unserved_causes;
+        complete = record { whole = λ enough distinct nothing whole. absurd (nothing.memory six) };
+        said = record {
+          text = λ other. absurd (other six);
+          no_memory = λ is none. says_since _ host mid now u.opened.said u.opened.say_faults u.refused.said;
+          served = λ some. absurd (some u.refused.ends);
+        };
+      })

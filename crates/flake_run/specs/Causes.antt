@@ -8,9 +8,9 @@ use Rattle.flake_base.specs.declared.session.End.{End}
 use Rattle.flake_base.specs.declared.session.End.TheVariants.{Clean, Protocol, Truncated, TooLong, ReadFault, Memory}
 use Rattle.flake_base.specs.declared.session.End.TheVariants.{Left}
 use Rattle.command_pump.specs.Pump.{EndFaults}
-use Rattle.flake_run.specs.Task.{Task, names_of}
-use Rattle.flake_run.specs.Outside.{Outside, faults_of}
-use Rattle.flake_run.specs.Outcome.{Done, ways, files_of, read_faults_of}
+use Rattle.flake_run.specs.Task.{RunTask, names_of}
+use Rattle.flake_run.specs.Outside.{Outside, wire_faults}
+use Rattle.flake_run.specs.Outcome.{RunOutcome, ways, files_of, read_faults_of}
 use Rattle.flake_run.specs.declared.outcome.Detail.{Detail}
 use Rattle.flake_run.specs.declared.outcome.Detail.TheVariants.{Nothing, File}
 
@@ -38,7 +38,7 @@ AreCountsOf (end ∷ ends) (count ∷ counts) = EndFaults end 0 count × AreCoun
 -- the count of puts that failed rose on one of so many first wires
 abbrev pub SomePutFailed : {W : Type 0} → ℕ → Outside W → Outside W → Type 0
 SomePutFailed sessions before after = (session : ℕ) × (session < sessions)
-    × Rose (slice_index (faults_of before) session) (slice_index (faults_of after) session)
+    × Rose (slice_index (wire_faults before) session) (slice_index (wire_faults after) session)
 
 -- the open of the file that is named failed
 abbrev pub OpenFailed : List (List ℕ) → Detail → HostTold → HostTold → Type 0
@@ -47,10 +47,10 @@ OpenFailed names (File file) old new =
 OpenFailed names detail old new = ⊥
 
 -- there is no task, or not a wire for each file
-abbrev pub IsRefusable : {W : Type 0} → Task → Outside W → Type 0
+abbrev pub IsRefusable : {W : Type 0} → RunTask → Outside W → Type 0
 IsRefusable task before = IsNone task ⊎ (length before.wires < length (names_of task))
 
-pub record Causes {W : Type 0} (task : Task) (before after : Outside W) (done : Done) : Type 0 where
+pub record Causes {W : Type 0} (task : RunTask) (before after : Outside W) (done : RunOutcome) : Type 0 where
   pub statuses : (done.status ≡ 0) ⊎ (done.status ≡ 1) ⊎ (done.status ≡ 2) ⊎ (done.status ≡ 3)
       ⊎ (done.status ≡ 4) ⊎ (done.status ≡ 5) ⊎ (done.status ≡ 6)
   -- where the words are accepted, the files were opened and memory was not wanting, each session has its end
@@ -76,7 +76,7 @@ pub record Causes {W : Type 0} (task : Task) (before after : Outside W) (done : 
       × (Rose before.host.say_faults after.host.say_faults ⊎ SomePutFailed (length done.ends) before after)
   -- and with 0, 3 and 4 none did
   pub written : (done.status ≡ 0) ⊎ (done.status ≡ 3) ⊎ (done.status ≡ 4)
-      → (after.host.say_faults ≡ before.host.say_faults) × (faults_of after ≡ faults_of before)
+      → (after.host.say_faults ≡ before.host.say_faults) × (wire_faults after ≡ wire_faults before)
   -- the detail names the file that did not open, the one behind those that did
   pub detail : done.status ≡ 2 → done.detail ≡ File (length done.sources)
   pub no_detail : done.status ≢ 2 → done.detail ≡ Nothing

@@ -7,18 +7,18 @@ use Rattle.flake_base.specs.Causes.{Rose}
 use Rattle.flake_base.specs.Told.{HostTold}
 use Rattle.flake_base.specs.declared.journal.Entry.{Entry}
 use Rattle.journal_text.specs.Lines.{lines_of}
-use Rattle.journal_text.specs.Reading.{AreLines}
-use Rattle.check_files.specs.Files.{limit_of}
+use Rattle.journal_text.specs.Reading.{AreJournalLines}
+use Rattle.check_files.specs.Files.{file_limit}
 use Rattle.check_files.specs.Judged.{IsJudged}
 use Rattle.check_files.specs.Named.{Named, AreDistinct, FilesOpened, FileFails, held_by, names_in}
-use Rattle.check_files.specs.Stopped.{IsStopped}
+use Rattle.check_files.specs.Stopped.{WhyStopped}
 use Rattle.check_files.specs.Whole.{emptied}
 use Rattle.check_files.specs.declared.error.CheckError.TheVariants as errors
 use Rattle.replay_check.specs.declared.verdict.Verdict.TheVariants.{Same}
 use Rattle.flake_run.specs.Outside.{Outside, LeavesFiles}
-use Rattle.flake_run.specs.Outcome.{Done, SourceTold, files_of, none_held}
-use Rattle.flake_run.specs.Said.{Says}
-use Rattle.flake_run.specs.Files.{places_from}
+use Rattle.flake_run.specs.Outcome.{RunOutcome, SourceTold, files_of, none_held}
+use Rattle.flake_run.specs.Said.{PrintsStatus}
+use Rattle.flake_run.specs.Files.{named_places}
 use Rattle.flake_run.specs.Finding.{finding_status, finding_detail, finding_text}
 use Rattle.flake_run.specs.declared.finding.Finding.{Finding}
 use Rattle.flake_run.specs.declared.finding.Finding.TheVariants.{BadWords, OpenFault, ReadFault, TooLarge, BadLine}
@@ -40,28 +40,28 @@ abbrev pub IsReadToEnd : List (Option (List ℕ)) → SourceTold → Type 0
 IsReadToEnd lefts source = option_map emptied (slice_get lefts source.file) ≡ Some source.left
 
 -- so were the files in front of this one, and those behind it have what they had
-abbrev pub IsReadTo : ℕ → List (Option (List ℕ)) → SourceTold → Type 0
-IsReadTo file lefts source = (source.file < file → IsReadToEnd lefts source)
+abbrev pub WasReadTo : ℕ → List (Option (List ℕ)) → SourceTold → Type 0
+WasReadTo file lefts source = (source.file < file → IsReadToEnd lefts source)
     × (file < source.file → IsAsOpened lefts source)
 
 -- What a source has left, by what the files had when they were opened. Where memory was wanting it is free.
 abbrev pub HasLeftBy : Finding → List (Option (List ℕ)) → SourceTold → Type 0
-HasLeftBy (ReadFault file) lefts source = IsReadTo file lefts source
-HasLeftBy (TooLarge file) lefts source = IsReadTo file lefts source
+HasLeftBy (ReadFault file) lefts source = WasReadTo file lefts source
+HasLeftBy (TooLarge file) lefts source = WasReadTo file lefts source
 HasLeftBy Memory lefts source = Unit {0}
 HasLeftBy finding lefts source = IsReadToEnd lefts source
 
 -- a file of this number was opened
-abbrev pub IsOpened : ℕ → List SourceTold → Type 0
-IsOpened file sources = (at : ℕ) × (source : SourceTold) × (slice_get sources at ≡ Some source) × (source.file ≡ file)
+abbrev pub WasOpened : ℕ → List SourceTold → Type 0
+WasOpened file sources = (at : ℕ) × (source : SourceTold) × (slice_get sources at ≡ Some source) × (source.file ≡ file)
 
 -- what files come to that have these bytes left
 abbrev pub ComesTo : Finding → List (Option (List ℕ)) → List SourceTold → Type 0
 ComesTo BadWords lefts sources = ⊥
 ComesTo (OpenFault file) lefts sources = ⊥
-ComesTo (ReadFault file) lefts sources = IsStopped lefts (errors.ReadFault file) × IsOpened file sources
-ComesTo (TooLarge file) lefts sources = IsStopped lefts (errors.TooLarge file)
-ComesTo (BadLine line) lefts sources = IsStopped lefts (errors.BadLine line)
+ComesTo (ReadFault file) lefts sources = WhyStopped lefts (errors.ReadFault file) × WasOpened file sources
+ComesTo (TooLarge file) lefts sources = WhyStopped lefts (errors.TooLarge file)
+ComesTo (BadLine line) lefts sources = WhyStopped lefts (errors.BadLine line)
 ComesTo (Judged verdict) lefts sources = IsJudged lefts verdict
 ComesTo Memory lefts sources = Unit {0}
 
@@ -70,7 +70,7 @@ pub record WasRead (finding : Finding) (words : List Named) (old new : HostTold)
     Type 0 where
   pub lefts : List (Option (List ℕ))
   pub opened : FilesOpened words old new lefts
-  pub files : files_of sources ≡ places_from 0 words
+  pub files : files_of sources ≡ named_places 0 words
   pub reads : AllByRecursion (HasFaultsBy finding) sources
   pub rests : AllByRecursion (HasLeftBy finding lefts) sources
   pub comes_to : ComesTo finding lefts sources
@@ -81,7 +81,7 @@ pub record OneUnopened (file : ℕ) (words : List Named) (old new : HostTold) (s
   pub lefts : List (Option (List ℕ))
   pub fails : FileFails words file old between lefts
   pub left : LeavesFiles between new
-  pub files : files_of sources ≡ places_from 0 (take file words)
+  pub files : files_of sources ≡ named_places 0 (take file words)
   pub reads : AllByRecursion (λ source. source.faults ≡ 0) sources
   pub rests : AllByRecursion (IsAsOpened lefts) sources
 
@@ -111,10 +111,10 @@ IsStatus (Judged Same) old new status =
 IsStatus finding old new status = status ≡ finding_status finding
 
 -- it is said what was found, nothing is served, and the wires are as handed in
-pub record IsConcluded {W : Type 0} (finding : Finding) (before after : Outside W) (done : Done) : Type 0 where
+pub record IsConcluded {W : Type 0} (finding : Finding) (before after : Outside W) (done : RunOutcome) : Type 0 where
   pub status : IsStatus finding before.host after.host done.status
   pub detail : done.detail ≡ finding_detail finding
-  pub said : Says (finding_text finding) before.host after.host
+  pub said : PrintsStatus (finding_text finding) before.host after.host
   pub ends : done.ends ≡ []
   pub journal : done.journal ≡ []
   pub held : done.held ≡ none_held
@@ -122,7 +122,7 @@ pub record IsConcluded {W : Type 0} (finding : Finding) (before after : Outside 
   pub wires : after.wires ≡ before.wires
 
 -- the same, or that memory was wanting to say it
-abbrev pub ConcludesBy : {W : Type 0} → Finding → Outside W → Outside W → Done → Type 0
+abbrev pub ConcludesBy : {W : Type 0} → Finding → Outside W → Outside W → RunOutcome → Type 0
 ConcludesBy finding before after done =
     IsConcluded finding before after done ⊎ IsConcluded Memory before after done
 
@@ -130,23 +130,24 @@ ConcludesBy finding before after done =
 pub record AreCheckable (words : List Named) (host : HostTold) : Type 0 where
   pub told : AllByRecursion (λ held. IsSome held) (map (held_by host) words)
   pub within : (place : ℕ) (bytes : List ℕ) → slice_get (map (held_by host) words) place ≡ Some (Some bytes)
-      → length bytes ≤ limit_of place
+      → length bytes ≤ file_limit place
   pub text : List ℕ
   pub text_is : slice_get (map (held_by host) words) 0 ≡ Some (Some text)
   pub journal : List (List Entry)
-  pub lines : AreLines (lines_of text) journal
+  pub lines : AreJournalLines (lines_of text) journal
 
 -- memory was not wanting, and no count of failed calls rose
-pub record NoneRose (words : List Named) (old new : HostTold) (done : Done) : Type 0 where
+pub record NoneRose (words : List Named) (old new : HostTold) (done : RunOutcome) : Type 0 where
   pub memory : done.status ≢ 6
   pub opens : AllByRecursion (λ name. Rose (old.open_faults name) (new.open_faults name) → ⊥) (names_in words)
   pub reads : AllByRecursion (λ source. source.faults ≡ 0) done.sources
   pub says : Rose old.say_faults new.say_faults → ⊥
 
-pub record Checked {W : Type 0} (task : Option (List Named)) (before after : Outside W) (done : Done) : Type 0 where
-  pub finding : Finding
-  pub concluded : IsConcluded finding before after done
-  pub found : WasFound finding task before.host after.host done.sources
-  -- where the words are accepted and nothing failed, files as a check wants them get their verdict
-  pub complete : IfSome task (λ words. AreDistinct (names_in words) → AreCheckable words before.host
-      → NoneRose words before.host after.host done → (done.status ≡ 0) ⊎ (done.status ≡ 8))
+pub record Checked {W : Type 0} (task : Option (List Named)) (before after : Outside W) (done : RunOutcome) : Type 0
+  where
+    pub finding : Finding
+    pub concluded : IsConcluded finding before after done
+    pub found : WasFound finding task before.host after.host done.sources
+    -- where the words are accepted and nothing failed, files as a check wants them get their verdict
+    pub complete : IfSome task (λ words. AreDistinct (names_in words) → AreCheckable words before.host
+        → NoneRose words before.host after.host done → (done.status ≡ 0) ⊎ (done.status ≡ 8))

@@ -2,34 +2,34 @@
 use Rattle.std.specs.Prelude.{ℕ, ◌<◌, List, Option, Some, None, String, length, map, drop}
 use Rattle.std.specs.Global.{Global}
 use Rattle.std.specs.Option.{option_map}
-use Rattle.serve_house.specs.declared.sizes.Sizes.{Sizes}
+use Rattle.run_resources.specs.declared.sizes.Sizes.{Sizes}
 use Rattle.serve_words.specs.Drive as words
-use Rattle.serve_words.specs.Task.{texts_of}
+use Rattle.serve_words.specs.Task.{word_texts}
 use Rattle.serve_words.specs.declared.drive.DriveTask.{DriveTask}
 use Rattle.flake_run.specs.Outside.{Outside}
-use Rattle.flake_run.specs.Task.{sizes_of}
+use Rattle.flake_run.specs.Task.{run_sizes}
 
 -- the schedule's name, and then those of the files whose requests are served; and the sizes
-pub record Drive : Type 0 where
+pub record DriveJob : Type 0 where
   pub names : List (List ℕ)
   pub sizes : Sizes
 
-abbrev pub drive_job : words.Drive → Drive
-drive_job task = record { names = task.files; sizes = sizes_of task.sizes }
+abbrev pub drive_job : words.Drive → DriveJob
+drive_job task = record { names = task.files; sizes = run_sizes task.sizes }
 
 -- none where the words are bad words
-abbrev pub drive_of : List (String Global) → Option Drive
-drive_of typed = option_map drive_job (words.drive_of (texts_of typed))
+abbrev pub drive_job_of : List (String Global) → Option DriveJob
+drive_job_of typed = option_map drive_job (words.drive_of (word_texts typed))
 
 -- the task, as the code holds it
-abbrev pub shown_job : DriveTask → Drive
-shown_job task = record { names = map (λ file. file.now) task.files.items; sizes = sizes_of task.sizes }
+abbrev pub shown_job : DriveTask → DriveJob
+shown_job task = record { names = map (λ file. file.now) task.files.items; sizes = run_sizes task.sizes }
 
 -- the files whose requests are served: all but the first, which is the schedule's
-abbrev pub served_names : Drive → List (List ℕ)
+abbrev pub served_names : DriveJob → List (List ℕ)
 served_names job = drop 1 job.names
 
 -- there is no task, or not a wire for each of these files
-abbrev pub IsUndrivable : {W : Type 0} → Option Drive → Outside W → Type 0
+abbrev pub IsUndrivable : {W : Type 0} → Option DriveJob → Outside W → Type 0
 IsUndrivable None before = Unit {0}
 IsUndrivable (Some job) before = length before.wires < length (served_names job)

@@ -13,20 +13,20 @@ use Rattle.pinned_pool.specs.Claims.{count_of}
 use Rattle.pinned_pool.specs.Ends.{End}
 use Rattle.schedule_text.specs.declared.line.Line.{Line}
 use Rattle.check_files.specs.Whole.{emptied}
-use Rattle.serve_house.specs.Opened.{pool_sizes}
-use Rattle.serve_house.specs.declared.sizes.Sizes.{Sizes}
+use Rattle.run_resources.specs.Opened.{pool_sizes}
+use Rattle.run_resources.specs.declared.sizes.Sizes.{Sizes}
 use Rattle.serve_model.specs.Demand.{demand_of}
 use Rattle.serve_model.specs.Shown.{IsCounted}
-use Rattle.transcript_model.specs.Lines.{Said, line_text}
+use Rattle.transcript_model.specs.Lines.{EventLine, transcript_line}
 use Rattle.transcript_model.specs.Transcript.{IsSaid, IsTranscript}
-use Rattle.drive_script.specs.Says.{Says}
+use Rattle.drive_script.specs.Says.{PrintsText}
 use Rattle.drive_told.specs.Together.{driven_run}
 use Rattle.flake_run.specs.Causes.{AreCountsOf, highest_by}
 use Rattle.flake_run.specs.Checked.{IsConcluded}
-use Rattle.flake_run.specs.Outcome.{Done, ways, files_of, lefts_of, read_faults_of}
-use Rattle.flake_run.specs.Outside.{Outside, LeavesFiles, sent_by, bytes_of, kept_by, faults_of}
+use Rattle.flake_run.specs.Outcome.{RunOutcome, ways, files_of, source_lefts, read_faults_of}
+use Rattle.flake_run.specs.Outside.{Outside, LeavesFiles, wires_sent, wire_bytes, kept_by, wire_faults}
 use Rattle.flake_run.specs.Schedule.{HasSchedule, IsUndriven}
-use Rattle.flake_run.specs.Serving.{IsRun}
+use Rattle.flake_run.specs.Serving.{IsServedRun}
 use Rattle.flake_run.specs.declared.finding.Finding.{Finding}
 use Rattle.flake_run.specs.declared.outcome.Detail.TheVariants.{Nothing}
 
@@ -34,11 +34,11 @@ use Rattle.flake_run.specs.declared.outcome.Detail.TheVariants.{Nothing}
 pub record IsDrivenRun {W : Type 0} (z : pool.Sizes) (ring threshold : ℕ) (schedule : List Line) (failed : Bool)
     (inputs lefts : List (Option (List ℕ))) (ends : List SessionEnd) (journal : List (List Entry)) (closed : End)
     (olds news : List W) (told : W → WireTold) (old new : HostTold) : Type 0 where
-  pub run : IsRun z inputs lefts ends journal closed olds news told
-  pub lines : List Said
+  pub run : IsServedRun z inputs lefts ends journal closed olds news told
+  pub lines : List EventLine
   pub transcript : IsTranscript (driven_run z ring threshold (all_commands run.run.sessions) ends journal closed)
       (map (λ wire. (told wire).sent) olds) (map (λ wire. (told wire).sent) news) schedule lines
-  pub said : Says false failed (flat_map line_text lines) old new
+  pub said : PrintsText false failed (flat_map transcript_line lines) old new
 
 -- and the schedule is that of another source
 pub record IsDrivenBy {W : Type 0} (sizes : Sizes) (left : Option (List ℕ)) (failed : Bool)
@@ -58,16 +58,16 @@ some_put_failed ends = list_any (λ (end : SessionEnd). end.failed) ends
 
 -- Sources with these inputs were driven by the schedule that another one had left.
 pub record WasDriven {W : Type 0} (sizes : Sizes) (left : Option (List ℕ)) (inputs : List (Option (List ℕ)))
-    (before after : Outside W) (done : Done) : Type 0 where
+    (before after : Outside W) (done : RunOutcome) : Type 0 where
   -- these are the schedule's lines
   pub schedule : List Line
   pub lines : HasSchedule (length inputs) left schedule
   -- what the sources have left that come back, the schedule's first of all, which was read to its end
   pub lefts : List (Option (List ℕ))
-  pub lefts_are : lefts_of done.sources ≡ emptied left ∷ lefts
+  pub lefts_are : source_lefts done.sources ≡ emptied left ∷ lefts
   -- the journal has the parts that were run, in one history, and the wires were sent the texts of the replies that it
   -- gives
-  pub run : WasServed inputs lefts done.ends done.journal (sent_by before) (sent_by after)
+  pub run : WasServed inputs lefts done.ends done.journal (wires_sent before) (wires_sent after)
   -- what the closed pool shows by the journal: a buffer is held for each fragment of a final value, as many were
   -- claimed as the commands may claim at most, and a write without an entry found no free buffer
   pub pool : End
@@ -79,11 +79,11 @@ pub record WasDriven {W : Type 0} (sizes : Sizes) (left : Option (List ℕ)) (in
       → demand_of class (all_commands run.sessions) ≤ count_of (pool_sizes (length inputs) sizes) class)
       → missing_writes run.sessions done.journal ≡ 0
   -- as many bytes were put as the texts have, also on a wire that doesn't tell which
-  pub bytes : BytesAre (wire_texts run.sessions done.journal) (bytes_of before) (bytes_of after)
+  pub bytes : BytesAre (wire_texts run.sessions done.journal) (wire_bytes before) (wire_bytes after)
   -- a wire that didn't fail keeps none of them back
   pub flushed : KeptAre (map (λ end. end.failed) done.ends) (kept_by before) (kept_by after)
   -- a session failed where its wire's count of faults rose, and else that count is as it was
-  pub faults : FaultsAre (map (λ end. end.failed) done.ends) (faults_of before) (faults_of after)
+  pub faults : FaultsAre (map (λ end. end.failed) done.ends) (wire_faults before) (wire_faults after)
   -- the wires past the sessions are as handed in
   pub others : drop (length done.ends) after.wires ≡ drop (length done.ends) before.wires
   -- each input has its session, and each shard its history
@@ -100,18 +100,18 @@ pub record WasDriven {W : Type 0} (sizes : Sizes) (left : Option (List ℕ)) (in
   -- held behind it; or a front of one, where a say failed
   pub said : IsSaid
       (driven_run (pool_sizes (length inputs) sizes) sizes.ring sizes.threshold (all_commands run.sessions) done.ends
-      done.journal pool) (sent_by before) (sent_by after) schedule failed before.host.said after.host.said
+      done.journal pool) (wires_sent before) (wires_sent after) schedule failed before.host.said after.host.said
   -- the status is by the ends, and by what failed
   pub status : done.status ≡ status_with (failed || some_put_failed done.ends) (highest_by (ways done.ends))
   pub detail : done.detail ≡ Nothing
 
 -- Nothing was driven, and it was said and answered why. No input was read: no read of it failed, and all of it is left.
 pub record NotDriven {W : Type 0} (left : Option (List ℕ)) (inputs : List (Option (List ℕ))) (before after : Outside W)
-    (done : Done) : Type 0 where
+    (done : RunOutcome) : Type 0 where
   pub finding : Finding
   pub concluded : IsConcluded finding before after done
   pub rest : Option (List ℕ)
-  pub lefts_are : lefts_of done.sources ≡ rest ∷ inputs
+  pub lefts_are : source_lefts done.sources ≡ rest ∷ inputs
   pub count : ℕ
   pub counts : List ℕ
   pub counts_are : read_faults_of done.sources ≡ count ∷ counts
@@ -120,7 +120,7 @@ pub record NotDriven {W : Type 0} (left : Option (List ℕ)) (inputs : List (Opt
 
 -- what came of sources that were opened, all of which come back
 pub record CameOf {W : Type 0} (sizes : Sizes) (left : Option (List ℕ)) (inputs : List (Option (List ℕ)))
-    (before after : Outside W) (done : Done) : Type 0 where
+    (before after : Outside W) (done : RunOutcome) : Type 0 where
   pub driven : done.ends ≢ [] → WasDriven sizes left inputs before after done
   pub refused : done.ends ≡ [] → NotDriven left inputs before after done
   pub leaves : LeavesFiles before.host after.host

@@ -5,16 +5,16 @@ use Rattle.std.specs.List.{AllByRecursion, range_with_len}
 use Rattle.flake_base.specs.Causes.{Rose}
 use Rattle.flake_base.specs.Told.{HostTold}
 use Rattle.journal_text.specs.Lines.{lines_of}
-use Rattle.schedule_text.specs.Reading.{AreLines}
+use Rattle.schedule_text.specs.Reading.{AreScheduleLines}
 use Rattle.schedule_text.specs.declared.line.Line.{Line}
 use Rattle.check_files.specs.Named.{AreDistinct}
 use Rattle.flake_run.specs.Causes.{SomePutFailed}
 use Rattle.flake_run.specs.Checked.{IsConcluded, NoneOpened}
-use Rattle.flake_run.specs.Complete.{IsWhole}
+use Rattle.flake_run.specs.Complete.{IsWholeInput}
 use Rattle.flake_run.specs.Driven.{WasDriven}
-use Rattle.flake_run.specs.DriveTask.{Drive, IsUndrivable, served_names}
+use Rattle.flake_run.specs.DriveTask.{DriveJob, IsUndrivable, served_names}
 use Rattle.flake_run.specs.Opening.{AreOpened, FailsToOpen, HaveTheirOwn}
-use Rattle.flake_run.specs.Outcome.{Done, SourceTold, files_of, lefts_of, read_faults_of}
+use Rattle.flake_run.specs.Outcome.{RunOutcome, SourceTold, files_of, source_lefts, read_faults_of}
 use Rattle.flake_run.specs.Outside.{Outside, LeavesFiles}
 use Rattle.flake_run.specs.Schedule.{IsUndriven, schedule_limit}
 use Rattle.flake_run.specs.declared.finding.Finding.{Finding}
@@ -37,7 +37,7 @@ pub record OneFails (file : ℕ) (names : List (List ℕ)) (old new : HostTold) 
   pub between : HostTold
   pub lefts : List (Option (List ℕ))
   pub fails : FailsToOpen names old between lefts (read_faults_of sources)
-  pub lefts_are : lefts_of sources ≡ lefts
+  pub lefts_are : source_lefts sources ≡ lefts
   pub number : length lefts ≡ file
   pub leaves : LeavesFiles between new
   pub files : files_of sources ≡ range_with_len 0 file
@@ -50,7 +50,7 @@ pub record NoneDriven (finding : Finding) (names : List (List ℕ)) (old new : H
   pub inputs : List (Option (List ℕ))
   pub opened : AllOpened names old new left inputs sources
   pub rest : Option (List ℕ)
-  pub lefts_are : lefts_of sources ≡ rest ∷ inputs
+  pub lefts_are : source_lefts sources ≡ rest ∷ inputs
   pub count : ℕ
   pub counts : List ℕ
   pub counts_are : read_faults_of sources ≡ count ∷ counts
@@ -58,12 +58,12 @@ pub record NoneDriven (finding : Finding) (names : List (List ℕ)) (old new : H
   pub undriven : IsUndriven finding (length inputs) left rest 0 count
 
 -- the words are a task, for which there are wires
-abbrev pub IsAccepted : {W : Type 0} → Option Drive → Outside W → (Drive → Type 0) → Type 0
+abbrev pub IsAccepted : {W : Type 0} → Option DriveJob → Outside W → (DriveJob → Type 0) → Type 0
 IsAccepted task before Holds =
     IsSomeAnd task (λ job. (length (served_names job) ≤ length before.wires) × Holds job)
 
 -- why nothing was driven
-abbrev pub WasRefused : {W : Type 0} → Finding → Option Drive → Outside W → HostTold → List SourceTold → Type 0
+abbrev pub WasRefused : {W : Type 0} → Finding → Option DriveJob → Outside W → HostTold → List SourceTold → Type 0
 WasRefused BadWords task before new sources = IsUndrivable task before × NoneOpened before.host new sources
 WasRefused (OpenFault file) task before new sources =
     IsAccepted task before (λ job. OneFails file job.names before.host new sources)
@@ -80,13 +80,14 @@ WasRefused Memory task before new sources =
     ⊎ IsAccepted task before (λ job. NoneDriven Memory job.names before.host new sources)
 
 -- Nothing was served. It is said why and answered; the wires are as handed in, and there is no history and no pool.
-pub record NothingServed {W : Type 0} (task : Option Drive) (before after : Outside W) (done : Done) : Type 0 where
-  pub finding : Finding
-  pub concluded : IsConcluded finding before after done
-  pub refused : WasRefused finding task before after.host done.sources
+pub record NothingServed {W : Type 0} (task : Option DriveJob) (before after : Outside W) (done : RunOutcome) : Type 0
+  where
+    pub finding : Finding
+    pub concluded : IsConcluded finding before after done
+    pub refused : WasRefused finding task before after.host done.sources
 
 -- The files were opened, and those behind the schedule's were driven by it.
-pub record DroveFiles {W : Type 0} (job : Drive) (before after : Outside W) (done : Done) : Type 0 where
+pub record DroveFiles {W : Type 0} (job : DriveJob) (before after : Outside W) (done : RunOutcome) : Type 0 where
   -- what the schedule's source had left, and the inputs: they were held under the names, where no name stands twice;
   -- else each was that stands under its name first
   pub left : Option (List ℕ)
@@ -99,7 +100,7 @@ pub record DroveFiles {W : Type 0} (job : Drive) (before after : Outside W) (don
   pub driven : WasDriven job.sizes left inputs before after done
 
 -- memory was not wanting, and no count of failed calls rose
-pub record NoneFailed {W : Type 0} (job : Drive) (before after : Outside W) (done : Done) : Type 0 where
+pub record NoCallFailed {W : Type 0} (job : DriveJob) (before after : Outside W) (done : RunOutcome) : Type 0 where
   pub memory : done.status ≢ 6
   pub opens : All (λ name. Rose (before.host.open_faults name) (after.host.open_faults name) → ⊥) job.names
   pub reads : All (λ source. source.faults ≡ 0) done.sources
@@ -107,15 +108,15 @@ pub record NoneFailed {W : Type 0} (job : Drive) (before after : Outside W) (don
   pub puts : SomePutFailed (length (served_names job)) before after → ⊥
 
 -- the schedule is told, has no more bytes than it may and is of its form, and all inputs are told and whole requests
-pub record AreDrivable (job : Drive) (host : HostTold) : Type 0 where
+pub record AreDrivable (job : DriveJob) (host : HostTold) : Type 0 where
   pub text : List ℕ
   pub text_is : slice_get (map host.holds job.names) 0 ≡ Some (Some text)
   pub within : length text ≤ schedule_limit
   pub schedule : List Line
-  pub lines : AreLines (length (served_names job)) (lines_of text) schedule
-  pub inputs : All (λ name. IsWhole (host.holds name)) (served_names job)
+  pub lines : AreScheduleLines (length (served_names job)) (lines_of text) schedule
+  pub inputs : All (λ name. IsWholeInput (host.holds name)) (served_names job)
 
-pub record Drove {W : Type 0} (task : Option Drive) (before after : Outside W) (done : Done) : Type 0 where
+pub record Drove {W : Type 0} (task : Option DriveJob) (before after : Outside W) (done : RunOutcome) : Type 0 where
   -- where something was served, the words were accepted, and this was done
   pub served : done.ends ≢ [] → IsAccepted task before (λ job. DroveFiles job before after done)
   -- where nothing was, this is why
@@ -127,4 +128,4 @@ pub record Drove {W : Type 0} (task : Option Drive) (before after : Outside W) (
   pub bad_words : done.status ≢ 6 → IsUndrivable task before → done.status ≡ 1
   -- where the words are accepted and nothing failed, a schedule and whole requests give status 0
   pub whole : IfSome task (λ job. length (served_names job) ≤ length before.wires → AreDistinct job.names
-      → NoneFailed job before after done → AreDrivable job before.host → done.status ≡ 0)
+      → NoCallFailed job before after done → AreDrivable job before.host → done.status ≡ 0)

@@ -13,7 +13,7 @@ opened_from place (file.Opened source ∷ files) =
 opened_from place (file.Absent ∷ files) = opened_from (place + 1) files
 
 -- the numbers of the files that have names
-abbrev pub places_from : ℕ → List Named → List ℕ
-places_from place [] = []
-places_from place (None ∷ words) = places_from (place + 1) words
-places_from place (Some name ∷ words) = place ∷ places_from (place + 1) words
+abbrev pub named_places : ℕ → List Named → List ℕ
+named_places place [] = []
+named_places place (None ∷ words) = named_places (place + 1) words
+named_places place (Some name ∷ words) = place ∷ named_places (place + 1) words

@@ -19,14 +19,14 @@ use Rattle.pinned_pool.specs.Ends.{End}
 use Rattle.transcript_model.specs.Sessions.{AreWhole, WireGrew, joined}
 use Rattle.serve_model.specs.Replies.{all_replies}
 use Rattle.serve_model.specs.Shown.{IsCounted}
-use Rattle.serve_house.specs.Opened.{pool_sizes}
+use Rattle.run_resources.specs.Opened.{pool_sizes}
 use Rattle.gen_words.specs.declared.task.GenTask.{GenTask}
-use Rattle.serve_generated.specs.Generated.{HadMemory, IsTooMuch, commands_in_all, inputs_of, sizes_of}
+use Rattle.serve_generated.specs.Generated.{HadMemory, IsTooMuch, commands_in_all, inputs_of, generated_sizes}
 use Rattle.flake_run.specs.Causes.{SomePutFailed, status_by, highest_by}
-use Rattle.flake_run.specs.Outside.{Outside, LeavesFiles, sent_by, bytes_of, kept_by, faults_of}
-use Rattle.flake_run.specs.Outcome.{Done, none_held, ways}
-use Rattle.flake_run.specs.Said.{Says, SaysOrLacksRoom}
-use Rattle.flake_run.specs.Serving.{IsRun}
+use Rattle.flake_run.specs.Outside.{Outside, LeavesFiles, wires_sent, wire_bytes, kept_by, wire_faults}
+use Rattle.flake_run.specs.Outcome.{RunOutcome, none_held, ways}
+use Rattle.flake_run.specs.Said.{PrintsStatus, SaysOrLacksRoom}
+use Rattle.flake_run.specs.Serving.{IsServedRun}
 use Rattle.flake_run.specs.declared.outcome.Detail.TheVariants.{Nothing}
 
 -- all replies, and their bytes
@@ -42,8 +42,8 @@ total_line replies bytes held = said_line (codes "requests " ++ decimal replies 
     ++ codes " held " ++ decimal held.small ++ 32 ∷ decimal held.large)
 
 -- the bytes of the first so many of some texts
-abbrev pub bytes_in : ℕ → List (List ℕ) → ℕ
-bytes_in count texts = length (joined (take count texts))
+abbrev pub texts_length : ℕ → List (List ℕ) → ℕ
+texts_length count texts = length (joined (take count texts))
 
 -- So many of a session's replies were sent whole: all of them where its wire didn't fail; and where it did, a front of
 -- the next one behind them, if there is one. They have so many bytes. The wire counts at least these, whether it tells
@@ -52,9 +52,9 @@ pub record SentInWhole (replies : Bool × List (List ℕ)) (bytes : ℕ) (old ne
   pub whole : ℕ
   pub are_whole : AreWhole replies.0 whole (length replies.1)
   pub grew : WireGrew Grew replies.0 whole replies.1 old.sent new.sent
-  pub bytes_are : bytes ≡ bytes_in whole replies.1
-  pub put : (raised old.bytes (bytes_in whole replies.1) ≤ raised new.bytes 0)
-      × (raised new.bytes 0 ≤ raised old.bytes (bytes_in (suc whole) replies.1))
+  pub bytes_are : bytes ≡ texts_length whole replies.1
+  pub put : (raised old.bytes (texts_length whole replies.1) ≤ raised new.bytes 0)
+      × (raised new.bytes 0 ≤ raised old.bytes (texts_length (suc whole) replies.1))
 
 -- so it is of each session, and wires past them are as they were
 abbrev pub AllInWhole : List (Bool × List (List ℕ)) → List ℕ → List WireTold → List WireTold → Type 0
@@ -69,7 +69,8 @@ AllInWhole (replies ∷ more) (count ∷ counts) (old ∷ olds) (new ∷ news) =
 pub record IsGeneratedRun {W : Type 0} (task : GenTask) (lefts : List (Option (List ℕ))) (ends : List SessionEnd)
     (shown : List ℕ) (journal : List (List Entry)) (pool : End) (olds news : List W)
     (told : W → WireTold) : Type 0 where
-  pub run : IsRun (pool_sizes task.sessions (sizes_of task)) (inputs_of task) lefts ends journal pool olds news told
+  pub run : IsServedRun (pool_sizes task.sessions (generated_sizes task)) (inputs_of task) lefts ends journal pool olds
+      news told
   pub ways : AllByRecursion (λ end. (end.end ≡ Clean) ⊎ (end.end ≡ Memory)) ends
   pub commands : HadMemory ends → all_commands run.run.sessions ≡ commands_in_all task
   pub none_missing : HadMemory ends → missing_writes run.run.sessions journal ≡ 0
@@ -78,16 +79,16 @@ pub record IsGeneratedRun {W : Type 0} (task : GenTask) (lefts : List (Option (L
   pub sums : raised 0 (sum_of shown) ≡ raised 0 (sum_of counts)
 
 -- What a run says of generated requests that it served.
-pub record ServedRequests {W : Type 0} (task : GenTask) (before after : Outside W) (done : Done) : Type 0 where
+pub record ServedRequests {W : Type 0} (task : GenTask) (before after : Outside W) (done : RunOutcome) : Type 0 where
   -- the inputs were the generated ones; these are what is left of them
   pub lefts : List (Option (List ℕ))
   -- the journal has the parts that were run, in one history, and the wires were sent the texts of the replies that it
   -- gives
-  pub run : WasServed (inputs_of task) lefts done.ends done.journal (sent_by before) (sent_by after)
+  pub run : WasServed (inputs_of task) lefts done.ends done.journal (wires_sent before) (wires_sent after)
   -- what the closed pool shows by the journal: it had as many buffers as the commands may claim
   pub pool : End
   pub pool_is : done.pool ≡ Some pool
-  pub shows : IsCounted (pool_sizes task.sessions (sizes_of task)) run.sessions done.journal pool
+  pub shows : IsCounted (pool_sizes task.sessions (generated_sizes task)) run.sessions done.journal pool
   pub held : (done.held.small ≡ pool.small) × (done.held.large ≡ pool.large)
   -- each session ended clean, but for want of memory
   pub ways : AllByRecursion (λ end. (end.end ≡ Clean) ⊎ (end.end ≡ Memory)) done.ends
@@ -95,11 +96,11 @@ pub record ServedRequests {W : Type 0} (task : GenTask) (before after : Outside 
   pub commands : HadMemory done.ends → all_commands run.sessions ≡ commands_in_all task
   pub none_missing : HadMemory done.ends → missing_writes run.sessions done.journal ≡ 0
   -- as many bytes were put as the texts have, also on a wire that doesn't tell which
-  pub bytes : BytesAre (wire_texts run.sessions done.journal) (bytes_of before) (bytes_of after)
+  pub bytes : BytesAre (wire_texts run.sessions done.journal) (wire_bytes before) (wire_bytes after)
   -- a wire that didn't fail keeps none of them back
   pub flushed : KeptAre (map (λ end. end.failed) done.ends) (kept_by before) (kept_by after)
   -- a session failed where its wire's count of faults rose, and else that count is as it was
-  pub faults : FaultsAre (map (λ end. end.failed) done.ends) (faults_of before) (faults_of after)
+  pub faults : FaultsAre (map (λ end. end.failed) done.ends) (wire_faults before) (wire_faults after)
   -- the wires past the sessions are as handed in
   pub others : drop (length done.ends) after.wires ≡ drop (length done.ends) before.wires
   pub sessions : length done.ends ≡ task.sessions
@@ -118,7 +119,7 @@ IsUngenerated None before = Unit {0}
 IsUngenerated (Some task) before = (length before.wires < task.sessions) ⊎ IsTooMuch task
 
 -- No file is opened for generated requests, whatever comes of them.
-pub record Generated {W : Type 0} (task : Option GenTask) (before after : Outside W) (done : Done) : Type 0 where
+pub record Generated {W : Type 0} (task : Option GenTask) (before after : Outside W) (done : RunOutcome) : Type 0 where
   pub statuses : (done.status ≡ 0) ⊎ (done.status ≡ 1) ⊎ (done.status ≡ 5) ⊎ (done.status ≡ 6)
   -- the headline, where something was served: that was a task, with its wires, for which a pool can be large enough
   pub served : done.ends ≢ []
@@ -145,12 +146,13 @@ pub record Generated {W : Type 0} (task : Option GenTask) (before after : Outsid
       × (Rose before.host.say_faults after.host.say_faults ⊎ SomePutFailed (length done.ends) before after)
   -- and with 0 none did
   pub written : done.status ≡ 0
-      → (after.host.say_faults ≡ before.host.say_faults) × (faults_of after ≡ faults_of before)
+      → (after.host.say_faults ≡ before.host.say_faults) × (wire_faults after ≡ wire_faults before)
   -- so it is 0 where nothing is wanting and nothing fails
   pub whole : IfSome task (λ task. task.sessions ≤ length before.wires → (IsTooMuch task → ⊥) → done.status ≢ 6
       → (Rose before.host.say_faults after.host.say_faults → ⊥) → (SomePutFailed task.sessions before after → ⊥)
       → done.status ≡ 0)
   -- what is said where the words are bad words; of what was served `served` says it
-  pub said : done.status ≡ 1 → Says (said_line (codes "bad words")) before.host after.host
+  pub said : done.status ≡ 1 → PrintsStatus (said_line (codes "bad words")) before.host after.host
   -- and where memory was wanting before anything was served
-  pub no_memory : done.status ≡ 6 → done.ends ≡ [] → Says (said_line (codes "out of memory")) before.host after.host
+  pub no_memory : done.status ≡ 6 → done.ends ≡ [] → PrintsStatus (said_line (codes "out of memory")) before.host
+      after.host

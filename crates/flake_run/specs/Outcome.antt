@@ -6,7 +6,7 @@ use Rattle.flake_base.specs.declared.session.End.{End}
 use Rattle.flake_base.specs.declared.session.SessionEnd.{SessionEnd}
 use Rattle.pin_core.specs.declared.class.Held.{Held}
 use Rattle.pinned_pool.specs.Ends.{End as PoolEnd}
-use Rattle.shard_store.specs.Journals.{histories}
+use Rattle.flake_base.specs.Histories.{histories}
 use Rattle.flake_run.specs.declared.outcome.Detail.{Detail}
 
 -- a source that was opened: its file's number, what it has left, and how often its reads failed
@@ -15,7 +15,7 @@ pub record SourceTold : Type 0 where
   pub left : Option (List ℕ)
   pub faults : ℕ
 
-pub record Done : Type 0 where
+pub record RunOutcome : Type 0 where
   pub status : ℕ
   pub detail : Detail
   pub ends : List SessionEnd
@@ -28,7 +28,8 @@ pub record Done : Type 0 where
 abbrev pub source_told : ℕ → Option (List ℕ) → ℕ → SourceTold
 source_told file left faults = record { file = file; left = left; faults = faults }
 
-abbrev pub done : ℕ → Detail → List SessionEnd → List (Roomy Entry) → Held → Option PoolEnd → List SourceTold → Done
+abbrev pub done : ℕ → Detail → List SessionEnd → List (Roomy Entry) → Held → Option PoolEnd → List SourceTold
+    → RunOutcome
 done status detail ends journal held pool sources = record {
   status = status;
   detail = detail;
@@ -48,8 +49,8 @@ ways ends = map (λ end. end.end) ends
 abbrev pub files_of : List SourceTold → List ℕ
 files_of sources = map (λ source. source.file) sources
 
-abbrev pub lefts_of : List SourceTold → List (Option (List ℕ))
-lefts_of sources = map (λ source. source.left) sources
+abbrev pub source_lefts : List SourceTold → List (Option (List ℕ))
+source_lefts sources = map (λ source. source.left) sources
 
 abbrev pub read_faults_of : List SourceTold → List ℕ
 read_faults_of sources = map (λ source. source.faults) sources

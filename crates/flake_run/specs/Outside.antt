@@ -11,17 +11,17 @@ pub record Outside (W : Type 0) : Type 0 where
 abbrev pub outside : {W : Type 0} → HostTold → List W → (W → WireTold) → Outside W
 outside host wires tells = record { host = host; wires = wires; tells = tells }
 
-abbrev pub sent_by : {W : Type 0} → Outside W → List (Option (List ℕ))
-sent_by out = map (λ wire. (out.tells wire).sent) out.wires
+abbrev pub wires_sent : {W : Type 0} → Outside W → List (Option (List ℕ))
+wires_sent out = map (λ wire. (out.tells wire).sent) out.wires
 
-abbrev pub bytes_of : {W : Type 0} → Outside W → List ℕ
-bytes_of out = map (λ wire. (out.tells wire).bytes) out.wires
+abbrev pub wire_bytes : {W : Type 0} → Outside W → List ℕ
+wire_bytes out = map (λ wire. (out.tells wire).bytes) out.wires
 
 abbrev pub kept_by : {W : Type 0} → Outside W → List ℕ
 kept_by out = map (λ wire. (out.tells wire).kept) out.wires
 
-abbrev pub faults_of : {W : Type 0} → Outside W → List ℕ
-faults_of out = map (λ wire. (out.tells wire).faults) out.wires
+abbrev pub wire_faults : {W : Type 0} → Outside W → List ℕ
+wire_faults out = map (λ wire. (out.tells wire).faults) out.wires
 
 -- all that is held is as it was, and no file was opened
 pub record LeavesFiles (old new : HostTold) : Type 0 where

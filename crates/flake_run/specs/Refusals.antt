@@ -2,8 +2,8 @@
 use Rattle.std.specs.Prelude.{◌≡◌, ℕ, ◌<◌, List, [], None, codes}
 use Rattle.flake_model.specs.Said.{said_line}
 use Rattle.flake_run.specs.Outside.{Outside, LeavesFiles}
-use Rattle.flake_run.specs.Outcome.{Done, none_held}
-use Rattle.flake_run.specs.Said.{Says, unopened_text}
+use Rattle.flake_run.specs.Outcome.{RunOutcome, none_held}
+use Rattle.flake_run.specs.Said.{PrintsStatus, unopened_text}
 use Rattle.flake_run.specs.declared.outcome.Detail.{Detail}
 use Rattle.flake_run.specs.declared.outcome.Detail.TheVariants.{Nothing, File}
 use Rattle.flake_run.specs.declared.outcome.Refusal.{Refusal}
@@ -31,7 +31,7 @@ refusal_text (OpenFault file) = unopened_text (File file)
 refusal_text Memory = said_line (codes "out of memory")
 
 -- it is said why, and all else is as it was
-pub record IsRefused {W : Type 0} (refusal : Refusal) (before after : Outside W) (done : Done) : Type 0 where
+pub record RunRefused {W : Type 0} (refusal : Refusal) (before after : Outside W) (done : RunOutcome) : Type 0 where
   pub status : done.status ≡ status_of refusal
   pub detail : done.detail ≡ detail_of refusal
   pub ends : done.ends ≡ []
@@ -40,5 +40,5 @@ pub record IsRefused {W : Type 0} (refusal : Refusal) (before after : Outside W)
   pub pool : done.pool ≡ None
   pub sources : done.sources ≡ []
   pub wires : after.wires ≡ before.wires
-  pub said : Says (refusal_text refusal) before.host after.host
+  pub said : PrintsStatus (refusal_text refusal) before.host after.host
   pub files : LeavesFiles before.host after.host

@@ -7,16 +7,16 @@ use Rattle.flake_base.specs.Told.{HostTold}
 use Rattle.flake_base.specs.declared.journal.Entry.{Entry}
 use Rattle.flake_base.specs.declared.session.SessionEnd.{SessionEnd}
 use Rattle.flake_model.specs.Said.{said_line, summary_from}
-use Rattle.journal_text.specs.Text.{text_of as journal_text}
+use Rattle.journal_text.specs.Text.{journal_text_of as journal_text}
 use Rattle.pin_core.specs.declared.class.Held.{Held}
-use Rattle.flake_run.specs.Task.{Task, shows_journal}
+use Rattle.flake_run.specs.Task.{RunTask, shows_journal}
 use Rattle.flake_run.specs.Outside.{Outside}
-use Rattle.flake_run.specs.Outcome.{Done}
+use Rattle.flake_run.specs.Outcome.{RunOutcome}
 use Rattle.flake_run.specs.declared.outcome.Detail.{Detail}
 use Rattle.flake_run.specs.declared.outcome.Detail.TheVariants.{File}
 
 -- a text was said, or a front of it where a say failed
-pub record Says (text : List ℕ) (old new : HostTold) : Type 0 where
+pub record PrintsStatus (text : List ℕ) (old new : HostTold) : Type 0 where
   pub front : Grew true text old.said new.said
   pub whole : (Rose old.say_faults new.say_faults → ⊥) → Grew false text old.said new.said
 
@@ -27,7 +27,7 @@ pub record SaysNothing (old new : HostTold) : Type 0 where
 
 -- A text was said. Or nothing was, where memory was wanting for the text itself, which has a status of its own.
 abbrev pub SaysOrLacksRoom : ℕ → List ℕ → HostTold → HostTold → Type 0
-SaysOrLacksRoom status text old new = Says text old new ⊎ ((status ≡ 6) × SaysNothing old new)
+SaysOrLacksRoom status text old new = PrintsStatus text old new ⊎ ((status ≡ 6) × SaysNothing old new)
 
 -- how many small and large buffers are held at the end
 abbrev pub held_line : Held → List ℕ
@@ -47,18 +47,20 @@ unopened_text (File file) = said_line (codes "cannot open " ++ decimal file)
 unopened_text detail = []
 
 -- what is said with a status: why nothing was served, or what is said of what was
-abbrev pub text_of : ℕ → Detail → List ℕ → List ℕ
-text_of status detail served =
+abbrev pub status_text : ℕ → Detail → List ℕ → List ℕ
+status_text status detail served =
     if status == 1 then said_line (codes "bad words") else
     if status == 2 then unopened_text detail else served
 
-pub record Said {W : Type 0} (task : Task) (before after : Outside W) (done : Done) : Type 0 where
+pub record Said {W : Type 0} (task : RunTask) (before after : Outside W) (done : RunOutcome) : Type 0 where
   -- the text of the status, unless memory was wanting
   pub text : done.status ≢ 6
-      → Says (text_of done.status done.detail (served_text (shows_journal task) done.journal done.ends done.held))
+      → PrintsStatus (status_text done.status done.detail
+      (served_text (shows_journal task) done.journal done.ends done.held))
       before.host after.host
   -- and where it was wanting before anything was served, that
-  pub no_memory : done.status ≡ 6 → done.ends ≡ [] → Says (said_line (codes "out of memory")) before.host after.host
+  pub no_memory : done.status ≡ 6 → done.ends ≡ [] → PrintsStatus (said_line (codes "out of memory")) before.host
+      after.host
   -- where something was served the same is said of it, also where memory was wanting
   pub served : done.ends ≢ []
       → SaysOrLacksRoom done.status (served_text (shows_journal task) done.journal done.ends done.held)

@@ -2,9 +2,9 @@
 use Rattle.std.specs.Prelude.{◌≡◌, ℕ, List, Option}
 use Rattle.flake_base.specs.Causes.{Rose}
 use Rattle.journal_text.specs.Lines.{lines_of}
-use Rattle.schedule_text.specs.Reading.{AreLines, IsBadLine}
+use Rattle.schedule_text.specs.Reading.{AreScheduleLines, IsBadScheduleLine}
 use Rattle.schedule_text.specs.declared.line.Line.{Line}
-use Rattle.check_files.specs.Whole.{IsPast, IsWhole, emptied}
+use Rattle.check_files.specs.Whole.{IsPast, IsReadWhole, emptied}
 use Rattle.flake_run.specs.declared.finding.Finding.{Finding}
 use Rattle.flake_run.specs.declared.finding.Finding.TheVariants.{BadWords, OpenFault, ReadFault, TooLarge, BadLine}
 use Rattle.flake_run.specs.declared.finding.Finding.TheVariants.{Judged, Memory}
@@ -16,14 +16,14 @@ schedule_limit = 67_108_864
 -- All that the source had left was read, and its text has the lines of this schedule, for so many sessions.
 pub record HasSchedule (sessions : ℕ) (left : Option (List ℕ)) (schedule : List Line) : Type 0 where
   pub text : List ℕ
-  pub whole : IsWhole schedule_limit left text
-  pub lines : AreLines sessions (lines_of text) schedule
+  pub whole : IsReadWhole schedule_limit left text
+  pub lines : AreScheduleLines sessions (lines_of text) schedule
 
 -- All that the source had left was read, and this line of its text is the first that isn't of its form.
 pub record HasBadLine (sessions : ℕ) (left : Option (List ℕ)) (line : ℕ) : Type 0 where
   pub text : List ℕ
-  pub whole : IsWhole schedule_limit left text
-  pub bad : IsBadLine sessions (lines_of text) line
+  pub whole : IsReadWhole schedule_limit left text
+  pub bad : IsBadScheduleLine sessions (lines_of text) line
 
 -- Why it gave no schedule, of which the file has number 0; what it had left before and behind, and how often its reads
 -- failed. Where memory was wanting these are free.

@@ -11,7 +11,7 @@ use Rattle.serve_model.specs.Shown.{IsCounted}
 
 -- Sources were served: their sessions' parts make the journal, the closed pool is that of their commands, and each wire
 -- was sent its session's replies.
-pub record IsRun {W : Type 0} (z : Sizes) (inputs lefts : List (Option (List ℕ))) (ends : List SessionEnd)
+pub record IsServedRun {W : Type 0} (z : Sizes) (inputs lefts : List (Option (List ℕ))) (ends : List SessionEnd)
     (journal : List (List Entry)) (pool : End) (olds news : List W) (told : W → WireTold) : Type 0 where
   pub run : WasServed inputs lefts ends journal (map (λ wire. (told wire).sent) olds)
       (map (λ wire. (told wire).sent) news)

@@ -3,8 +3,8 @@ use Rattle.std.specs.Prelude.{ℕ, Bool, false, List, [], Option, Some, None, St
 use Rattle.std.specs.Global.{Global}
 use Rattle.std.specs.Option.{option_map, option_map_or}
 use Rattle.pin_core.specs.declared.sizes.Sizes as pool
-use Rattle.serve_house.specs.Opened.{pool_sizes}
-use Rattle.serve_house.specs.declared.sizes.Sizes.{Sizes}
+use Rattle.run_resources.specs.Opened.{pool_sizes}
+use Rattle.run_resources.specs.declared.sizes.Sizes.{Sizes}
 use Rattle.serve_words.specs.Task as words
 use Rattle.serve_words.specs.declared.sizes.Sizes as typed
 use Rattle.flake_run.specs.declared.words.FilesTask.{FilesTask}
@@ -18,11 +18,11 @@ pub record Job : Type 0 where
   pub journal : Bool
 
 -- none where the words are bad words
-abbrev pub Task : Type 0
-Task = Option Job
+abbrev pub RunTask : Type 0
+RunTask = Option Job
 
-abbrev pub sizes_of : typed.Sizes → Sizes
-sizes_of sizes = record {
+abbrev pub run_sizes : typed.Sizes → Sizes
+run_sizes sizes = record {
   shards = sizes.shards;
   small = sizes.small;
   large = sizes.large;
@@ -33,13 +33,13 @@ sizes_of sizes = record {
 abbrev pub job_of : words.Task → Job
 job_of task = record {
   names = task.files;
-  sizes = sizes_of task.sizes;
+  sizes = run_sizes task.sizes;
   workers = task.workers;
   journal = task.journal;
 }
 
-abbrev pub task_of : List (String Global) → Task
-task_of typed = option_map job_of (words.task_of (words.texts_of typed))
+abbrev pub run_task_of : List (String Global) → RunTask
+run_task_of typed = option_map job_of (words.task_of (words.word_texts typed))
 
 -- the task, as the code holds it
 abbrev pub shown_task : FilesTask → Job
@@ -50,18 +50,18 @@ shown_task task = record {
   journal = task.journal;
 }
 
-abbrev pub names_of : Task → List (List ℕ)
+abbrev pub names_of : RunTask → List (List ℕ)
 names_of None = []
 names_of (Some job) = job.names
 
-abbrev pub pool_of : Task → pool.Sizes
+abbrev pub pool_of : RunTask → pool.Sizes
 pool_of task =
     option_map_or (λ (job : Job). pool_sizes (length job.names) job.sizes) task
     (record { small = 0; large = 0; credits = 0 })
 
-abbrev pub shards_of : Task → ℕ
+abbrev pub shards_of : RunTask → ℕ
 shards_of task = option_map_or (λ (job : Job). job.sizes.shards) task 0
 
 -- whether the journal is what is said
-abbrev pub shows_journal : Task → Bool
+abbrev pub shows_journal : RunTask → Bool
 shows_journal task = option_map_or (λ (job : Job). job.journal) task false

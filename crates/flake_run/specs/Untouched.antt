@@ -2,19 +2,19 @@
 use Rattle.std.specs.Prelude.{◌≡◌, ◌⊎◌, ℕ, suc, ◌==◌, if◌then◌else◌, List, [], None, length, map, take}
 use Rattle.std.specs.List.{AllByRecursion}
 use Rattle.check_files.specs.Named.{AreDistinct, AreOther, counted_times}
-use Rattle.flake_run.specs.Task.{Task, names_of}
+use Rattle.flake_run.specs.Task.{RunTask, names_of}
 use Rattle.flake_run.specs.Outside.{Outside}
-use Rattle.flake_run.specs.Outcome.{Done, lefts_of, none_held}
+use Rattle.flake_run.specs.Outcome.{RunOutcome, source_lefts, none_held}
 
 -- the files that were opened
-abbrev pub opened_of : Task → Done → List (List ℕ)
+abbrev pub opened_of : RunTask → RunOutcome → List (List ℕ)
 opened_of task done = take (length done.sources) (names_of task)
 
 -- how often an open was called: once for each of them, and where one failed for that too
-abbrev pub opens_of : Done → ℕ
+abbrev pub opens_of : RunOutcome → ℕ
 opens_of done = if done.status == 2 then suc (length done.sources) else length done.sources
 
-pub record Untouched {W : Type 0} (task : Task) (before after : Outside W) (done : Done) : Type 0 where
+pub record Untouched {W : Type 0} (task : RunTask) (before after : Outside W) (done : RunOutcome) : Type 0 where
   -- where nothing was served the wires are as handed in
   pub wires : done.ends ≡ [] → after.wires ≡ before.wires
   -- and there is no history
@@ -25,7 +25,7 @@ pub record Untouched {W : Type 0} (task : Task) (before after : Outside W) (done
   pub unread : done.ends ≡ [] → AllByRecursion (λ source. source.faults ≡ 0) done.sources
   -- and it has all that the host held under its name, where no name stands twice
   pub left : done.ends ≡ [] → AreDistinct (names_of task)
-      → lefts_of done.sources ≡ map before.host.holds (opened_of task done)
+      → source_lefts done.sources ≡ map before.host.holds (opened_of task done)
   -- bad words and a file that doesn't open serve nothing
   pub refused : (done.status ≡ 1) ⊎ (done.status ≡ 2) → done.ends ≡ []
   -- no source comes of bad words

@@ -1,10 +1,10 @@
 // The command `check`, over any host.
 ghost use Rattle.std.specs.Prelude.{◌<◌, [], length, map};
 ghost use Rattle.serve_words.specs.Check.{check_of};
-ghost use Rattle.serve_words.specs.Task.{texts_of};
+ghost use Rattle.serve_words.specs.Task.{word_texts};
 ghost use Rattle.flake_run.specs.Outside.{LeavesFiles, outside};
 ghost use Rattle.flake_run.specs.Outcome.{done, source_told};
-ghost use Rattle.flake_run.specs.Said.{Says};
+ghost use Rattle.flake_run.specs.Said.{PrintsStatus};
 ghost use Rattle.flake_run.specs.Checked.{Checked, ConcludesBy, IsStatus};
 
 use crate::files::opened_of;
@@ -20,7 +20,7 @@ use std::alloc::Global;
 fn say<H: Host>(host: &mut H, finding: Finding, text: &[u8]) -> u8
     requires { 0 < length text.now }
     ensures status { IsStatus finding (H.host_told host.old) (H.host_told host.new) result }
-    ensures said { Says text.now (H.host_told host.old) (H.host_told host.new) }
+    ensures said { PrintsStatus text.now (H.host_told host.old) (H.host_told host.new) }
     ensures files { LeavesFiles (H.host_told host.old) (H.host_told host.new) }
 {
     match tell(host, text) {
@@ -56,7 +56,7 @@ pub fn check<H: Host>(
     host: &mut H,
     wires: Vec<Box<dyn Wire>>,
 ) -> Outcome<H::In>
-    ensures { Checked (check_of (texts_of words.now))
+    ensures { Checked (check_of (word_texts words.now))
         (outside (H.host_told host.old) wires.items (λ w. wire_told w))
         (outside (H.host_told host.new) result.wires.items (λ w. wire_told w))
         (done result.status result.detail result.ends.items result.journal.items result.held result.pool

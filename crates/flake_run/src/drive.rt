@@ -1,11 +1,11 @@
 // The command `drive`, over any host and any wires.
 ghost use Rattle.std.specs.Prelude.{◌≡◌, ◌<◌, ◌≤◌, [], All, length, map, vec_capacity};
-ghost use Rattle.serve_house.specs.Opened.{IsSized};
+ghost use Rattle.run_resources.specs.Opened.{HasRunSizes};
 ghost use Rattle.transcript_model.specs.Lines.{held_text};
-ghost use Rattle.drive_script.specs.Says.{Says};
+ghost use Rattle.drive_script.specs.Says.{PrintsText};
 ghost use Rattle.drive_show.specs.Held.{held_room};
 ghost use Rattle.flake_run.specs.Driven.{CameOf};
-ghost use Rattle.flake_run.specs.DriveTask.{drive_of};
+ghost use Rattle.flake_run.specs.DriveTask.{drive_job_of};
 ghost use Rattle.flake_run.specs.Drove.{Drove};
 ghost use Rattle.flake_run.specs.Outcome.{done, source_told};
 ghost use Rattle.flake_run.specs.Outside.{outside};
@@ -20,7 +20,7 @@ use crate::words::sizes_of;
 use drive_show::{HELD_ROOM, held_line};
 use flake_base::{Host, Memory, Source, Wire};
 use pin_core::Held;
-use serve_house::Sizes;
+use run_resources::Sizes;
 use serve_words::drive_task;
 use std::alloc::Global;
 use std::sync::Wait;
@@ -28,7 +28,7 @@ use std::sync::Wait;
 // Says what is held, unless a say failed before. Answers whether one has failed.
 fn say_held<H: Host>(host: &mut H, failed: bool, text: Vec<u8>, held: Held) -> bool
     requires { held_room ≤ vec_capacity text }
-    ensures { Says failed result (held_text held.small held.large) (H.host_told host.old) (H.host_told host.new) }
+    ensures { PrintsText failed result (held_text held.small held.large) (H.host_told host.old) (H.host_told host.new) }
 {
     let mut text = text;
     held_line(&mut text, held);
@@ -48,7 +48,7 @@ fn drive_opened<R: Wait, H: Host>(
     host: &mut H,
     wires: Vec<Box<dyn Wire>>,
 ) -> Outcome<H::In>
-    requires sized { IsSized (length sources.items) sizes.now }
+    requires sized { HasRunSizes (length sources.items) sizes.now }
     requires wires { length sources.items ≤ length wires.items }
     requires places { (places.items ≡ []) × (length sources.items < vec_capacity places) }
     requires text { held_room ≤ vec_capacity text }
@@ -93,7 +93,7 @@ pub fn drive<R: Wait, H: Host>(
     host: &mut H,
     wires: Vec<Box<dyn Wire>>,
 ) -> Outcome<H::In>
-    ensures { Drove (drive_of words.now)
+    ensures { Drove (drive_job_of words.now)
         (outside (H.host_told host.old) wires.items (λ w. wire_told w))
         (outside (H.host_told host.new) result.wires.items (λ w. wire_told w))
         (done result.status result.detail result.ends.items result.journal.items result.held result.pool

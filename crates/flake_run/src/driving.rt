@@ -1,10 +1,10 @@
 // Sources that are driven by a schedule, to the first wires.
 ghost use Rattle.std.specs.Prelude.{◌≡◌, ◌<◌, ◌≤◌, All, IfErr, IfOk, OnErr, OnOk, length, map};
 ghost use Rattle.check_files.specs.Whole.{emptied};
-ghost use Rattle.schedule_text.specs.Text.{session_of};
-ghost use Rattle.serve_house.specs.Opened.{IsSized, pool_sizes};
-ghost use Rattle.serve_house.specs.Ran.{AreReads};
-ghost use Rattle.shard_store.specs.Journals.{histories};
+ghost use Rattle.schedule_text.specs.Text.{line_session};
+ghost use Rattle.run_resources.specs.Opened.{HasRunSizes, pool_sizes};
+ghost use Rattle.run_resources.specs.Ran.{AreReads};
+ghost use Rattle.flake_base.specs.Histories.{histories};
 ghost use Rattle.wire_told.specs.Sent.{FlushIs, PutIs};
 ghost use Rattle.flake_run.specs.Driven.{IsDrivenBy, IsDrivenRun};
 ghost use Rattle.flake_run.specs.Schedule.{IsUndriven};
@@ -14,8 +14,8 @@ use crate::schedule::schedule_in;
 use crate::source::{flush, put};
 use drive_show::{Driven, drive_inputs};
 use flake_base::{Host, Source, Wire};
+use run_resources::Sizes;
 use schedule_text::Line;
-use serve_house::Sizes;
 use std::alloc::Global;
 use std::sync::Wait;
 
@@ -30,9 +30,9 @@ fn drive_sources<R: Wait, S: Source + Drop, H: Host>(
     wires: Vec<Box<dyn Wire>>,
     host: &mut H,
 ) -> Result<Driven<S, Box<dyn Wire>>, (Vec<S>, Vec<Box<dyn Wire>>)>
-    requires sized { IsSized (length sources.items) sizes.now }
+    requires sized { HasRunSizes (length sources.items) sizes.now }
     requires wires { length sources.items ≤ length wires.items }
-    requires there { All (λ line. session_of line < length sources.items) schedule.now }
+    requires there { All (λ line. line_session line < length sources.items) schedule.now }
     ensures run { IfOk result (λ r. IsDrivenRun (pool_sizes (length sources.items) sizes.now) sizes.now.ring
         sizes.now.threshold schedule.now r.failed (map (λ s. S.left s) sources.items)
         (map (λ s. S.left s) r.sources.items) r.ends.items (histories r.journal.items) r.pool wires.items r.wires.items
@@ -74,7 +74,7 @@ pub fn drive_by<R: Wait, S: Source + Drop, H: Host>(
     wires: Vec<Box<dyn Wire>>,
     host: &mut H,
 ) -> Result<Driven<S, Box<dyn Wire>>, (Finding, Vec<S>, Vec<Box<dyn Wire>>)>
-    requires sized { IsSized (length sources.items) sizes.now }
+    requires sized { HasRunSizes (length sources.items) sizes.now }
     requires wires { length sources.items ≤ length wires.items }
     ensures run { IfOk result (λ r. IsDrivenBy sizes.now (S.left schedule.old) r.failed
         (map (λ s. S.left s) sources.items) (map (λ s. S.left s) r.sources.items) r.ends.items

@@ -1,8 +1,8 @@
 // Generated requests, from the words to what is said.
 ghost use Rattle.std.specs.Prelude.{◌≡◌, ◌≤◌, ◌<◌, length, map, Some, IfOk, IfErr};
-ghost use Rattle.shard_store.specs.Journals.{histories};
-ghost use Rattle.serve_words.specs.Task.{texts_of};
-ghost use Rattle.gen_words.specs.Task.{IsAllowed, task_of};
+ghost use Rattle.flake_base.specs.Histories.{histories};
+ghost use Rattle.serve_words.specs.Task.{word_texts};
+ghost use Rattle.gen_words.specs.Task.{IsAllowedGenerated, generated_task_of};
 ghost use Rattle.serve_generated.specs.Generated.{IsTooMuch};
 ghost use Rattle.wire_told.specs.Sent.{PutIs, FlushIs};
 ghost use Rattle.flake_run.specs.Outside.{outside};
@@ -30,7 +30,7 @@ fn serve_requests<R: Threads + Wait + Sync, G: Gate>(
     wires: Vec<Box<dyn Wire>>,
     gate: &G,
 ) -> Result<Served<InputSource, Box<dyn Wire>>, (Refused, Vec<Box<dyn Wire>>)>
-    requires task { IsAllowed task.now }
+    requires task { IsAllowedGenerated task.now }
     requires wires { task.now.sessions ≤ length wires.items }
     ensures run { IfOk result (λ r. IsGeneratedRun task.now (map Some r.sources.items) r.ends.items r.sent.items
         (histories r.journal.items) r.pool wires.items r.wires.items (λ w. wire_told w)) }
@@ -68,7 +68,7 @@ pub fn generate<R: Threads + Wait + Sync, H: Host, G: Gate>(
     wires: Vec<Box<dyn Wire>>,
     gate: &G,
 ) -> Outcome<H::In>
-    ensures { Generated (task_of (texts_of words.now))
+    ensures { Generated (generated_task_of (word_texts words.now))
         (outside (H.host_told host.old) wires.items (λ w. wire_told w))
         (outside (H.host_told host.new) result.wires.items (λ w. wire_told w))
         (done result.status result.detail result.ends.items result.journal.items result.held result.pool

@@ -2,8 +2,8 @@
 ghost use Rattle.std.specs.Prelude.{◌≡◌, ◌≢◌, [], map};
 ghost use Rattle.serve_words.specs.Check.{check_of};
 ghost use Rattle.serve_words.specs.Named.{name_of};
-ghost use Rattle.serve_words.specs.Task.{texts_of};
-ghost use Rattle.flake_run.specs.Task.{task_of};
+ghost use Rattle.serve_words.specs.Task.{word_texts};
+ghost use Rattle.flake_run.specs.Task.{run_task_of};
 ghost use Rattle.flake_run.specs.Outside.{outside};
 ghost use Rattle.flake_run.specs.Outcome.{done, source_told};
 ghost use Rattle.flake_run.specs.Served.{Served};
@@ -11,10 +11,10 @@ ghost use Rattle.flake_run.specs.Untouched.{Untouched};
 ghost use Rattle.flake_run.specs.Causes.{Causes};
 ghost use Rattle.flake_run.specs.Complete.{Complete};
 ghost use Rattle.flake_run.specs.Said.{Said};
-ghost use Rattle.gen_words.specs.Task.{task_of as gen_task_of};
+ghost use Rattle.gen_words.specs.Task.{generated_task_of as gen_task_of};
 ghost use Rattle.flake_run.specs.Checked.{Checked};
 ghost use Rattle.flake_run.specs.Generated.{Generated};
-ghost use Rattle.flake_run.specs.DriveTask.{drive_of};
+ghost use Rattle.flake_run.specs.DriveTask.{drive_job_of};
 ghost use Rattle.flake_run.specs.Drove.{Drove};
 
 use crate::check::check;
@@ -42,50 +42,51 @@ pub fn run<R: Threads + Wait + Sync, H: Host, G: Gate>(
     gate: &G,
 ) -> Outcome<H::In>
     // The headline, where something was served.
-    ensures served { name_of (texts_of words.now) ≡ CommandName.Serve → result.ends.items ≢ []
-        → Served (task_of words.now)
+    ensures served { name_of (word_texts words.now) ≡ CommandName.Serve → result.ends.items ≢ []
+        → Served (run_task_of words.now)
         (outside (H.host_told host.old) wires.items (λ w. wire_told w))
         (outside (H.host_told host.new) result.wires.items (λ w. wire_told w))
         (done result.status result.detail result.ends.items result.journal.items result.held result.pool
         (map (λ s. source_told s.file (H.In.left s.source) (H.In.read_faults s.source)) result.sources.items)) }
     // What stays as it was.
-    ensures untouched { name_of (texts_of words.now) ≡ CommandName.Serve → Untouched (task_of words.now)
+    ensures untouched { name_of (word_texts words.now) ≡ CommandName.Serve → Untouched (run_task_of words.now)
         (outside (H.host_told host.old) wires.items (λ w. wire_told w))
         (outside (H.host_told host.new) result.wires.items (λ w. wire_told w))
         (done result.status result.detail result.ends.items result.journal.items result.held result.pool
         (map (λ s. source_told s.file (H.In.left s.source) (H.In.read_faults s.source)) result.sources.items)) }
     // Each status, end and detail has its cause.
-    ensures causes { name_of (texts_of words.now) ≡ CommandName.Serve → Causes (task_of words.now)
+    ensures causes { name_of (word_texts words.now) ≡ CommandName.Serve → Causes (run_task_of words.now)
         (outside (H.host_told host.old) wires.items (λ w. wire_told w))
         (outside (H.host_told host.new) result.wires.items (λ w. wire_told w))
         (done result.status result.detail result.ends.items result.journal.items result.held result.pool
         (map (λ s. source_told s.file (H.In.left s.source) (H.In.read_faults s.source)) result.sources.items)) }
     // Nothing is refused without a cause.
-    ensures complete { name_of (texts_of words.now) ≡ CommandName.Serve → Complete (task_of words.now)
+    ensures complete { name_of (word_texts words.now) ≡ CommandName.Serve → Complete (run_task_of words.now)
         (outside (H.host_told host.old) wires.items (λ w. wire_told w))
         (outside (H.host_told host.new) result.wires.items (λ w. wire_told w))
         (done result.status result.detail result.ends.items result.journal.items result.held result.pool
         (map (λ s. source_told s.file (H.In.left s.source) (H.In.read_faults s.source)) result.sources.items)) }
     // What is said of it.
-    ensures said { name_of (texts_of words.now) ≡ CommandName.Serve → Said (task_of words.now)
+    ensures said { name_of (word_texts words.now) ≡ CommandName.Serve → Said (run_task_of words.now)
         (outside (H.host_told host.old) wires.items (λ w. wire_told w))
         (outside (H.host_told host.new) result.wires.items (λ w. wire_told w))
         (done result.status result.detail result.ends.items result.journal.items result.held result.pool
         (map (λ s. source_told s.file (H.In.left s.source) (H.In.read_faults s.source)) result.sources.items)) }
     // What `check` does.
-    ensures checked { name_of (texts_of words.now) ≡ CommandName.Check → Checked (check_of (texts_of words.now))
+    ensures checked { name_of (word_texts words.now) ≡ CommandName.Check → Checked (check_of (word_texts words.now))
         (outside (H.host_told host.old) wires.items (λ w. wire_told w))
         (outside (H.host_told host.new) result.wires.items (λ w. wire_told w))
         (done result.status result.detail result.ends.items result.journal.items result.held result.pool
         (map (λ s. source_told s.file (H.In.left s.source) (H.In.read_faults s.source)) result.sources.items)) }
     // What `gen` does.
-    ensures generated { name_of (texts_of words.now) ≡ CommandName.Gen → Generated (gen_task_of (texts_of words.now))
+    ensures generated { name_of (word_texts words.now) ≡ CommandName.Gen
+        → Generated (gen_task_of (word_texts words.now))
         (outside (H.host_told host.old) wires.items (λ w. wire_told w))
         (outside (H.host_told host.new) result.wires.items (λ w. wire_told w))
         (done result.status result.detail result.ends.items result.journal.items result.held result.pool
         (map (λ s. source_told s.file (H.In.left s.source) (H.In.read_faults s.source)) result.sources.items)) }
     // What `drive` does.
-    ensures driven { name_of (texts_of words.now) ≡ CommandName.Drive → Drove (drive_of words.now)
+    ensures driven { name_of (word_texts words.now) ≡ CommandName.Drive → Drove (drive_job_of words.now)
         (outside (H.host_told host.old) wires.items (λ w. wire_told w))
         (outside (H.host_told host.new) result.wires.items (λ w. wire_told w))
         (done result.status result.detail result.ends.items result.journal.items result.held result.pool

@@ -1,6 +1,6 @@
 // The command `serve`, over any host and any wires.
 ghost use Rattle.std.specs.Prelude.{◌≡◌, ◌≢◌, [], map};
-ghost use Rattle.flake_run.specs.Task.{task_of};
+ghost use Rattle.flake_run.specs.Task.{run_task_of};
 ghost use Rattle.flake_run.specs.Outside.{outside};
 ghost use Rattle.flake_run.specs.Outcome.{done, source_told};
 ghost use Rattle.flake_run.specs.Served.{Served};
@@ -31,31 +31,31 @@ pub fn serve<R: Threads + Wait + Sync, H: Host, G: Gate>(
     gate: &G,
 ) -> Outcome<H::In>
     // The headline, where something was served.
-    ensures served { result.ends.items ≢ [] → Served (task_of words.now)
+    ensures served { result.ends.items ≢ [] → Served (run_task_of words.now)
         (outside (H.host_told host.old) wires.items (λ w. wire_told w))
         (outside (H.host_told host.new) result.wires.items (λ w. wire_told w))
         (done result.status result.detail result.ends.items result.journal.items result.held result.pool
         (map (λ s. source_told s.file (H.In.left s.source) (H.In.read_faults s.source)) result.sources.items)) }
     // What stays as it was.
-    ensures untouched { Untouched (task_of words.now)
+    ensures untouched { Untouched (run_task_of words.now)
         (outside (H.host_told host.old) wires.items (λ w. wire_told w))
         (outside (H.host_told host.new) result.wires.items (λ w. wire_told w))
         (done result.status result.detail result.ends.items result.journal.items result.held result.pool
         (map (λ s. source_told s.file (H.In.left s.source) (H.In.read_faults s.source)) result.sources.items)) }
     // Each status, end and detail has its cause.
-    ensures causes { Causes (task_of words.now)
+    ensures causes { Causes (run_task_of words.now)
         (outside (H.host_told host.old) wires.items (λ w. wire_told w))
         (outside (H.host_told host.new) result.wires.items (λ w. wire_told w))
         (done result.status result.detail result.ends.items result.journal.items result.held result.pool
         (map (λ s. source_told s.file (H.In.left s.source) (H.In.read_faults s.source)) result.sources.items)) }
     // Nothing is refused without a cause.
-    ensures complete { Complete (task_of words.now)
+    ensures complete { Complete (run_task_of words.now)
         (outside (H.host_told host.old) wires.items (λ w. wire_told w))
         (outside (H.host_told host.new) result.wires.items (λ w. wire_told w))
         (done result.status result.detail result.ends.items result.journal.items result.held result.pool
         (map (λ s. source_told s.file (H.In.left s.source) (H.In.read_faults s.source)) result.sources.items)) }
     // What is said of it.
-    ensures said { Said (task_of words.now)
+    ensures said { Said (run_task_of words.now)
         (outside (H.host_told host.old) wires.items (λ w. wire_told w))
         (outside (H.host_told host.new) result.wires.items (λ w. wire_told w))
         (done result.status result.detail result.ends.items result.journal.items result.held result.pool

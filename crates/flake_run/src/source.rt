@@ -1,9 +1,9 @@
 // Sources that are served to the first wires.
 ghost use Rattle.std.specs.Prelude.{◌≡◌, ◌≢◌, ◌<◌, ◌≤◌, length, map, All, IfOk, IfErr};
-ghost use Rattle.shard_store.specs.Journals.{histories};
-ghost use Rattle.flake_run.specs.Serving.{IsRun};
-ghost use Rattle.serve_house.specs.Opened.{IsSized, pool_sizes};
-ghost use Rattle.serve_house.specs.Ran.{AreReads};
+ghost use Rattle.flake_base.specs.Histories.{histories};
+ghost use Rattle.flake_run.specs.Serving.{IsServedRun};
+ghost use Rattle.run_resources.specs.Opened.{HasRunSizes, pool_sizes};
+ghost use Rattle.run_resources.specs.Ran.{AreReads};
 ghost use Rattle.wire_told.specs.Sent.{PutIs, FlushIs};
 
 use flake_base::{End, Source, Wire};
@@ -45,10 +45,10 @@ pub fn serve_sources<R: Threads + Wait + Sync, S: Source + Send + Drop, G: Gate>
     wires: Vec<Box<dyn Wire>>,
     gate: &G,
 ) -> Result<Served<S, Box<dyn Wire>>, (Vec<S>, Vec<Box<dyn Wire>>)>
-    requires sized { IsSized (length sources.items) sizes.now }
+    requires sized { HasRunSizes (length sources.items) sizes.now }
     requires workers { (0 < workers) × (workers ≤ 16) }
     requires wires { length sources.items ≤ length wires.items }
-    ensures run { IfOk result (λ r. IsRun (pool_sizes (length sources.items) sizes.now)
+    ensures run { IfOk result (λ r. IsServedRun (pool_sizes (length sources.items) sizes.now)
         (map (λ s. S.left s) sources.items) (map (λ s. S.left s) r.sources.items) r.ends.items
         (histories r.journal.items) r.pool wires.items r.wires.items (λ w. wire_told w)) }
     ensures reads { IfOk result (λ r. AreReads r.ends.items (map (λ s. S.read_faults s) sources.items)

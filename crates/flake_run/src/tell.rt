@@ -7,9 +7,9 @@ ghost use Rattle.flake_run.specs.Driven.{some_put_failed, status_with};
 ghost use Rattle.flake_run.specs.Generated.{replies_in, total_line};
 ghost use Rattle.flake_run.specs.Outside.{LeavesFiles, outside};
 ghost use Rattle.flake_run.specs.Outcome.{done, source_told, ways};
-ghost use Rattle.flake_run.specs.Refusals.{IsNumbered, IsRefused};
-ghost use Rattle.flake_run.specs.Said.{Says, SaysOrLacksRoom, served_text};
-ghost use Rattle.shard_store.specs.Journals.{histories};
+ghost use Rattle.flake_run.specs.Refusals.{IsNumbered, RunRefused};
+ghost use Rattle.flake_run.specs.Said.{PrintsStatus, SaysOrLacksRoom, served_text};
+ghost use Rattle.flake_base.specs.Histories.{histories};
 
 use crate::outcome::{
     BAD_SESSION, OUT_OF_MEMORY, Outcome, READ_FAULT, Refusal, SERVED, WRITE_FAULT,
@@ -24,7 +24,7 @@ use std::alloc::Global;
 /// Says a text.
 pub fn tell<H: Host>(host: &mut H, text: &[u8]) -> Result<(), Failed>
     requires { 0 < length text.now }
-    ensures said { Says text.now (H.host_told host.old) (H.host_told host.new) }
+    ensures said { PrintsStatus text.now (H.host_told host.old) (H.host_told host.new) }
     ensures files { LeavesFiles (H.host_told host.old) (H.host_told host.new) }
     ensures cause { HasCause (H.host_told host.old).say_faults (H.host_told host.new).say_faults result }
 {
@@ -39,7 +39,7 @@ pub fn refuse<H: Host>(
     wires: Vec<Box<dyn Wire>>,
 ) -> Outcome<H::In>
     requires { IsNumbered refusal }
-    ensures { IsRefused refusal (outside (H.host_told host.old) wires.items (λ w. wire_told w))
+    ensures { RunRefused refusal (outside (H.host_told host.old) wires.items (λ w. wire_told w))
         (outside (H.host_told host.new) result.wires.items (λ w. wire_told w))
         (done result.status result.detail result.ends.items result.journal.items result.held result.pool
         (map (λ s. source_told s.file (H.In.left s.source) (H.In.read_faults s.source)) result.sources.items)) }
@@ -102,7 +102,7 @@ fn served_text(
 // Says the text, and answers the status.
 fn answer<H: Host>(host: &mut H, text: &[u8], ends: &[SessionEnd]) -> u8
     requires { 0 < length text.now }
-    ensures said { Says text.now (H.host_told host.old) (H.host_told host.new) }
+    ensures said { PrintsStatus text.now (H.host_told host.old) (H.host_told host.new) }
     ensures files { LeavesFiles (H.host_told host.old) (H.host_told host.new) }
     ensures by_end { result ≢ 5 → result ≢ 6 → (result ≡ highest_by (ways ends.now))
         × (list_any (λ end. end.failed) ends.now ≡ false)

@@ -1,9 +1,9 @@
 // The words of the command line.
 ghost use Rattle.std.specs.Prelude.{◌≡◌, ◌<◌, ◌≤◌, length, IfOk, IfSome};
 ghost use Rattle.std.specs.Option.{option_map};
-ghost use Rattle.serve_house.specs.Opened.{IsSized};
-ghost use Rattle.serve_words.specs.Task.{IsAllowed, shown};
-ghost use Rattle.flake_run.specs.Task.{job_of, shown_task, sizes_of, task_of};
+ghost use Rattle.run_resources.specs.Opened.{HasRunSizes};
+ghost use Rattle.serve_words.specs.Task.{IsAllowed, task_shown};
+ghost use Rattle.flake_run.specs.Task.{job_of, shown_task, run_sizes, run_task_of};
 
 use flake_base::Memory;
 use serve_inputs::Sizes;
@@ -22,8 +22,8 @@ pub struct FilesTask<'a> {
 
 /// The task that the words ask for; none where they are bad words.
 pub fn files_task<'a>(alloc: Global, words: &'a [String]) -> Result<Option<FilesTask<'a>>, Memory>
-    ensures value { IfOk result (λ task. option_map shown_task task ≡ task_of words.entry.now) }
-    ensures sized { IfOk result (λ task. IfSome task (λ t. IsSized (length t.files.items) t.sizes)) }
+    ensures value { IfOk result (λ task. option_map shown_task task ≡ run_task_of words.entry.now) }
+    ensures sized { IfOk result (λ task. IfSome task (λ t. HasRunSizes (length t.files.items) t.sizes)) }
     ensures workers { IfOk result (λ task. IfSome task (λ t. (0 < t.workers) × (t.workers ≤ 16))) }
 {
     match serve_task(alloc, words)? {
@@ -33,9 +33,9 @@ pub fn files_task<'a>(alloc: Global, words: &'a [String]) -> Result<Option<Files
 }
 
 fn sized_task<'a>(task: ServeTask<'a>) -> FilesTask<'a>
-    requires { IsAllowed (shown task) }
-    ensures value { shown_task result ≡ job_of (shown task.entry) }
-    ensures sized { IsSized (length result.files.items) result.sizes }
+    requires { IsAllowed (task_shown task) }
+    ensures value { shown_task result ≡ job_of (task_shown task.entry) }
+    ensures sized { HasRunSizes (length result.files.items) result.sizes }
     ensures workers { (0 < result.workers) × (result.workers ≤ 16) }
 {
     FilesTask {
@@ -47,7 +47,7 @@ fn sized_task<'a>(task: ServeTask<'a>) -> FilesTask<'a>
 }
 
 pub(crate) fn sizes_of(sizes: &serve_words::Sizes) -> Sizes
-    ensures { result ≡ sizes_of sizes.now }
+    ensures { result ≡ run_sizes sizes.now }
 {
     Sizes {
         shards: sizes.shards,

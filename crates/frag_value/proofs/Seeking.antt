@@ -15,9 +15,11 @@ use Rattle.frag_value.specs.Claimed.{ClaimsFor, NoneLeft}
 
 -- nothing was sought
 pub sought_same : (z : Sizes) (rows : Class → ℕ) (v w : View) → w ≡ v → Sought z rows 0 v w
-sought_same z rows v w e = sought_within z (λ _. 0) rows 0 v w (sought_nothing z v w (ap (λ (u : View). u.claims) e) (ap (λ (u : View). u.looks) e)) (λ class. omega arith)
+sought_same z rows v w e = sought_within z (λ _. 0) rows 0 v w
+    (sought_nothing z v w (ap (λ (u : View). u.claims) e) (ap (λ (u : View). u.looks) e)) (λ class. omega arith)
 
-pub sought_placed : (z : Sizes) (fragments : List (List ℕ)) (v w : View) → ClaimsFor z fragments v w → Sought z (λ class. fragments_in class fragments) 0 v w
+pub sought_placed : (z : Sizes) (fragments : List (List ℕ)) (v w : View) → ClaimsFor z fragments v w
+    → Sought z (λ class. fragments_in class fragments) 0 v w
 sought_placed z fragments v w for = record {
   missed = λ class. 0;
   missed_are = refl;
@@ -25,7 +27,8 @@ sought_placed z fragments v w for = record {
   looks = λ b near. omega (arith, looked-more b v w for.keeps.looks.0 for.keeps.looks.1);
 }
 
-pub sought_refused : (z : Sizes) (fragments : List (List ℕ)) (none : NoBuffer) (v w : View) → ClaimsFor z fragments v w → NoneLeft z fragments none v w → Sought z (λ class. fragments_in class fragments) 1 v w
+pub sought_refused : (z : Sizes) (fragments : List (List ℕ)) (none : NoBuffer) (v w : View) → ClaimsFor z fragments v w
+    → NoneLeft z fragments none v w → Sought z (λ class. fragments_in class fragments) 1 v w
 sought_refused z fragments none v w for left = record {
   missed = just none.class 1;
   missed_are = just-both none.class 1;
@@ -33,14 +36,24 @@ sought_refused z fragments none v w for left = record {
   looks = λ b near. more b near (class_at z b) refl;
 }
   where
-    fewer : (class : Class) → buffers_in z class w.claims + just none.class 1 class ≤ buffers_in z class v.claims + fragments_in class fragments
+    fewer : (class : Class) → buffers_in z class w.claims + just none.class 1 class ≤ buffers_in z class v.claims
+        + fragments_in class fragments
     fewer class =
         ⊎_elim
-        (λ same. omega (arith, left.fewer, just-most none.class class 1, ap (λ c. buffers_in z c w.claims) same, ap (λ c. buffers_in z c v.claims) same, ap (λ c. fragments_in c fragments) same))
+        (λ same. omega (
+          arith,
+          left.fewer,
+          just-most none.class class 1,
+          ap (λ c. buffers_in z c w.claims) same,
+          ap
+              (λ c. buffers_in z c v.claims) same,
+          ap (λ c. fragments_in c fragments) same,
+        ))
         (λ away. omega (arith, for.few class, just-else none.class class 1 away))
         (decide none.class class)
 
-    more : (b : ℕ) → b < buffers z → (here : Class) → class_at z b ≡ here → looked_at b v.looks + just none.class 1 here ≤ looked_at b w.looks
+    more : (b : ℕ) → b < buffers z → (here : Class) → class_at z b ≡ here → looked_at b v.looks + just none.class 1 here
+        ≤ looked_at b w.looks
     more b near here is =
         ⊎_elim
         (λ same. omega (arith, just-most none.class here 1, left.found b near (is ∙ same)))

@@ -2,7 +2,7 @@
 use Rattle.std.specs.Prelude.{◌≡◌, ℕ, ◌+◌, ◌<◌, ◌≤◌, List, ◌++◌, length}
 use Rattle.pin_core.specs.Holding.{Holding}
 use Rattle.pin_core.specs.declared.sizes.Sizes.{Sizes}
-use Rattle.pinned_pool.specs.Moves.{taken_by, joined, losing, gaining}
+use Rattle.pinned_pool.specs.Moves.{holds_for, joined_views, losing, gaining}
 use Rattle.pinned_pool.specs.Named.{IsSeat}
 use Rattle.pinned_pool.specs.declared.view.View.{View}
 use Rattle.frag_value.specs.Values.{Frags, HasValue, value_bytes, keys_of, uses, unmarked_view}
@@ -36,17 +36,17 @@ pub record ValuesStay : Type 0 where
   pub gained : (v : Frags) (more : List Holding) (old new : View) → HasValue old.holds v → new ≡ gaining more old
       → Stays v old.holds new.holds
   -- takes another seat in
-  pub joined_in : (v : Frags) (old other new : View) → HasValue old.holds v → new ≡ joined old other
+  pub joined_in : (v : Frags) (old other new : View) → HasValue old.holds v → new ≡ joined_views old other
       → Stays v old.holds new.holds
   -- is taken in
   pub taken_in : (z : Sizes) (v : Frags) (old other new : View) → IsSeat z new → HasValue old.holds v
-      → new ≡ joined other old → Stays v old.holds new.holds
+      → new ≡ joined_views other old → Stays v old.holds new.holds
   -- holds become shared, as a taker may do
   pub shared : (v : Frags) (old new : View) → HasValue old.holds v → unmarked_view new ≡ unmarked_view old
       → Stays v old.holds new.holds
   -- the value itself goes to another seat
   pub moved : (z : Sizes) (v : Frags) (old into new : View) → IsSeat z old → IsSeat z new → HasValue old.holds v
-      → new ≡ gaining (taken_by (keys_of v) old.holds) into → Stays v old.holds new.holds
+      → new ≡ gaining (holds_for (keys_of v) old.holds) into → Stays v old.holds new.holds
   -- and two values share no buffer
   pub apart : (z : Sizes) (v w : Frags) (seat : View) → IsSeat z seat → HasValue seat.holds (v ++ w)
       → (b : ℕ) → uses b v + uses b w ≤ 1

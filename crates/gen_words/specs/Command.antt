@@ -10,12 +10,12 @@ abbrev pub number_rule : Rule
 number_rule = new_rule (codes "number")
 
 -- neither help nor a version is offered
-abbrev pub bare_command : App
-bare_command = on_top (λ shape. record shape { disable_help_flag = true; disable_version_flag = true })
+abbrev pub bare_gen_command : App
+bare_gen_command = on_top (λ shape. record shape { disable_help_flag = true; disable_version_flag = true })
     (new_app (codes "gen"))
 
 abbrev pub gen_command : App
-gen_command = with_rule (with_rule (with_rule (with_rule bare_command (option_rule (codes "sessions")))
+gen_command = with_rule (with_rule (with_rule (with_rule bare_gen_command (option_rule (codes "sessions")))
     (option_rule (codes "requests"))) (option_rule (codes "workers"))) number_rule
 
 -- what stands behind each name, where the words fit the command

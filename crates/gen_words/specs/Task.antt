@@ -14,8 +14,8 @@ all_numbers sessions (Some number) (Some requests) (Some workers) =
 all_numbers sessions _ _ _ = None
 
 -- 1 to 16 sessions, 1 to 4,000 requests, and 1 to 16 workers: one for each session, where no word says another number
-abbrev pub task_in : List Row → Option GenTask
-task_in rows = option_and_then
+abbrev pub generated_task_in : List Row → Option GenTask
+generated_task_in rows = option_and_then
     (λ sessions. all_numbers sessions (number_in (codes "number") (2 ^ 32 - 1) rows)
     (number_or (codes "requests") 4000 1000 rows) (number_or (codes "workers") 16 sessions rows))
     (number_or (codes "sessions") 16 4 rows)
@@ -26,11 +26,11 @@ is_gen [] = false
 is_gen (command ∷ words) = bytes_eq command (codes "gen")
 
 -- the task that the words ask for; none where they are bad words
-abbrev pub task_of : List (List ℕ) → Option GenTask
-task_of words = if is_gen words then option_and_then task_in (rows_in words) else None
+abbrev pub generated_task_of : List (List ℕ) → Option GenTask
+generated_task_of words = if is_gen words then option_and_then generated_task_in (rows_in words) else None
 
 -- a task that a run can be given
-pub record IsAllowed (task : GenTask) : Type 0 where
+pub record IsAllowedGenerated (task : GenTask) : Type 0 where
   pub sessions : (1 ≤ task.sessions) × (task.sessions ≤ 16)
   pub requests : (1 ≤ task.requests) × (task.requests ≤ 4000)
   pub workers : (1 ≤ task.workers) × (task.workers ≤ 16)

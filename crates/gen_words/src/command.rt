@@ -4,8 +4,8 @@ ghost use Rattle.clap.specs.Matches.{found_of};
 ghost use Rattle.clap.specs.Simple.{app_of};
 ghost use Rattle.clap.specs.Walk.{rows_of, rule_of};
 ghost use Rattle.serve_words.specs.Command.{option_rule};
-ghost use Rattle.serve_words.specs.Task.{texts_of};
-ghost use Rattle.gen_words.specs.Command.{bare_command, gen_command, rows_in};
+ghost use Rattle.serve_words.specs.Task.{word_texts};
+ghost use Rattle.gen_words.specs.Command.{bare_gen_command, gen_command, rows_in};
 
 use clap::error::ErrorKind;
 use clap::{Arg, ArgMatches, Command};
@@ -18,7 +18,7 @@ pub(crate) fn matches_of_words<'a>(
     words: &'a [String],
 ) -> Result<Option<ArgMatches<'a>>, Memory>
     ensures { IfOk result (λ matches. option_map (λ m. rows_of (found_of m)) matches
-        ≡ rows_in (texts_of words.entry.now)) }
+        ≡ rows_in (word_texts words.entry.now)) }
 {
     let command = gen_command(alloc)?;
     match command.try_get_matches_from(words) {
@@ -43,7 +43,7 @@ fn gen_command<'a>(alloc: Global) -> Result<Command<'a>, AllocError>
 
 // Neither help nor a version is offered.
 fn bare_command<'a>(alloc: Global) -> Command<'a>
-    ensures { app_of result ≡ bare_command }
+    ensures { app_of result ≡ bare_gen_command }
 {
     Command::new(alloc, "gen")
         .disable_help_flag(true)

@@ -3,7 +3,7 @@ ghost use Rattle.std.specs.Prelude.{◌≡◌, ◌≤◌, IfSome};
 ghost use Rattle.clap.specs.Matches.{found_of};
 ghost use Rattle.clap.specs.Walk.{rows_of};
 ghost use Rattle.flake_model.specs.Range.{signed_of};
-ghost use Rattle.gen_words.specs.Numbers.{number_in, number_or, within};
+ghost use Rattle.gen_words.specs.Numbers.{number_in, number_or, number_between};
 
 use clap::ArgMatches;
 use range_pick::read_signed;
@@ -30,7 +30,7 @@ pub(crate) fn number_or(matches: &ArgMatches<'_>, name: &str, most: u32, usual: 
 
 // The plain decimal between these.
 fn within(least: u32, most: u32, text: &str) -> Option<u32>
-    ensures value { result ≡ within least most (signed_of text.now) }
+    ensures value { result ≡ number_between least most (signed_of text.now) }
     ensures within { IfSome result (λ n. (least ≤ n) × (n ≤ most)) }
 {
     let number = read_signed(text.as_bytes()).ok()?;

@@ -1,7 +1,7 @@
 ghost use Rattle.std.specs.Prelude.{◌≡◌, IfSome};
 ghost use Rattle.clap.specs.Matches.{found_of};
 ghost use Rattle.clap.specs.Walk.{rows_of};
-ghost use Rattle.gen_words.specs.Task.{IsAllowed, task_in};
+ghost use Rattle.gen_words.specs.Task.{IsAllowedGenerated, generated_task_in};
 
 use crate::numbers::{number_in, number_or};
 use clap::ArgMatches;
@@ -19,8 +19,8 @@ pub struct GenTask {
 /// The task that the words ask for, if their numbers fit. There are as many workers as sessions, where the words don't
 /// say.
 pub(crate) fn task_in(matches: &ArgMatches<'_>) -> Option<GenTask>
-    ensures value { result ≡ task_in (rows_of (found_of matches.now)) }
-    ensures allowed { IfSome result IsAllowed }
+    ensures value { result ≡ generated_task_in (rows_of (found_of matches.now)) }
+    ensures allowed { IfSome result IsAllowedGenerated }
 {
     let sessions = number_or(matches, "sessions", 16, 4)?;
     let number = number_in(matches, "number", u32::MAX)?;

@@ -1,6 +1,6 @@
 ghost use Rattle.std.specs.Prelude.{◌≡◌, IfOk, IfSome};
-ghost use Rattle.serve_words.specs.Task.{texts_of};
-ghost use Rattle.gen_words.specs.Task.{IsAllowed, is_gen, task_of};
+ghost use Rattle.serve_words.specs.Task.{word_texts};
+ghost use Rattle.gen_words.specs.Task.{IsAllowedGenerated, is_gen, generated_task_of};
 
 use crate::command::matches_of_words;
 use crate::task::{GenTask, task_in};
@@ -10,8 +10,8 @@ use std::alloc::Global;
 /// The task that the words behind the program's name ask for, of which the first is `gen`; none where they are bad
 /// words.
 pub fn gen_task(alloc: Global, words: &[String]) -> Result<Option<GenTask>, Memory>
-    ensures value { IfOk result (λ task. task ≡ task_of (texts_of words.now)) }
-    ensures allowed { IfOk result (λ task. IfSome task IsAllowed) }
+    ensures value { IfOk result (λ task. task ≡ generated_task_of (word_texts words.now)) }
+    ensures allowed { IfOk result (λ task. IfSome task IsAllowedGenerated) }
 {
     if !is_gen(words) {
         return Ok(None);
@@ -23,7 +23,7 @@ pub fn gen_task(alloc: Global, words: &[String]) -> Result<Option<GenTask>, Memo
 }
 
 fn is_gen(words: &[String]) -> bool
-    ensures { result ≡ is_gen (texts_of words.now) }
+    ensures { result ≡ is_gen (word_texts words.now) }
 {
     match words {
         [command, ..] => command.as_str() == "gen",

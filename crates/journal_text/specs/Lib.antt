@@ -1,4 +1,3 @@
-pub mod Histories
 pub mod Lines
 pub mod Reading
 pub mod Text

@@ -3,14 +3,14 @@ use Rattle.std.specs.Prelude.{ℕ, ◌+◌, ◌<◌, ◌≤◌, ◌^◌, List, [
 use Rattle.std.specs.List.{AllByRecursion}
 use Rattle.std.specs.Fmt.{decimal}
 use Rattle.flake_base.specs.declared.journal.Entry.{Entry}
-use Rattle.journal_text.specs.Lines.{ended}
+use Rattle.journal_text.specs.Lines.{joined_lines}
 
 -- an entry with the number of its shard
-abbrev pub Placed : Type 0
-Placed = ℕ × Entry
+abbrev pub ShardEntry : Type 0
+ShardEntry = ℕ × Entry
 
 -- all entries of the shards from a number on, each shard's in the order of its history
-abbrev pub placed_from : ℕ → List (List Entry) → List Placed
+abbrev pub placed_from : ℕ → List (List Entry) → List ShardEntry
 placed_from shard [] = []
 placed_from shard (history ∷ histories) = map (λ entry. (shard, entry)) history ++ placed_from (shard + 1) histories
 
@@ -19,15 +19,15 @@ abbrev pub head_line : ℕ → List ℕ
 head_line shards = codes "shards " ++ decimal shards
 
 -- an entry's shard, session, call and part, with a blank between two of them
-abbrev pub entry_line : Placed → List ℕ
+abbrev pub entry_line : ShardEntry → List ℕ
 entry_line placed =
     decimal placed.0 ++ 32 ∷ (decimal placed.1.session ++ 32 ∷ (decimal placed.1.call ++ 32 ∷ decimal placed.1.part))
 
 abbrev pub journal_lines : List (List Entry) → List (List ℕ)
 journal_lines journal = head_line (length journal) ∷ map entry_line (placed_from 0 journal)
 
-abbrev pub text_of : List (List Entry) → List ℕ
-text_of journal = ended (journal_lines journal)
+abbrev pub journal_text_of : List (List Entry) → List ℕ
+journal_text_of journal = joined_lines (journal_lines journal)
 
 -- numbers of a session, a call and a part that a line may have
 pub record IsInRange (entry : Entry) : Type 0 where
@@ -36,8 +36,8 @@ pub record IsInRange (entry : Entry) : Type 0 where
   pub part : entry.part < 64
 
 -- so is the number of the shard
-abbrev pub IsPlaced : ℕ → Placed → Type 0
-IsPlaced shards placed = (placed.0 < shards) × IsInRange placed.1
+abbrev pub IsEntryPlaced : ℕ → ShardEntry → Type 0
+IsEntryPlaced shards placed = (placed.0 < shards) × IsInRange placed.1
 
 -- a journal that can be read back: it has from 1 to 16 shards, and all numbers are in range
 pub record FitsText (journal : List (List Entry)) : Type 0 where

@@ -1,7 +1,7 @@
 // What the lines of a journal's text have.
 ghost use Rattle.std.specs.Prelude.{◌≡◌, ◌≢◌, ◌^◌, ◌<◌, ◌≤◌, ◌++◌, ◌∷◌, ℕ, List, IfSome, IsNone};
 ghost use Rattle.std.specs.Fmt.{decimal};
-ghost use Rattle.journal_text.specs.Text.{Placed, head_line, entry_line, IsPlaced};
+ghost use Rattle.journal_text.specs.Text.{ShardEntry, head_line, entry_line, IsEntryPlaced};
 
 use crate::numbers::number;
 use flake_base::Entry;
@@ -23,8 +23,8 @@ pub fn shards_of(line: &[u8]) -> Option<usize>
 /// The entry that a line tells, with the number of its shard, which is below 16.
 pub fn entry_of(line: &[u8]) -> Option<(usize, Entry)>
     ensures some { IfSome result (λ placed. line.now ≡ entry_line placed) }
-    ensures range { IfSome result (IsPlaced 16) }
-    ensures none { IsNone result → (placed : Placed) → IsPlaced 16 placed → line.now ≢ entry_line placed }
+    ensures range { IfSome result (IsEntryPlaced 16) }
+    ensures none { IsNone result → (placed : ShardEntry) → IsEntryPlaced 16 placed → line.now ≢ entry_line placed }
 {
     let (shard, line) = field(line, 16)?;
     let (session, line) = field(line, 16)?;

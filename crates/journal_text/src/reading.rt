@@ -1,10 +1,10 @@
 ghost use Rattle.std.specs.Prelude.{◌≡◌, ◌+◌, ◌^◌, ◌<◌, ◌≤◌, ◌++◌, ◌∷◌, [], List, length, replicate, IfOk, IfErr};
 ghost use Rattle.std.specs.Prelude.{OnOk, vec_len, slice_set, slice_index_or};
 ghost use Rattle.flake_base.specs.declared.journal.Entry.{Entry};
-ghost use Rattle.journal_text.specs.Histories.{histories};
+ghost use Rattle.flake_base.specs.Histories.{histories};
 ghost use Rattle.journal_text.specs.Lines.{lines_of};
 ghost use Rattle.journal_text.specs.Text.{head_line};
-ghost use Rattle.journal_text.specs.Reading.{AreLines, IsFault};
+ghost use Rattle.journal_text.specs.Reading.{AreJournalLines, IsJournalFault};
 
 use crate::JournalError;
 use crate::fields::{entry_of, shards_of};
@@ -14,8 +14,8 @@ use std::alloc::Global;
 
 /// The journal whose text it is; the last line may lack its LF.
 pub fn read_journal(alloc: Global, text: &[u8]) -> Result<Journal, JournalError>
-    ensures ok { IfOk result (λ journal. AreLines (lines_of text.now) (histories journal.items)) }
-    ensures err { IfErr result (IsFault (lines_of text.now)) }
+    ensures ok { IfOk result (λ journal. AreJournalLines (lines_of text.now) (histories journal.items)) }
+    ensures err { IfErr result (IsJournalFault (lines_of text.now)) }
 {
     let Some((head, entries)) = first_line(text) else {
         return Err(JournalError::BadLine { line: 1 });
@@ -45,8 +45,8 @@ fn read_entries(lists: Vec<Sequence<Entry>>, entries: &[u8]) -> Result<Journal, 
     requires empty { histories lists.items ≡ replicate (vec_len lists) [] }
     requires room { length entries.now + 1 < 2 ^ 64 }
     ensures ok { IfOk result (λ journal.
-        AreLines (head_line (vec_len lists) ∷ lines_of entries.now) (histories journal.items)) }
-    ensures err { IfErr result (IsFault (head_line (vec_len lists) ∷ lines_of entries.now)) }
+        AreJournalLines (head_line (vec_len lists) ∷ lines_of entries.now) (histories journal.items)) }
+    ensures err { IfErr result (IsJournalFault (head_line (vec_len lists) ∷ lines_of entries.now)) }
 {
     let mut lists = lists;
     let mut rest = entries;

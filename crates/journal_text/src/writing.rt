@@ -1,8 +1,8 @@
 ghost use Rattle.std.specs.Prelude.{◌≡◌, ◌++◌, ◌∷◌, [], map, IfOk, OnOk};
 ghost use Rattle.std.specs.Fmt.{decimal};
-ghost use Rattle.journal_text.specs.Histories.{histories};
-ghost use Rattle.journal_text.specs.Lines.{ended};
-ghost use Rattle.journal_text.specs.Text.{entry_line, text_of};
+ghost use Rattle.flake_base.specs.Histories.{histories};
+ghost use Rattle.journal_text.specs.Lines.{joined_lines};
+ghost use Rattle.journal_text.specs.Text.{entry_line, journal_text_of};
 
 use flake_base::{Bytes, Entry, Journal, Memory};
 use itoa::Buffer;
@@ -10,7 +10,7 @@ use std::alloc::Global;
 
 /// The text of a journal.
 pub fn journal_text(alloc: Global, journal: &Journal) -> Result<Bytes, Memory>
-    ensures { IfOk result (λ text. text.items ≡ text_of (histories journal.now.items)) }
+    ensures { IfOk result (λ text. text.items ≡ journal_text_of (histories journal.now.items)) }
 {
     let mut text = Bytes::new(alloc);
     text.append(b"shards ")?;
@@ -24,7 +24,7 @@ pub fn journal_text(alloc: Global, journal: &Journal) -> Result<Bytes, Memory>
 // Puts the lines of a shard's entries behind what stands there.
 fn put_history(text: &mut Bytes, shard: u64, history: &[Entry]) -> Result<(), Memory>
     ensures { OnOk result (text.new.items
-        ≡ text.old.items ++ ended (map entry_line (map (λ entry. (shard, entry)) history.now))) }
+        ≡ text.old.items ++ joined_lines (map entry_line (map (λ entry. (shard, entry)) history.now))) }
 {
     for entry in history {
         put_entry(text, shard, entry)?;

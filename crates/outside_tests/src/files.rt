@@ -51,13 +51,13 @@ fn a_wire_makes_its_file_at_the_first_put(rt: HostRuntime) -> Result<(), Fail> {
 // The second piece doesn't fit beside the first, and the third is longer than the room.
 #[test]
 fn a_wire_writes_when_its_room_is_full(rt: HostRuntime) -> Result<(), Fail> {
-    let bytes = pattern(rt.alloc(), 200_000)?;
+    let bytes = pattern(rt.alloc(), 600_000)?;
     let bytes = bytes.as_slice();
     let mut wire = wire(rt.alloc(), rt.clone()?, "full_room.test")?;
     let pieces = [
         (0, 40_000, 0),
-        (40_000, 105_536, 40_000),
-        (105_536, 200_000, 200_000),
+        (40_000, 302_144, 40_000),
+        (302_144, 600_000, 600_000),
     ];
     for (from, to, written) in pieces {
         assert_eq!(rt; put(&mut wire, part(&rt, bytes, from, to)), Ok(()));
@@ -79,7 +79,7 @@ fn a_wire_to_no_folder_fails_at_its_put(rt: HostRuntime) -> Result<(), Fail> {
 // A disk that is full takes no byte: what waits fails at the flush, and what doesn't fit at the put.
 #[test]
 fn a_full_disk_is_a_fault(rt: HostRuntime) -> Result<(), Fail> {
-    let bytes = pattern(rt.alloc(), 65_536)?;
+    let bytes = pattern(rt.alloc(), 262_144)?;
     let mut full = wire(rt.alloc(), rt.clone()?, "/dev/full")?;
     assert_eq!(rt; put(&mut full, b"+OK\r\n"), Ok(()));
     assert_eq!(rt; flush(&mut full), Err(Failed));

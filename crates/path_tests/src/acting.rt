@@ -1,7 +1,7 @@
 //! Acts of a session and its device, each told as a line.
 ghost use Rattle.std.specs.Prelude.{◌≡◌, ◌+◌, ◌<◌, ◌≤◌, IfOk};
 
-use super::house::{House, close, open_house};
+use super::resources::{RunResources, close, open_resources};
 use command_exec::Shop;
 use command_parts::Command;
 use device_model::{Device, Gathered};
@@ -240,13 +240,13 @@ fn tell_named<R: Wait, N: BookName, P: PoolName + Send>(
     requires credits { 8192 + N.sizes.shards ≤ P.sizes.credits }
     requires threshold { (0 < threshold) × (threshold ≤ 512) }
 {
-    let House {
+    let RunResources {
         pool,
         book,
         store,
         session,
         device,
-    } = open_house::<N, P>(alloc, pool, book, threshold)?;
+    } = open_resources::<N, P>(alloc, pool, book, threshold)?;
     let shop = Shop {
         pool: &pool,
         book: &book,

@@ -6,8 +6,6 @@ mod acting;
 #[cfg(test)]
 mod asking;
 #[cfg(test)]
-mod house;
-#[cfg(test)]
 mod making;
 #[cfg(test)]
 mod pacing;
@@ -17,6 +15,8 @@ mod plans;
 mod putting;
 #[cfg(test)]
 mod replies;
+#[cfg(test)]
+mod resources;
 #[cfg(test)]
 mod rows;
 #[cfg(test)]

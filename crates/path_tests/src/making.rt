@@ -1,7 +1,7 @@
 //! Replies over values, as a session makes them.
 ghost use Rattle.std.specs.Prelude.{◌≡◌, ◌+◌, ◌<◌, ◌≤◌, ◌++◌, length, None, IfOk};
 ghost use Rattle.frag_value.specs.Values.{HasValue, size_of};
-ghost use Rattle.reply_layout.specs.Gathered.{text_of};
+ghost use Rattle.reply_layout.specs.Gathered.{text_of_pieces};
 ghost use Rattle.reply_planner.specs.Laid.{pieces_in};
 ghost use Rattle.reply_planner.specs.Owned.{AreOwn};
 ghost use Rattle.reply_planner.specs.Stages.{stage_size};
@@ -14,7 +14,7 @@ use std::alloc::Global;
 
 /// A seat with an open stage.
 #[derive(Drop)]
-pub struct Desk<N: PoolName> {
+pub struct SessionSlot<N: PoolName> {
     pub seat: PoolSeat<N>,
     pub stage: Stage<N>,
     ghost free: { length stage ≡ stage_size },
@@ -22,11 +22,11 @@ pub struct Desk<N: PoolName> {
     ghost rich: { 200 ≤ seat.credits },
 }
 
-pub fn open_desk<N: PoolName>(
+pub fn open_session_slot<N: PoolName>(
     alloc: Global,
     pool: &Pool<N>,
     from: &mut PoolSeat<N>,
-) -> Result<Desk<N>, Memory>
+) -> Result<SessionSlot<N>, Memory>
     requires { 200 < from.old.credits }
     ensures { IfOk result (λ _. from.new.credits + 200 ≡ from.old.credits) }
 {
@@ -34,7 +34,7 @@ pub fn open_desk<N: PoolName>(
     let Ok(stage) = Stage::open(alloc, pool, &mut seat) else {
         return Err(Memory);
     };
-    Ok(Desk { seat, stage })
+    Ok(SessionSlot { seat, stage })
 }
 
 /// A reply, and what it goes back to.
@@ -55,7 +55,7 @@ fn seal<N: PoolName>(
     call: u32,
 ) -> Made<N>
     requires done { plan.begun ≡ None }
-    requires some { 0 < length (text_of (pieces_in plan.taken)) }
+    requires some { 0 < length (text_of_pieces (pieces_in plan.taken)) }
     requires room { length stage + length plan.base.stage ≤ stage_size }
     requires own { AreOwn seat.holds (stage ++ plan.base.stage) }
 {
@@ -70,7 +70,7 @@ fn seal<N: PoolName>(
 /// The reply to a range of a value.
 pub fn make_range<N: PoolName>(
     pool: &Pool<N>,
-    desk: Desk<N>,
+    slot: SessionSlot<N>,
     owner: &mut PoolSeat<N>,
     value: &Value<N>,
     threshold: u32,
@@ -82,10 +82,10 @@ pub fn make_range<N: PoolName>(
     requires within { from + len ≤ size_of value.now }
     ensures value { HasValue owner.new.holds value.now }
 {
-    let Desk {
+    let SessionSlot {
         mut seat,
         mut stage,
-    } = desk;
+    } = slot;
     let mut plan = Plan::start(pool, &mut seat, &mut stage, Need::range(), threshold)?;
     hand_range(pool, owner, value, from, len, &mut plan);
     Ok(seal(plan, seat, stage, 7))

@@ -1,8 +1,8 @@
 //! Replies over values that the tests write, as lists of segments.
 ghost use Rattle.std.specs.Prelude.{◌≡◌, ◌+◌, ◌*◌, ◌<◌, ◌≤◌, ◌++◌, length, None};
-ghost use Rattle.frag_value.specs.Fragments.{value_limit};
+ghost use Rattle.flake_base.specs.Limits.{value_limit};
 ghost use Rattle.frag_value.specs.Values.{HasValue};
-ghost use Rattle.reply_layout.specs.Gathered.{text_of};
+ghost use Rattle.reply_layout.specs.Gathered.{text_of_pieces};
 ghost use Rattle.reply_planner.specs.Laid.{pieces_in};
 ghost use Rattle.reply_planner.specs.Owned.{AreOwn};
 ghost use Rattle.reply_planner.specs.Planned.{room_of};
@@ -81,7 +81,7 @@ fn send<N: PoolName>(
     stage: &mut Stage<N>,
 ) -> Result<Reply, Memory>
     requires done { plan.begun ≡ None }
-    requires some { 0 < length (text_of (pieces_in plan.taken)) }
+    requires some { 0 < length (text_of_pieces (pieces_in plan.taken)) }
     requires room { length stage.old + length plan.base.stage ≤ stage_size }
     requires own { AreOwn seat.old.holds (stage.old ++ plan.base.stage) }
 {
@@ -119,7 +119,7 @@ fn hand_often<N: PoolName>(
     ensures none { plan.new.begun ≡ None }
     ensures base { plan.new.base ≡ plan.old.base }
     ensures room { room_of plan.old ≤ room_of plan.new + times }
-    ensures some { 0 < times → 0 < length (text_of (pieces_in plan.new.taken)) }
+    ensures some { 0 < times → 0 < length (text_of_pieces (pieces_in plan.new.taken)) }
 {
     for _ in 0..times {
         hand(pool, owner, value, plan);
@@ -131,7 +131,8 @@ fn copy_nulls<N: PoolName>(plan: &mut Plan<'_, N>, nulls: usize)
     requires room { nulls ≤ room_of plan.old }
     ensures none { plan.new.begun ≡ None }
     ensures base { plan.new.base ≡ plan.old.base }
-    ensures more { length (text_of (pieces_in plan.old.taken)) ≤ length (text_of (pieces_in plan.new.taken)) }
+    ensures more { length (text_of_pieces (pieces_in plan.old.taken)) ≤ length
+        (text_of_pieces (pieces_in plan.new.taken)) }
 {
     for _ in 0..nulls {
         plan.copy(b"$-1\r\n");
@@ -140,7 +141,7 @@ fn copy_nulls<N: PoolName>(plan: &mut Plan<'_, N>, nulls: usize)
 
 // A pool with an open stage, and a seat whose values are replied.
 #[derive(Drop)]
-struct Desk<N: PoolName> {
+struct SessionSlot<N: PoolName> {
     pool: Pool<N>,
     seat: PoolSeat<N>,
     stage: Stage<N>,
@@ -150,7 +151,7 @@ struct Desk<N: PoolName> {
     ghost rich: { 1300 ≤ seat.credits },
 }
 
-fn open_desk<N: PoolName>(alloc: Global, blank: PoolBlank) -> Result<Desk<N>, Memory>
+fn open_session_slot<N: PoolName>(alloc: Global, blank: PoolBlank) -> Result<SessionSlot<N>, Memory>
     requires name { (blank.table ≡ N.table) × (blank.sizes ≡ N.sizes) }
     requires rich { 1400 ≤ blank.sizes.credits }
 {
@@ -159,7 +160,7 @@ fn open_desk<N: PoolName>(alloc: Global, blank: PoolBlank) -> Result<Desk<N>, Me
     let Ok(stage) = Stage::open(alloc, &pool, &mut seat) else {
         return Err(Memory);
     };
-    Ok(Desk {
+    Ok(SessionSlot {
         pool,
         seat,
         stage,
@@ -170,7 +171,7 @@ fn open_desk<N: PoolName>(alloc: Global, blank: PoolBlank) -> Result<Desk<N>, Me
 // A head, and a value or a null several times.
 fn answer<N: PoolName>(
     alloc: Global,
-    desk: Desk<N>,
+    slot: SessionSlot<N>,
     bytes: &[u8],
     ask: Ask<'_>,
 ) -> Result<Reply, Memory>
@@ -179,12 +180,12 @@ fn answer<N: PoolName>(
     requires times { (0 < ask.times) × (ask.times + ask.nulls ≤ 64) }
     requires head { length ask.head.now ≤ 23 }
 {
-    let Desk {
+    let SessionSlot {
         pool,
         mut seat,
         mut stage,
         mut owner,
-    } = desk;
+    } = slot;
     let Ok(value) = write(alloc, &pool, &mut owner, bytes) else {
         return Err(Memory);
     };
@@ -199,7 +200,7 @@ fn answer<N: PoolName>(
 // A range of a value.
 fn answer_part<N: PoolName>(
     alloc: Global,
-    desk: Desk<N>,
+    slot: SessionSlot<N>,
     bytes: &[u8],
     threshold: u32,
     from: u64,
@@ -209,12 +210,12 @@ fn answer_part<N: PoolName>(
     requires threshold { (0 < threshold) × (threshold ≤ 512) }
     requires within { from + len ≤ length bytes.now }
 {
-    let Desk {
+    let SessionSlot {
         pool,
         mut seat,
         mut stage,
         mut owner,
-    } = desk;
+    } = slot;
     let Ok(value) = write(alloc, &pool, &mut owner, bytes) else {
         return Err(Memory);
     };
@@ -226,19 +227,19 @@ fn answer_part<N: PoolName>(
 // A value with its holds.
 fn answer_over<N: PoolName>(
     alloc: Global,
-    desk: Desk<N>,
+    slot: SessionSlot<N>,
     bytes: &[u8],
     threshold: u32,
 ) -> Result<Reply, Memory>
     requires few { length bytes.now ≤ value_limit }
     requires threshold { (0 < threshold) × (threshold ≤ 512) }
 {
-    let Desk {
+    let SessionSlot {
         pool,
         mut seat,
         mut stage,
         mut owner,
-    } = desk;
+    } = slot;
     let Ok(value) = write(alloc, &pool, &mut owner, bytes) else {
         return Err(Memory);
     };
@@ -251,19 +252,19 @@ fn answer_over<N: PoolName>(
 // A plan that has a value, and has begun another, is given up, and the value is released.
 fn give_up<N: PoolName>(
     alloc: Global,
-    desk: Desk<N>,
+    slot: SessionSlot<N>,
     bytes: &[u8],
     threshold: u32,
-) -> Result<Desk<N>, Memory>
+) -> Result<SessionSlot<N>, Memory>
     requires few { length bytes.now ≤ value_limit }
     requires threshold { (0 < threshold) × (threshold ≤ 512) }
 {
-    let Desk {
+    let SessionSlot {
         pool,
         mut seat,
         mut stage,
         mut owner,
-    } = desk;
+    } = slot;
     let Ok(value) = write(alloc, &pool, &mut owner, bytes) else {
         return Err(Memory);
     };
@@ -273,7 +274,7 @@ fn give_up<N: PoolName>(
     plan.begin(value.len());
     plan.cancel(&mut seat, &mut stage);
     release(&pool, &mut owner, value);
-    Ok(Desk {
+    Ok(SessionSlot {
         pool,
         seat,
         stage,
@@ -305,19 +306,19 @@ fn reply_to<N: PoolName>(
     requires times { (0 < ask.times) × (ask.times + ask.nulls ≤ 64) }
     requires head { length ask.head.now ≤ 23 }
 {
-    let desk = open_desk::<N>(alloc, blank)?;
+    let slot = open_session_slot::<N>(alloc, blank)?;
     match way {
-        Way::Whole => answer(alloc, desk, bytes, ask),
+        Way::Whole => answer(alloc, slot, bytes, ask),
         Way::Again => {
-            let desk = give_up(alloc, desk, bytes, ask.threshold)?;
-            answer(alloc, desk, bytes, ask)
+            let slot = give_up(alloc, slot, bytes, ask.threshold)?;
+            answer(alloc, slot, bytes, ask)
         }
         Way::Part(from, len) => {
             let from = from.min(bytes.len() as u64);
             let len = len.min(bytes.len() as u64 - from);
-            answer_part(alloc, desk, bytes, ask.threshold, from, len)
+            answer_part(alloc, slot, bytes, ask.threshold, from, len)
         }
-        Way::Over => answer_over(alloc, desk, bytes, ask.threshold),
+        Way::Over => answer_over(alloc, slot, bytes, ask.threshold),
     }
 }
 

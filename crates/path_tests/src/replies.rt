@@ -2,7 +2,7 @@
 ghost use Rattle.std.specs.Prelude.{◌≡◌, ◌<◌, ◌≤◌, IfOk};
 ghost use Rattle.frag_value.specs.Values.{HasValue};
 
-use super::making::{Desk, Made, make_line, make_range, open_desk};
+use super::making::{Made, SessionSlot, make_line, make_range, open_session_slot};
 use super::putting::{Counted, flush, put};
 use device_model::{Device, Gathered};
 use flake_base::Memory;
@@ -47,15 +47,15 @@ fn make_both<N: PoolName>(
     if ask.bytes.len() > VALUE_LIMIT {
         return Err(Memory);
     }
-    let first = open_desk(alloc, pool, &mut owner)?;
-    let second = open_desk(alloc, pool, &mut owner)?;
+    let first = open_session_slot(alloc, pool, &mut owner)?;
+    let second = open_session_slot(alloc, pool, &mut owner)?;
     let Ok(value) = write(alloc, pool, &mut owner, ask.bytes) else {
         return Err(Memory);
     };
     let from = ask.from.min(value.len());
     let len = ask.len.min(value.len() - from);
     let range = make_range(pool, first, &mut owner, &value, ask.threshold, from, len)?;
-    let Desk {
+    let SessionSlot {
         mut seat,
         mut stage,
     } = second;

@@ -1,7 +1,7 @@
 //! A driver and a device in threads of their own.
 ghost use Rattle.std.specs.Prelude.{◌≡◌, ◌≤◌};
 
-use super::making::{Desk, make_line, open_desk};
+use super::making::{SessionSlot, make_line, open_session_slot};
 use super::putting::{Counted, flush, put};
 use device_model::{Device, Gathered};
 use flake_base::Memory;
@@ -17,15 +17,15 @@ use tx_ring::{Driver, ring};
 fn make_many<N: PoolName>(
     alloc: Global,
     pool: &Pool<N>,
-    desk: Desk<N>,
+    slot: SessionSlot<N>,
     count: u32,
 ) -> Result<Vec<Parcel<N>>, Memory>
     requires { count ≤ 128 }
 {
-    let Desk {
+    let SessionSlot {
         mut seat,
         mut stage,
-    } = desk;
+    } = slot;
     let mut parcels = Vec::new(alloc);
     for turn in 0..count {
         let number = count - 1 - turn;
@@ -86,8 +86,8 @@ fn work_named<N: PoolName + Send + Sync, R: Threads>(
     requires count { count ≤ 128 }
 {
     let (pool, mut seat) = blank.name::<N>();
-    let desk = open_desk(alloc, &pool, &mut seat)?;
-    let parcels = make_many(alloc, &pool, desk, count)?;
+    let slot = open_session_slot(alloc, &pool, &mut seat)?;
+    let parcels = make_many(alloc, &pool, slot, count)?;
     let Ok((driver, end)) = ring::<Parcel<N>>(alloc, 8) else {
         return Err(Memory);
     };

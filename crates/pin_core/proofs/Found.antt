@@ -1,5 +1,6 @@
 -- The first item that passes a test: where it stands, and what the list is when it changes or goes.
-use Rattle.std.proofs.Common.{◌≡◌, ℕ, zero, suc, ◌+◌, ◌<◌, List, [], ◌∷◌, ◌++◌, Bool, true, false, cond, length, map, get_or, set, sym, refl, ap, ◌∙◌, subst, arith}
+use Rattle.std.proofs.Common.{◌≡◌, ℕ, zero, suc, ◌+◌, ◌<◌, List, [], ◌∷◌, ◌++◌, Bool, true, false, cond, length, map}
+use Rattle.std.proofs.Common.{get_or, set, sym, refl, ap, ◌∙◌, subst, arith}
 use Rattle.std.specs.Prelude.{None, Some, find, position, remove}
 use Rattle.std.specs.Option.{option_map}
 use Rattle.std.specs.List.{position_from}
@@ -29,7 +30,9 @@ module _ {A : Type 0} (test : A → Bool) where
   some_is : (a b : ℕ) → Some a ≡ Some b → a ≡ b
   some_is a b e = cc
 
-  found_cons : (x : A) (xs : List A) (n k : ℕ) (t : Bool) → test x ≡ t → (position_from test (n + 1) xs ≡ Some k → FoundFrom xs (n + 1) k) → cond t (Some n) (position_from test (n + 1) xs) ≡ Some k → FoundFrom (x ∷ xs) n k
+  found_cons : (x : A) (xs : List A) (n k : ℕ) (t : Bool) → test x ≡ t
+      → (position_from test (n + 1) xs ≡ Some k → FoundFrom xs (n + 1) k)
+      → cond t (Some n) (position_from test (n + 1) xs) ≡ Some k → FoundFrom (x ∷ xs) n k
   found_cons x xs n k true e rest found =
       let same = some_is n k found in
       record {
@@ -78,7 +81,9 @@ module _ {A : Type 0} (test : A → Bool) where
       let e : f.place ≡ k = omega (arith, f.place_is) in
       subst (IsFirst items) e f.first
 
-  none_cons : (x : A) (xs : List A) (n : ℕ) (t : Bool) → test x ≡ t → (position_from test (n + 1) xs ≡ None → find test xs ≡ None) → cond t (Some n) (position_from test (n + 1) xs) ≡ None → cond t (Some x) (find test xs) ≡ None
+  none_cons : (x : A) (xs : List A) (n : ℕ) (t : Bool) → test x ≡ t
+      → (position_from test (n + 1) xs ≡ None → find test xs ≡ None) → cond t (Some n) (position_from test (n + 1) xs)
+      ≡ None → cond t (Some x) (find test xs) ≡ None
   none_cons x xs n true e rest none = absurd (cc)
   none_cons x xs n false e rest none = rest none
 
@@ -90,7 +95,8 @@ module _ {A : Type 0} (test : A → Bool) where
   is_none items none = none_from items 0 (sym (position_from-zero test items) ∙ sym none)
 
   -- where none passes the test, none is counted
-  count_cons : (x : A) (xs : List A) (t : Bool) → (find test xs ≡ None → total (λ y. cond (test y) 1 0) xs ≡ 0) → cond t (Some x) (find test xs) ≡ None → cond t 1 0 + total (λ y. cond (test y) 1 0) xs ≡ 0
+  count_cons : (x : A) (xs : List A) (t : Bool) → (find test xs ≡ None → total (λ y. cond (test y) 1 0) xs ≡ 0)
+      → cond t (Some x) (find test xs) ≡ None → cond t 1 0 + total (λ y. cond (test y) 1 0) xs ≡ 0
   count_cons x xs true rest none = absurd (cc)
   count_cons x xs false rest none = omega (arith, rest none)
 
@@ -117,7 +123,14 @@ module _ {A : Type 0} (test : A → Bool) (items : List A) (k : ℕ) (item : A) 
   there_from f e =
       let rest : List A = f.before ++ f.behind in
       let sum : (weight : A → ℕ) → total weight items ≡ weight item + total weight rest =
-      λ weight. omega (arith, ap (total weight) f.whole, total-append weight f.before (f.item ∷ f.behind), total-append weight f.before f.behind, ap weight e)
+      λ weight. omega (
+        arith,
+        ap (total weight) f.whole,
+        total-append weight f.before (f.item ∷ f.behind),
+        total-append
+            weight f.before f.behind,
+        ap weight e,
+      )
       in
       let in_rest : (P : A → Type 0) → Each P items → P f.item × Each P rest =
       λ P each. let whole = subst (Each P) f.whole each in
@@ -131,7 +144,13 @@ module _ {A : Type 0} (test : A → Bool) (items : List A) (k : ℕ) (item : A) 
         here = λ d. f.here d ∙ e;
         found = f.found ∙ ap Some e;
         whole = sum;
-        changed = λ other weight. omega (arith, ap (total weight) (f.changed other), total-append weight f.before (other ∷ f.behind), total-append weight f.before f.behind);
+        changed = λ other weight. omega (
+          arith,
+          ap (total weight) (f.changed other),
+          total-append weight f.before (other ∷ f.behind),
+          total-append
+              weight f.before f.behind,
+        );
         removed = λ weight. ap (total weight) f.removed;
         each = λ P each. let parts = in_rest P each in (subst P e parts.0, parts.1);
         each_changed = λ P other new each. each-set P items k other new each;
@@ -143,7 +162,9 @@ module _ {A : Type 0} (test : A → Bool) (items : List A) (k : ℕ) (item : A) 
 
 -- a look-up among what is shown of the items
 module _ {A B : Type 0} (test : B → Bool) (g : A → B) where
-  map_some : (x y : A) (xs : List A) (t : Bool) → (find (λ z. test (g z)) xs ≡ Some y → find test (map g xs) ≡ Some (g y)) → cond t (Some x) (find (λ z. test (g z)) xs) ≡ Some y → cond t (Some (g x)) (find test (map g xs)) ≡ Some (g y)
+  map_some : (x y : A) (xs : List A) (t : Bool)
+      → (find (λ z. test (g z)) xs ≡ Some y → find test (map g xs) ≡ Some (g y))
+      → cond t (Some x) (find (λ z. test (g z)) xs) ≡ Some y → cond t (Some (g x)) (find test (map g xs)) ≡ Some (g y)
   map_some x y xs true rest found = ap (λ o. option_map g o) found
   map_some x y xs false rest found = rest found
 
@@ -151,7 +172,8 @@ module _ {A B : Type 0} (test : B → Bool) (g : A → B) where
   find-map-some y [] found = absurd (cc)
   find-map-some y (x ∷ xs) found = map_some x y xs (test (g x)) (find-map-some y xs) found
 
-  map_none : (x : A) (xs : List A) (t : Bool) → (find (λ z. test (g z)) xs ≡ None → find test (map g xs) ≡ None) → cond t (Some x) (find (λ z. test (g z)) xs) ≡ None → cond t (Some (g x)) (find test (map g xs)) ≡ None
+  map_none : (x : A) (xs : List A) (t : Bool) → (find (λ z. test (g z)) xs ≡ None → find test (map g xs) ≡ None)
+      → cond t (Some x) (find (λ z. test (g z)) xs) ≡ None → cond t (Some (g x)) (find test (map g xs)) ≡ None
   map_none x xs true rest found = absurd (cc)
   map_none x xs false rest found = rest found
 
@@ -159,7 +181,8 @@ module _ {A B : Type 0} (test : B → Bool) (g : A → B) where
   find-map-none [] found = refl
   find-map-none (x ∷ xs) found = map_none x xs (test (g x)) (find-map-none xs) found
 
-pub get_or-append_left : {A : Type 0} (front back : List A) (k : ℕ) (d : A) → k < length front → get_or (front ++ back) k d ≡ get_or front k d
+pub get_or-append_left : {A : Type 0} (front back : List A) (k : ℕ) (d : A) → k < length front
+    → get_or (front ++ back) k d ≡ get_or front k d
 get_or-append_left [] back k d lt = absurd (omega arith)
 get_or-append_left (x ∷ xs) back zero d lt = refl
 get_or-append_left (x ∷ xs) back (suc k) d lt = get_or-append_left xs back k d (omega arith)
@@ -174,9 +197,15 @@ module _ {A : Type 0} (test : A → Bool) where
   some_item : (a b : A) → Some a ≡ Some b → a ≡ b
   some_item a b e = cc
 
-  one_cons : (x y : A) (xs : List A) (t : Bool) → test x ≡ t → (find test xs ≡ Some y → IsOne test xs y) → cond t (Some x) (find test xs) ≡ Some y → IsOne test (x ∷ xs) y
-  one_cons x y xs true e rest found = let same = some_item x y found in record { rest = xs; passes = ap test (sym same) ∙ e; whole = λ weight. omega (arith, ap weight same) }
-  one_cons x y xs false e rest found = let one = rest found in record { rest = x ∷ one.rest; passes = one.passes; whole = λ weight. omega (arith, one.whole weight) }
+  one_cons : (x y : A) (xs : List A) (t : Bool) → test x ≡ t → (find test xs ≡ Some y → IsOne test xs y)
+      → cond t (Some x) (find test xs) ≡ Some y → IsOne test (x ∷ xs) y
+  one_cons x y xs true e rest found = let same = some_item x y found in
+      record { rest = xs; passes = ap test (sym same) ∙ e; whole = λ weight. omega (arith, ap weight same) }
+  one_cons x y xs false e rest found = let one = rest found in record {
+    rest = x ∷ one.rest;
+    passes = one.passes;
+    whole = λ weight. omega (arith, one.whole weight);
+  }
 
   pub one_of_find : (items : List A) (y : A) → find test items ≡ Some y → IsOne test items y
   one_of_find [] y found = absurd (cc)

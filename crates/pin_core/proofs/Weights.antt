@@ -1,5 +1,6 @@
 -- How single holds weigh.
-use Rattle.std.proofs.Common.{◌≡◌, ℕ, ◌+◌, ◌<◌, ◌≤◌, ◌≢◌, List, [], ◌∷◌, Bool, true, false, cond, ◌&&◌, eqb, ltb, sym, refl, ap, ◌∙◌, eq-eqb, ne_eqb, arith}
+use Rattle.std.proofs.Common.{◌≡◌, ℕ, ◌+◌, ◌<◌, ◌≤◌, ◌≢◌, List, [], ◌∷◌, Bool, true, false, cond, ◌&&◌, eqb, ltb, sym}
+use Rattle.std.proofs.Common.{refl, ap, ◌∙◌, eq-eqb, ne_eqb, arith}
 use mathlib.Core.Logic.{dite}
 use native.Mathlib.Decide.{ℕ_discrete}
 use Rattle.std.proofs.lemmas.Bool.{lt-ltb, ltb-true, eqb-true, and_parts}
@@ -91,13 +92,16 @@ unfit_bit false e = absurd (omega arith)
 
 pub fits : (z : Sizes) (fronts : ℕ → List ℕ) (h : Holding) → misfit z fronts h ≡ 0 → Fits z fronts h
 fits z fronts h e =
-    let t = and_parts (ltb h.buffer (buffers z)) (same_words h.front (fronts h.buffer)) (unfit_bit (ltb h.buffer (buffers z) && same_words h.front (fronts h.buffer)) (omega (arith, e))) in
+    let t = and_parts (ltb h.buffer (buffers z)) (same_words h.front (fronts h.buffer))
+    (unfit_bit (ltb h.buffer (buffers z) && same_words h.front (fronts h.buffer)) (omega (arith, e))) in
     record { near = ltb-true h.buffer (buffers z) t.0; front_is = same_words-true h.front (fronts h.buffer) t.1 }
 
 pub misfit-none : (z : Sizes) (fronts : ℕ → List ℕ) (h : Holding) → Fits z fronts h → misfit z fronts h ≡ 0
 misfit-none z fronts h f =
-    let same : same_words h.front (fronts h.buffer) ≡ true = ap (λ xs. same_words h.front xs) (sym f.front_is) ∙ same_words-refl h.front in
-    ap (λ t. cond (t && same_words h.front (fronts h.buffer)) 0 1) (lt-ltb h.buffer (buffers z) f.near) ∙ ap (λ t. cond t 0 1) same
+    let same : same_words h.front (fronts h.buffer) ≡ true = ap (λ xs. same_words h.front xs) (sym f.front_is)
+    ∙ same_words-refl h.front in
+    ap (λ t. cond (t && same_words h.front (fronts h.buffer)) 0 1) (lt-ltb h.buffer (buffers z) f.near)
+    ∙ ap (λ t. cond t 0 1) same
 
 bit_le : (t : Bool) → cond t 0 1 ≤ 1
 bit_le true = omega arith
@@ -110,14 +114,25 @@ refronted b front fronts c = cond (eqb c b) front (fronts c)
 pub refronted-here : (b : ℕ) (front : List ℕ) (fronts : ℕ → List ℕ) (c : ℕ) → c ≡ b → refronted b front fronts c ≡ front
 refronted-here b front fronts c e = ap (λ t. cond t front (fronts c)) (eq-eqb c b e)
 
-pub refronted-else : (b : ℕ) (front : List ℕ) (fronts : ℕ → List ℕ) (c : ℕ) → c ≢ b → refronted b front fronts c ≡ fronts c
+pub refronted-else : (b : ℕ) (front : List ℕ) (fronts : ℕ → List ℕ) (c : ℕ) → c ≢ b → refronted b front fronts c
+    ≡ fronts c
 refronted-else b front fronts c n = ap (λ t. cond t front (fronts c)) (ne_eqb c b n)
 
 -- only holds of that buffer can then misfit
-pub misfit-refronted : (z : Sizes) (b : ℕ) (front : List ℕ) (fronts : ℕ → List ℕ) (h : Holding) → misfit z (refronted b front fronts) h ≤ misfit z fronts h + at b h
+pub misfit-refronted : (z : Sizes) (b : ℕ) (front : List ℕ) (fronts : ℕ → List ℕ) (h : Holding)
+    → misfit z (refronted b front fronts) h ≤ misfit z fronts h + at b h
 misfit-refronted z b front fronts h = dite (ℕ_discrete h.buffer b)
-    (λ e. omega (arith, at-on b h e, bit_le (ltb h.buffer (buffers z) && same_words h.front (refronted b front fronts h.buffer))))
-    (λ n. omega (arith, ap {B = ℕ} (λ xs. cond (ltb h.buffer (buffers z) && same_words h.front xs) 0 1) (refronted-else b front fronts h.buffer n)))
+    (λ e. omega (
+      arith,
+      at-on b h e,
+      bit_le
+          (ltb h.buffer (buffers z) && same_words h.front (refronted b front fronts h.buffer)),
+    ))
+    (λ n. omega (
+      arith,
+      ap {B = ℕ} (λ xs. cond (ltb h.buffer (buffers z) && same_words h.front xs) 0 1)
+          (refronted-else b front fronts h.buffer n),
+    ))
 
 sole_bit : (x y : Bool) → 0 < cond x (cond y 1 0) 0 → y ≡ true
 sole_bit true true some = refl

@@ -8,9 +8,9 @@ use Rattle.pin_core.specs.declared.credits.Account.{Account}
 abbrev pub is_of : Holder → Account → Bool
 is_of p a = same_holder a.holder p
 
-abbrev pub credits_in : List Account → List Holder
-credits_in [] = []
-credits_in (a ∷ rest) = replicate a.credits a.holder ++ credits_in rest
+abbrev pub account_credits : List Account → List Holder
+account_credits [] = []
+account_credits (a ∷ rest) = replicate a.credits a.holder ++ account_credits rest
 
 -- no holder has two accounts
 abbrev pub AreSingle : List Account → Type 0

@@ -2,7 +2,7 @@
 use Rattle.std.specs.Prelude.{ℕ, List, Bool, false, not, ◌&&◌, ◌==◌, nat_lt, nat_le, if◌then◌else◌, length, find}
 use Rattle.std.specs.Prelude.{slice_index, Option, None, Some}
 use Rattle.view_sums.specs.Total.{total}
-use Rattle.pin_core.specs.Buffers.{room}
+use Rattle.pin_core.specs.Buffers.{buffer_words}
 use Rattle.pin_core.specs.Holding.{Holding, Key}
 use Rattle.pin_core.specs.Pins.{Owned, Pins, count_at}
 use Rattle.pin_core.specs.PinStep.{Event, claim, put, load, pin, unpin, move, give}
@@ -39,8 +39,8 @@ abbrev pub is_at : Holder → ℕ → Owned Holder → Bool
 is_at p b o = same_holder o.holder p && (o.hold.buffer == b)
 
 -- one that is pinned, or one that isn't
-abbrev pub is_key : Holder → Key → Owned Holder → Bool
-is_key p k o = is_at p k.buffer o && (if k.pinned then o.hold.pinned else not o.hold.pinned)
+abbrev pub is_held_key : Holder → Key → Owned Holder → Bool
+is_held_key p k o = is_at p k.buffer o && (if k.pinned then o.hold.pinned else not o.hold.pinned)
 
 abbrev pub credits_of : Holder → List Holder → ℕ
 credits_of p credits = total (λ (q : Holder). if same_holder q p then 1 else 0) credits
@@ -58,16 +58,17 @@ held_first (Some o) tests = tests o.hold
 abbrev pub refusal_of : Sizes → Pins Holder → PinEvent → Option Refused
 refusal_of z s (event.Claim b p) = unless (count_at b s.holds == 0) (NotFree (count_at b s.holds)) None
 refusal_of z s (event.Put b p i x) = held_first (find (is_at p b) s.holds)
-    (λ h. unless h.exclusive NotOwned (unless (nat_le i (length h.front) && nat_lt i (room z b))
+    (λ h. unless h.exclusive NotOwned (unless (nat_le i (length h.front) && nat_lt i (buffer_words z b))
     (OutOfFront (length h.front)) None))
 refusal_of z s (event.Load b p i) = held_first (find (is_at p b) s.holds)
     (λ h. unless (nat_lt i (length h.front)) (OutOfFront (length h.front)) None)
 refusal_of z s (event.Pin b p taker) = held_first (find (is_at p b) s.holds)
     (λ h. unless (nat_lt 0 (credits_of taker s.credits)) NoCredit None)
-refusal_of z s (event.Unpin b p pinned) = held_first (find (is_key p (record { buffer = b; pinned = pinned })) s.holds)
+refusal_of z s (event.Unpin b p pinned) =
+    held_first (find (is_held_key p (record { buffer = b; pinned = pinned })) s.holds)
     (λ h. None)
 refusal_of z s (event.Move b pinned p taker) =
-    held_first (find (is_key p (record { buffer = b; pinned = pinned })) s.holds) (λ h. None)
+    held_first (find (is_held_key p (record { buffer = b; pinned = pinned })) s.holds) (λ h. None)
 refusal_of z s (event.Give p taker n) = unless (nat_le n (credits_of p s.credits)) NoCredit None
 
 -- the word at the index in the front of the first hold

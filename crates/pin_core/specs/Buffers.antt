@@ -6,8 +6,8 @@ abbrev pub buffers : Sizes → ℕ
 buffers z = z.small + z.large
 
 -- how many data words a buffer has
-abbrev pub room : Sizes → ℕ → ℕ
-room z b = if nat_lt b z.small then 64 else 512
+abbrev pub buffer_words : Sizes → ℕ → ℕ
+buffer_words z b = if nat_lt b z.small then 64 else 512
 
 -- the place of a buffer's first data word among the data words of all buffers
 abbrev pub start : Sizes → ℕ → ℕ

@@ -3,7 +3,7 @@
 use Rattle.std.specs.Prelude.{◌≡◌, ℕ, ◌+◌, ◌<◌, ◌≤◌, List, [], ◌∷◌, ◌++◌, true, if◌then◌else◌, length, replicate}
 use Rattle.std.specs.Prelude.{slice_set}
 use Rattle.view_sums.specs.Total.{SameItems, Adds}
-use Rattle.pin_core.specs.Buffers.{buffers, room, start}
+use Rattle.pin_core.specs.Buffers.{buffers, buffer_words, start}
 use Rattle.pin_core.specs.Holding.{Holding, Key, IsMeant, fresh, shared, pinned_copy, written}
 use Rattle.pin_core.specs.Pins.{Owned, Pins, own, count_at}
 use Rattle.pin_core.specs.declared.sizes.Sizes.{Sizes}
@@ -37,7 +37,7 @@ module _ {H : Type 0} where
     pub held : Adds (own p hold) rest old.holds
     pub exclusive : hold.exclusive ≡ true
     pub in_front : i ≤ length hold.front
-    pub in_buffer : i < room z b
+    pub in_buffer : i < buffer_words z b
     pub put : Adds (own p (written i x hold)) rest new.holds
     pub words : new.words ≡ slice_set old.words (start z b + i) x
     pub credits : SameItems new.credits old.credits

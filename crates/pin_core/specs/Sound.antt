@@ -1,7 +1,7 @@
 -- What holds of all holds between any two events.
 use Rattle.std.specs.Prelude.{◌≡◌, ℕ, ◌+◌, ◌<◌, ◌≤◌, List, [], ◌∷◌, Bool, true, false, ◌&&◌, ◌==◌, nat_lt}
 use Rattle.std.specs.Prelude.{if◌then◌else◌, length, slice_index, replicate}
-use Rattle.pin_core.specs.Buffers.{buffers, room, start, word_count}
+use Rattle.pin_core.specs.Buffers.{buffers, buffer_words, start, word_count}
 use Rattle.pin_core.specs.Holding.{Holding, at, sole_at, loose_at, pin_of}
 use Rattle.pin_core.specs.Pins.{Pins, weigh}
 use Rattle.pin_core.specs.declared.sizes.Sizes.{Sizes}
@@ -26,7 +26,7 @@ pub record AreSound (z : Sizes) (words : List ℕ) (weighs : (Holding → ℕ) �
   pub fronts : ℕ → List ℕ
   pub fitting : weighs (misfit z fronts) ≡ 0
   -- a front fits its buffer, and the buffer's data words begin with it
-  pub short : (b : ℕ) → length (fronts b) ≤ room z b
+  pub short : (b : ℕ) → length (fronts b) ≤ buffer_words z b
   pub begun : (b i : ℕ) → b < buffers z → i < length (fronts b)
       → slice_index words (start z b + i) ≡ slice_index (fronts b) i
 
@@ -37,5 +37,5 @@ pub record IsSound {H : Type 0} (z : Sizes) (s : Pins H) : Type 0 where
   pub credited : weigh s.holds pin_of + length s.credits ≡ z.credits
 
 -- no holds, and all credits with one holder
-abbrev pub opened : {H : Type 0} → Sizes → H → Pins H
-opened z p = record { holds = []; words = replicate (word_count z) 0; credits = replicate z.credits p }
+abbrev pub opened_pins : {H : Type 0} → Sizes → H → Pins H
+opened_pins z p = record { holds = []; words = replicate (word_count z) 0; credits = replicate z.credits p }

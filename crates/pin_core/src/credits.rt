@@ -25,11 +25,11 @@ pub(crate) struct Credits {
 impl Model for Credits {
     ghost use Rattle.std.specs.Prelude.{List};
     ghost use Rattle.pin_core.specs.declared.holder.Holder.{Holder};
-    ghost use Rattle.pin_core.specs.Accounts.{credits_in, AreSingle};
+    ghost use Rattle.pin_core.specs.Accounts.{account_credits, AreSingle};
 
     ghost Value = { List Holder };
 
-    ghost view = { λ c. credits_in c.accounts.items };
+    ghost view = { λ c. account_credits c.accounts.items };
 
     ghost invariant = { λ c. AreSingle c.accounts.items };
 }

@@ -1,5 +1,5 @@
 ghost use Rattle.std.specs.Prelude.{◌≡◌, ◌≤◌, ◌<◌};
-ghost use Rattle.pin_core.specs.Buffers.{buffers, room, start, word_count, IsWithin};
+ghost use Rattle.pin_core.specs.Buffers.{buffers, buffer_words, start, word_count, IsWithin};
 
 /// How many buffers of each class a pool has, and how many credits there are in all.
 #[derive(Clone, Copy)]
@@ -12,7 +12,7 @@ pub struct Sizes {
 impl Sizes {
     /// How many data words the buffer has.
     pub fn room(&self, buffer: u32) -> u32
-        ensures { result ≡ room self.now buffer }
+        ensures { result ≡ buffer_words self.now buffer }
     {
         if buffer < self.small { 64 } else { 512 }
     }

@@ -41,13 +41,13 @@ pub struct PinState {
 }
 
 impl Model for PinState {
-    ghost use Rattle.pin_core.specs.State.{SizedPins, shown, IsKept};
+    ghost use Rattle.pin_core.specs.State.{SizedPins, pins_shown, IsPoolState};
 
     ghost Value = { SizedPins };
 
-    ghost view = { λ s. shown s.sizes s.holds.items s.words.items s.credits };
+    ghost view = { λ s. pins_shown s.sizes s.holds.items s.words.items s.credits };
 
-    ghost invariant = { λ s. IsKept s.sizes s.holds.items s.words.items s.credits };
+    ghost invariant = { λ s. IsPoolState s.sizes s.holds.items s.words.items s.credits };
 }
 
 fn find_hold(holds: &[Hold], holder: Holder, buffer: u32) -> Option<usize>

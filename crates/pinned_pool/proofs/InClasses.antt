@@ -1,5 +1,6 @@
 -- The buffers of a class, and the looks of a claim that found none of them free.
-use Rattle.std.proofs.Common.{◌≡◌, ◌≢◌, ℕ, ◌+◌, ◌<◌, ◌≤◌, ◌⊎◌, inl, inr, List, ◌++◌, cond, sym, refl, ap, ◌∙◌, lt_of_not-le, arith}
+use Rattle.std.proofs.Common.{◌≡◌, ◌≢◌, ℕ, ◌+◌, ◌<◌, ◌≤◌, ◌⊎◌, inl, inr, List, ◌++◌, cond, sym, refl, ap, ◌∙◌}
+use Rattle.std.proofs.Common.{lt_of_not-le, arith}
 use mathlib.Core.Logic.{dite}
 use native.Mathlib.Decide.{dec_le}
 use Rattle.std.proofs.lemmas.Bool.{lt-ltb, le-ltb}
@@ -10,7 +11,7 @@ use Rattle.pin_core.specs.declared.sizes.Sizes.{Sizes}
 use Rattle.pin_core.specs.declared.class.Class.{Class}
 use Rattle.pin_core.specs.declared.class.Class.TheVariants.{Small, Large}
 use Rattle.pinned_pool.specs.Views.{looked_at}
-use Rattle.pinned_pool.specs.Claims.{first_of, count_of, Passed}
+use Rattle.pinned_pool.specs.Claims.{class_start, count_of, Passed}
 use Rattle.pinned_pool.specs.Classes.{class_at, just, buffers_in}
 use Rattle.pinned_pool.specs.declared.view.View.{View}
 use Rattle.pinned_pool.proofs.AfterSteps.{looks-once}
@@ -22,11 +23,13 @@ large_at : (z : Sizes) (b : ℕ) → z.small ≤ b → class_at z b ≡ Large
 large_at z b more = ap (λ t. cond t Small Large) (le-ltb b z.small more)
 
 -- a buffer in the range of a class
-pub in_class : (z : Sizes) (class : Class) (b : ℕ) → first_of z class ≤ b → b < first_of z class + count_of z class → (b < buffers z) × (class_at z b ≡ class)
+pub in_class : (z : Sizes) (class : Class) (b : ℕ) → class_start z class ≤ b → b < class_start z class
+    + count_of z class → (b < buffers z) × (class_at z b ≡ class)
 in_class z Small b low high = (omega (arith, high), small_at z b (omega (arith, high)))
 in_class z Large b low high = (omega (arith, high), large_at z b low)
 
-pub in_range : (z : Sizes) (class : Class) (b : ℕ) → b < buffers z → class_at z b ≡ class → (first_of z class ≤ b) × (b < first_of z class + count_of z class)
+pub in_range : (z : Sizes) (class : Class) (b : ℕ) → b < buffers z → class_at z b ≡ class → (class_start z class ≤ b)
+    × (b < class_start z class + count_of z class)
 in_range z Small b near at = dite (dec_le z.small b)
     (λ more. let e = sym (large_at z b more) ∙ at in absurd (cc))
     (λ less. (omega arith, omega (arith, lt_of_not-le less)))
@@ -38,18 +41,22 @@ pub looked-append : (b : ℕ) (ls ms : List (ℕ × ℕ)) → looked_at b (ls ++
 looked-append b ls ms = total-append (λ (l : ℕ × ℕ). same l.0 b) ls ms
 
 -- looks that only grew
-pub looked-more : (b : ℕ) (u w : View) (more : List (ℕ × ℕ)) → w.looks ≡ u.looks ++ more → looked_at b u.looks ≤ looked_at b w.looks
+pub looked-more : (b : ℕ) (u w : View) (more : List (ℕ × ℕ)) → w.looks ≡ u.looks ++ more
+    → looked_at b u.looks ≤ looked_at b w.looks
 looked-more b u w more grew = omega (arith, ap (looked_at b) grew, looked-append b u.looks more)
 
 -- each buffer of the class was looked at once more
-pub found_each : (z : Sizes) (class : Class) (v w : View) → Passed (first_of z class) (count_of z class) v w → (b : ℕ) → b < buffers z → class_at z b ≡ class → looked_at b v.looks < looked_at b w.looks
+pub found_each : (z : Sizes) (class : Class) (v w : View) → Passed (class_start z class) (count_of z class) v w
+    → (b : ℕ) → b < buffers z → class_at z b ≡ class → looked_at b v.looks < looked_at b w.looks
 found_each z class v w passed b near at =
     let range = in_range z class b near at in
-    let once = looks-once (first_of z class) b passed.looks passed.from range.0 (omega (arith, range.1, passed.count)) in
+    let once = looks-once (class_start z class) b passed.looks passed.from range.0
+    (omega (arith, range.1, passed.count)) in
     omega (arith, once, ap (looked_at b) (ap (λ (x : View). x.looks) passed.seat), looked-append b v.looks passed.looks)
 
 -- how many are of a class
-pub buffers-append : (z : Sizes) (class : Class) (xs ys : List ℕ) → buffers_in z class (xs ++ ys) ≡ buffers_in z class xs + buffers_in z class ys
+pub buffers-append : (z : Sizes) (class : Class) (xs ys : List ℕ) → buffers_in z class (xs ++ ys)
+    ≡ buffers_in z class xs + buffers_in z class ys
 buffers-append z class xs ys = total-append (λ (b : ℕ). just (class_at z b) 1 class) xs ys
 
 pub decide : (c d : Class) → (d ≡ c) ⊎ (d ≢ c)
@@ -90,4 +97,17 @@ pub just-both : (c : Class) (n : ℕ) → just c n Small + just c n Large ≡ n
 just-both Small n = omega arith
 just-both Large n = omega arith
 
-pub ruleset classes = (in_class, in_range, looked-append, looked-more, found_each, buffers-append, just-here, just-else, just-add, just-most, just-less, just-both)
+pub ruleset classes = (
+  in_class,
+  in_range,
+  looked-append,
+  looked-more,
+  found_each,
+  buffers-append,
+  just-here,
+  just-else,
+  just-add,
+  just-most,
+  just-less,
+  just-both,
+)

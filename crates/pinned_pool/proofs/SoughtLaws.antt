@@ -6,16 +6,18 @@ use Rattle.pin_core.specs.Holding.{Key}
 use Rattle.pin_core.specs.declared.sizes.Sizes.{Sizes}
 use Rattle.pin_core.specs.declared.class.Class.{Class}
 use Rattle.pinned_pool.specs.Views.{looked_at}
-use Rattle.pinned_pool.specs.Claims.{first_of, count_of, Passed, Wins}
+use Rattle.pinned_pool.specs.Claims.{class_start, count_of, Passed, Wins}
 use Rattle.pinned_pool.specs.Classes.{class_at, just, buffers_in}
 use Rattle.pinned_pool.specs.Sought.{Sought, missing}
 use Rattle.pinned_pool.specs.declared.pool.NoBuffer.{NoBuffer}
 use Rattle.pinned_pool.specs.declared.view.View.{View}
 use Rattle.pinned_pool.proofs.Still.{won-class, won-claims, won-looks}
-use Rattle.pinned_pool.proofs.InClasses.{in_class, found_each, looked-more, buffers-append, decide, just-else, just-both, just-most, just-add, just-less}
+use Rattle.pinned_pool.proofs.InClasses.{in_class, found_each, looked-more, buffers-append, decide, just-else}
+use Rattle.pinned_pool.proofs.InClasses.{just-both, just-most, just-add, just-less}
 
 -- one stretch after another
-pub sought_then : (z : Sizes) (rows more : Class → ℕ) (n m : ℕ) (u v w : View) → Sought z rows n u v → Sought z more m v w → Sought z (λ class. rows class + more class) (n + m) u w
+pub sought_then : (z : Sizes) (rows more : Class → ℕ) (n m : ℕ) (u v w : View) → Sought z rows n u v
+    → Sought z more m v w → Sought z (λ class. rows class + more class) (n + m) u w
 sought_then z rows more n m u v w one two = record {
   missed = λ class. one.missed class + two.missed class;
   missed_are = omega (arith, one.missed_are, two.missed_are);
@@ -24,7 +26,8 @@ sought_then z rows more n m u v w one two = record {
 }
 
 -- within greater rows
-pub sought_within : (z : Sizes) (rows more : Class → ℕ) (n : ℕ) (u v : View) → Sought z rows n u v → ((class : Class) → rows class ≤ more class) → Sought z more n u v
+pub sought_within : (z : Sizes) (rows more : Class → ℕ) (n : ℕ) (u v : View) → Sought z rows n u v
+    → ((class : Class) → rows class ≤ more class) → Sought z more n u v
 sought_within z rows more n u v one within = record {
   missed = one.missed;
   missed_are = one.missed_are;
@@ -42,7 +45,8 @@ sought_nothing z u v claims looks = record {
 }
 
 -- and one whose claims and looks stayed after a stretch
-pub sought_still : (z : Sizes) (rows : Class → ℕ) (n : ℕ) (u v w : View) → Sought z rows n u v → w.claims ≡ v.claims → w.looks ≡ v.looks → Sought z rows n u w
+pub sought_still : (z : Sizes) (rows : Class → ℕ) (n : ℕ) (u v w : View) → Sought z rows n u v → w.claims ≡ v.claims
+    → w.looks ≡ v.looks → Sought z rows n u w
 sought_still z rows n u v w one claims looks = record {
   missed = one.missed;
   missed_are = one.missed_are;
@@ -64,10 +68,17 @@ sought_won z class k v w won = record {
         let range = won-class z class k v w won in
         let is : class_at z k.buffer ≡ class = (in_class z class k.buffer range.0 range.1).1 in
         let here : just (class_at z k.buffer) 1 other ≡ just class 1 other = ap (λ c. just c 1 other) is in
-        omega (arith, here, ap (buffers_in z other) (won-claims z class k v w won), buffers-append z other v.claims (k.buffer ∷ []))
+        omega (
+          arith,
+          here,
+          ap (buffers_in z other) (won-claims z class k v w won),
+          buffers-append z other v.claims
+              (k.buffer ∷ []),
+        )
 
 -- and one that found all buffers of its class held
-pub sought_lost : (z : Sizes) (class : Class) (v w : View) → Passed (first_of z class) (count_of z class) v w → Sought z (just class 1) 1 v w
+pub sought_lost : (z : Sizes) (class : Class) (v w : View) → Passed (class_start z class) (count_of z class) v w
+    → Sought z (just class 1) 1 v w
 sought_lost z class v w passed = record {
   missed = just class 1;
   missed_are = just-both class 1;
@@ -75,27 +86,51 @@ sought_lost z class v w passed = record {
   looks = λ b near. at_class b near (class_at z b) refl;
 }
   where
-    at_class : (b : ℕ) → b < buffers z → (here : Class) → class_at z b ≡ here → looked_at b v.looks + just class 1 here ≤ looked_at b w.looks
+    at_class : (b : ℕ) → b < buffers z → (here : Class) → class_at z b ≡ here → looked_at b v.looks + just class 1 here
+        ≤ looked_at b w.looks
     at_class b near here is =
         ⊎_elim
         (λ same. omega (arith, just-most class here 1, found_each z class v w passed b near (is ∙ same)))
-        (λ away. omega (arith, just-else class here 1 away, looked-more b v w passed.looks (ap (λ (x : View). x.looks) passed.seat)))
+        (λ away. omega (
+          arith,
+          just-else class here 1 away,
+          looked-more b v w passed.looks
+              (ap (λ (x : View). x.looks) passed.seat),
+        ))
         (decide class here)
 
 -- one claim, however it ended
-pub sought_claim : (z : Sizes) (class : Class) (said : Result Key NoBuffer) (v w : View) → IfOk said (λ k. Wins z class k v w)
-    → IfErr said (λ e. (e.class ≡ class) × (e.looked ≡ count_of z class) × Passed (first_of z class) e.looked v w) → Sought z (just class 1) (missing said) v w
+pub sought_claim : (z : Sizes) (class : Class) (said : Result Key NoBuffer) (v w : View)
+    → IfOk said (λ k. Wins z class k v w)
+    → IfErr said (λ e. (e.class ≡ class) × (e.looked ≡ count_of z class) × Passed (class_start z class) e.looked v w)
+    → Sought z (just class 1) (missing said) v w
 sought_claim z class (Ok k) v w won none = sought_won z class k v w won
-sought_claim z class (Err e) v w won none = sought_lost z class v w (subst (λ n. Passed (first_of z class) n v w) none.1 none.2)
+sought_claim z class (Err e) v w won none = sought_lost z class v w
+    (subst (λ n. Passed (class_start z class) n v w) none.1 none.2)
 
 -- some claims of a class, and one more
-pub sought_more : (z : Sizes) (class : Class) (n m : ℕ) (u v w : View) → Sought z (just class n) 0 u v → Sought z (just class 1) m v w → Sought z (just class (n + 1)) m u w
+pub sought_more : (z : Sizes) (class : Class) (n m : ℕ) (u v w : View) → Sought z (just class n) 0 u v
+    → Sought z (just class 1) m v w → Sought z (just class (n + 1)) m u w
 sought_more z class n m u v w one two =
-    sought_within z (λ c. just class n c + just class 1 c) (just class (n + 1)) m u w (subst (λ k. Sought z (λ c. just class n c + just class 1 c) k u w) (let none : 0 + m ≡ m = omega arith in none) (sought_then z (just class n) (just class 1) 0 m u v w one two))
+    sought_within z (λ c. just class n c + just class 1 c) (just class (n + 1)) m u w
+    (subst (λ k. Sought z (λ c. just class n c + just class 1 c) k u w) (let none : 0 + m ≡ m = omega arith in none)
+    (sought_then z (just class n) (just class 1) 0 m u v w one two))
     (λ c. omega (arith, just-add class c n 1))
 
 -- and fewer than there might be
-pub sought_fewer : (z : Sizes) (class : Class) (n most m : ℕ) (u w : View) → n ≤ most → Sought z (just class n) m u w → Sought z (just class most) m u w
-sought_fewer z class n most m u w few one = sought_within z (just class n) (just class most) m u w one (λ c. just-less class c n most few)
+pub sought_fewer : (z : Sizes) (class : Class) (n most m : ℕ) (u w : View) → n ≤ most → Sought z (just class n) m u w
+    → Sought z (just class most) m u w
+sought_fewer z class n most m u w few one = sought_within z (just class n) (just class most) m u w one
+    (λ c. just-less class c n most few)
 
-pub ruleset sought_laws = (sought_then, sought_within, sought_nothing, sought_still, sought_won, sought_lost, sought_claim, sought_more, sought_fewer)
+pub ruleset sought_laws = (
+  sought_then,
+  sought_within,
+  sought_nothing,
+  sought_still,
+  sought_won,
+  sought_lost,
+  sought_claim,
+  sought_more,
+  sought_fewer,
+)

@@ -6,12 +6,12 @@ use Rattle.pin_core.specs.Holding.{Key}
 use Rattle.pin_core.specs.declared.sizes.Sizes.{Sizes}
 use Rattle.pinned_pool.specs.Views.{nobody, among, looked_at}
 use Rattle.pinned_pool.specs.Moves as to
-use Rattle.pinned_pool.specs.StepKinds.{Kind, wins, misses, peeks, puts, loads, pins, unpins, splits, joins}
-use Rattle.pinned_pool.specs.Runs.{Table, opened_table, Steps, Runs, win_of, miss_of, return_of, RunsAreTold}
+use Rattle.pinned_pool.specs.StepKinds.{PoolStep, wins, misses, peeks, puts, loads, pins, unpins, splits, joins}
+use Rattle.pinned_pool.specs.Runs.{Table, opened_table, Steps, RunsPool, win_of, miss_of, return_of, ViewsCountRuns}
 use Rattle.pinned_pool.specs.declared.view.View.{View}
 
 -- a weight of views that each step makes greater by as much as its kind weighs
-record Weighs (f : View → ℕ) (of : Kind → ℕ) : Type 0 where
+record Weighs (f : View → ℕ) (of : PoolStep → ℕ) : Type 0 where
   at_win : (b : ℕ) (v : View) → f (to.won b v) ≡ f v + of (wins b)
   at_miss : (b n : ℕ) (v : View) → f (to.lost b n v) ≡ f v + of (misses b)
   at_peek : (b : ℕ) → of (peeks b) ≡ 0
@@ -19,38 +19,73 @@ record Weighs (f : View → ℕ) (of : Kind → ℕ) : Type 0 where
   at_load : (b i : ℕ) → of (loads b i) ≡ 0
   at_pin : (b : ℕ) (v : View) → f (to.pin b v) ≡ f v + of (pins b)
   at_unpin : (last : Bool) (k : Key) (v : View) → f (to.unpin last k v) ≡ f v + of (unpins k)
-  at_split : (ks : List Key) (n : ℕ) (v : View) → f (to.split_old ks n v) + f (to.split_new ks n v) ≡ f v + of (splits ks n)
-  at_join : (other : ℕ) (v w : View) → f (to.joined v w) ≡ f v + f w + of (joins other w)
+  at_split : (ks : List Key) (n : ℕ) (v : View) → f (to.split_old ks n v) + f (to.split_new ks n v)
+      ≡ f v + of (splits ks n)
+  at_join : (other : ℕ) (v w : View) → f (to.joined_views v w) ≡ f v + f w + of (joins other w)
   none : f nobody ≡ 0
 
-module _ (f : View → ℕ) (of : Kind → ℕ) (weighs : Weighs f of) (z : Sizes) where
-  one_step : (kind : Kind) (old new : Table) → Steps z kind old new → total f new.views ≡ total f old.views + of kind
+module _ (f : View → ℕ) (of : PoolStep → ℕ) (weighs : Weighs f of) (z : Sizes) where
+  one_step : (kind : PoolStep) (old new : Table) → Steps z kind old new → total f new.views ≡ total f old.views
+      + of kind
   one_step (wins b) old new s =
-      omega (arith, ap (total f) s.makes.views, total-set f old.views s.seat s.view (to.won b s.view) s.sits, weighs.at_win b s.view)
+      omega (
+        arith,
+        ap (total f) s.makes.views,
+        total-set f old.views s.seat s.view (to.won b s.view) s.sits,
+        weighs.at_win b s.view,
+      )
   one_step (misses b) old new s =
       let n = get_or old.words b 0 in
-      omega (arith, ap (total f) s.makes.views, total-set f old.views s.seat s.view (to.lost b n s.view) s.sits, weighs.at_miss b n s.view)
+      omega (
+        arith,
+        ap (total f) s.makes.views,
+        total-set f old.views s.seat s.view (to.lost b n s.view) s.sits,
+        weighs.at_miss b n s.view,
+      )
   one_step (peeks b) old new s = omega (arith, ap (total f) s.makes.views, weighs.at_peek b)
   one_step (puts b i x) old new s =
-      omega (arith, ap (total f) s.makes.views, total-set f old.views s.seat s.view (to.put b i x s.view) s.sits, weighs.at_put b i x s.view)
+      omega (
+        arith,
+        ap (total f) s.makes.views,
+        total-set f old.views s.seat s.view (to.put b i x s.view) s.sits,
+        weighs.at_put b i x s.view,
+      )
   one_step (loads b i) old new s = omega (arith, ap (total f) s.makes.views, weighs.at_load b i)
   one_step (pins b) old new s =
-      omega (arith, ap (total f) s.makes.views, total-set f old.views s.seat s.view (to.pin b s.view) s.sits, weighs.at_pin b s.view)
+      omega (
+        arith,
+        ap (total f) s.makes.views,
+        total-set f old.views s.seat s.view (to.pin b s.view) s.sits,
+        weighs.at_pin b s.view,
+      )
   one_step (unpins k) old new s =
       let last = eqb (get_or old.words k.buffer 0) 1 in
-      omega (arith, ap (total f) s.makes.views, total-set f old.views s.seat s.view (to.unpin last k s.view) s.sits, weighs.at_unpin last k s.view)
+      omega (
+        arith,
+        ap (total f) s.makes.views,
+        total-set f old.views s.seat s.view (to.unpin last k s.view) s.sits,
+        weighs.at_unpin last k s.view,
+      )
   one_step (splits ks n) old new s =
-      omega (arith, ap (total f) s.makes.views, total-set_push f old.views s.seat s.view (to.split_old ks n s.view) (to.split_new ks n s.view) s.sits, weighs.at_split ks n s.view)
+      omega (
+        arith,
+        ap (total f) s.makes.views,
+        total-set_push f old.views s.seat s.view (to.split_old ks n s.view)
+            (to.split_new ks n s.view) s.sits,
+        weighs.at_split ks n s.view,
+      )
   one_step (joins other w) old new s =
       omega (
         arith,
         ap (total f) s.makes.views,
-        total-two_set f old.views s.seat other s.view w (to.joined s.view w) nobody s.makes.apart s.sits s.makes.sits,
+        total-two_set f old.views s.seat other s.view w (to.joined_views s.view w) nobody s.makes.apart s.sits
+            s.makes.sits,
         weighs.at_join other s.view w,
         weighs.none,
       )
 
-  all_steps : (kinds : List Kind) (old new : Table) → Runs z old kinds new → total f new.views ≡ total f old.views + total of kinds
+  all_steps : (kinds : List PoolStep) (old new : Table) → RunsPool z old kinds new → total f new.views
+      ≡ total f old.views + total of kinds
   all_steps [] old new same_table = omega (arith, ap (λ (t : Table). total f t.views) same_table)
   all_steps (kind ∷ kinds) old new run = omega (arith, one_step kind old run.0 run.1, all_steps kinds run.0 new run.2)
 
@@ -96,9 +131,17 @@ returns_weigh = record {
   none = refl;
 }
 
-pub runs_are_told : RunsAreTold
+pub runs_are_told : ViewsCountRuns
 runs_are_told z kinds end run = record {
-  claims = λ b. omega (arith, all_steps (λ v. among b v.claims) (win_of b) (claims_weigh b) z kinds (opened_table z) end run);
-  looks = λ b. omega (arith, all_steps (λ v. looked_at b v.looks) (miss_of b) (looks_weigh b) z kinds (opened_table z) end run);
+  claims = λ b. omega (
+    arith,
+    all_steps (λ v. among b v.claims) (win_of b) (claims_weigh b) z kinds
+        (opened_table z) end run,
+  );
+  looks = λ b. omega (
+    arith,
+    all_steps (λ v. looked_at b v.looks) (miss_of b) (looks_weigh b) z kinds
+        (opened_table z) end run,
+  );
   returns = omega (arith, all_steps (λ v. v.returns) return_of returns_weigh z kinds (opened_table z) end run);
 }

@@ -8,11 +8,11 @@ use Rattle.pinned_pool.specs.Named.{IsPoolOf}
 use Rattle.pinned_pool.specs.declared.view.View.{View}
 
 -- what contracts see of it
-pub record Blank : Type 0 where
+pub record BlankPool : Type 0 where
   pub table : TableId
   pub sizes : Sizes
 
-pub record IsBlank (table : TableId) (sizes : Sizes) (small large : ℕ) (seat : Seat (Unit {0}) View) : Type 0 where
+pub record IsBlankPool (table : TableId) (sizes : Sizes) (small large : ℕ) (seat : Seat (Unit {0}) View) : Type 0 where
   pub pool : IsPoolOf table sizes table sizes
   pub counts : (small ≡ sizes.small) × (large ≡ sizes.large) × (small + large < 2 ^ 32)
   pub rich : 0 < sizes.credits

@@ -10,9 +10,9 @@ use Rattle.pinned_pool.specs.Moves.{won}
 use Rattle.pinned_pool.specs.declared.view.View.{View}
 
 -- the buffers of a class: the first one, and how many
-abbrev pub first_of : Sizes → Class → ℕ
-first_of z Small = 0
-first_of z Large = z.small
+abbrev pub class_start : Sizes → Class → ℕ
+class_start z Small = 0
+class_start z Large = z.small
 
 abbrev pub count_of : Sizes → Class → ℕ
 count_of z Small = z.small
@@ -37,9 +37,9 @@ pub record Passed (b n : ℕ) (old new : View) : Type 0 where
 -- some buffers of the class were found held, and then this one was won
 pub record Wins (z : Sizes) (class : Class) (k : Key) (old new : View) : Type 0 where
   pub looks : List (ℕ × ℕ)
-  pub from : LooksFrom (first_of z class) looks
+  pub from : LooksFrom (class_start z class) looks
   pub within : length looks < count_of z class
-  pub key : k ≡ record { buffer = first_of z class + length looks; pinned = false }
+  pub key : k ≡ record { buffer = class_start z class + length looks; pinned = false }
   pub seat : new ≡ won k.buffer (looking looks old)
   -- no other hold of the seat names the buffer
   pub alone : total (at k.buffer) old.holds ≡ 0

@@ -13,8 +13,8 @@ pub record End : Type 0 where
   pub small : ℕ
   pub large : ℕ
 
-abbrev pub end_of : Sizes → View → End
-end_of z v = record {
+abbrev pub pool_end : Sizes → View → End
+pool_end z v = record {
   seat = v;
   small = held_in (λ weight. total weight v.holds) 0 z.small;
   large = held_in

@@ -22,38 +22,38 @@ means k h = if h.buffer == k.buffer then (if k.pinned then h.pinned else not h.p
 abbrev pub same_key : Key → Key → Bool
 same_key k j = if j.buffer == k.buffer then (if k.pinned then j.pinned else not j.pinned) else false
 
-abbrev pub key_of : Holding → Key
-key_of h = record { buffer = h.buffer; pinned = h.pinned }
+abbrev pub hold_key : Holding → Key
+hold_key h = record { buffer = h.buffer; pinned = h.pinned }
 
 -- the first hold that is meant, if there is one
-abbrev pub first : Key → List Holding → List Holding
-first k [] = []
-first k (h ∷ hs) = if means k h then h ∷ [] else first k hs
+abbrev pub first_hold : Key → List Holding → List Holding
+first_hold k [] = []
+first_hold k (h ∷ hs) = if means k h then h ∷ [] else first_hold k hs
 
 abbrev pub without : Key → List Holding → List Holding
 without k [] = []
 without k (h ∷ hs) = if means k h then hs else h ∷ without k hs
 
 -- a hold for each key, each once, and the other holds
-abbrev pub taken_by : List Key → List Holding → List Holding
-taken_by [] hs = []
-taken_by (k ∷ ks) hs = first k hs ++ taken_by ks (without k hs)
+abbrev pub holds_for : List Key → List Holding → List Holding
+holds_for [] hs = []
+holds_for (k ∷ ks) hs = first_hold k hs ++ holds_for ks (without k hs)
 
-abbrev pub left_by : List Key → List Holding → List Holding
-left_by [] hs = hs
-left_by (k ∷ ks) hs = left_by ks (without k hs)
+abbrev pub without_keys : List Key → List Holding → List Holding
+without_keys [] hs = hs
+without_keys (k ∷ ks) hs = without_keys ks (without k hs)
 
 -- how many holds are meant
-abbrev pub times : Key → List Holding → ℕ
-times k hs = total (λ h. if means k h then 1 else 0) hs
+abbrev pub meant_count : Key → List Holding → ℕ
+meant_count k hs = total (λ h. if means k h then 1 else 0) hs
 
 -- how often a key is asked for
-abbrev pub asked : Key → List Key → ℕ
-asked k ks = total (λ j. if same_key k j then 1 else 0) ks
+abbrev pub times_asked : Key → List Key → ℕ
+times_asked k ks = total (λ j. if same_key k j then 1 else 0) ks
 
 -- there is a hold for each key, with repeats
 abbrev pub HasHolds : List Key → List Holding → Type 0
-HasHolds ks hs = (k : Key) → asked k ks ≤ times k hs
+HasHolds ks hs = (k : Key) → times_asked k ks ≤ meant_count k hs
 
 abbrev pub share : ℕ → Holding → Holding
 share b h = if h.buffer == b then shared h else h
@@ -89,13 +89,13 @@ unpin last k v =
     (v.returns + (if k.pinned then 1 else 0)) (if last then v.lasts ++ k.buffer ∷ [] else v.lasts)
 
 abbrev pub split_old : List Key → ℕ → View → View
-split_old ks credits v = view (left_by ks v.holds) (v.credits - credits) v.claims v.looks v.returns v.lasts
+split_old ks credits v = view (without_keys ks v.holds) (v.credits - credits) v.claims v.looks v.returns v.lasts
 
 abbrev pub split_new : List Key → ℕ → View → View
-split_new ks credits v = view (taken_by ks v.holds) credits [] [] 0 []
+split_new ks credits v = view (holds_for ks v.holds) credits [] [] 0 []
 
-abbrev pub joined : View → View → View
-joined v w =
+abbrev pub joined_views : View → View → View
+joined_views v w =
     view (v.holds ++ w.holds) (v.credits + w.credits) (v.claims ++ w.claims) (v.looks ++ w.looks)
     (v.returns + w.returns) (v.lasts ++ w.lasts)
 
@@ -109,7 +109,7 @@ taking h v = view (v.holds ++ h ∷ []) (v.credits - 1) v.claims v.looks v.retur
 
 -- the holds that these keys mean went to another seat
 abbrev pub losing : List Key → View → View
-losing ks v = view (left_by ks v.holds) v.credits v.claims v.looks v.returns v.lasts
+losing ks v = view (without_keys ks v.holds) v.credits v.claims v.looks v.returns v.lasts
 
 -- and these came from another one
 abbrev pub gaining : List Holding → View → View

@@ -3,7 +3,7 @@ use Rattle.std.specs.Prelude.{◌≡◌, ◌<◌, ◌≤◌, [], length, Bool, t
 use Rattle.atomic_table.specs.Seated.{TableId}
 use Rattle.atomic_table.specs.Table.{Me}
 use Rattle.view_sums.specs.Total.{Each}
-use Rattle.pin_core.specs.Buffers.{buffers, room}
+use Rattle.pin_core.specs.Buffers.{buffers, buffer_words}
 use Rattle.pin_core.specs.Holding.{Holding}
 use Rattle.pin_core.specs.declared.sizes.Sizes.{Sizes}
 use Rattle.pinned_pool.specs.Views.{IsLoose, OneFront}
@@ -13,15 +13,15 @@ use Rattle.pinned_pool.specs.declared.unpinned.Unpinned.TheVariants.{Last, NotLa
 use Rattle.pinned_pool.specs.declared.view.View.{View}
 
 -- the name of no pool
-abbrev pub unnamed_table : TableId
-unnamed_table = record { block = 0; offset = 0; words = 0; slots = 0; atom = 0; views_name = 0; slot_names = [] }
+abbrev pub unnamed_pool : TableId
+unnamed_pool = record { block = 0; offset = 0; words = 0; slots = 0; atom = 0; views_name = 0; slot_names = [] }
 
-abbrev pub no_sizes : Sizes
-no_sizes = record { small = 0; large = 0; credits = 0 }
+abbrev pub no_pool_sizes : Sizes
+no_pool_sizes = record { small = 0; large = 0; credits = 0 }
 
 -- the hold is of a buffer of the pool, and its front fits
 abbrev pub IsNearby : Sizes → Holding → Type 0
-IsNearby z h = (h.buffer < buffers z) × (length h.front ≤ room z h.buffer)
+IsNearby z h = (h.buffer < buffers z) × (length h.front ≤ buffer_words z h.buffer)
 
 -- what is true of every seat
 pub record IsSeat (z : Sizes) (v : View) : Type 0 where

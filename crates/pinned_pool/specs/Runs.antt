@@ -6,7 +6,7 @@ use Rattle.view_sums.specs.Total.{total, same}
 use Rattle.pin_core.specs.declared.sizes.Sizes.{Sizes}
 use Rattle.pinned_pool.specs.Views.{opener, all_claims, all_looks}
 use Rattle.pinned_pool.specs.Rule.{table_words, IsSoundTable}
-use Rattle.pinned_pool.specs.StepKinds.{Kind, wins, misses, peeks, puts, loads, pins, unpins, splits, joins, Makes}
+use Rattle.pinned_pool.specs.StepKinds.{PoolStep, wins, misses, peeks, puts, loads, pins, unpins, splits, joins, Makes}
 use Rattle.pinned_pool.specs.declared.view.View.{View}
 
 -- the words, and the views of all seats
@@ -18,7 +18,7 @@ abbrev pub opened_table : Sizes → Table
 opened_table z = record { words = replicate (table_words z) 0; views = opener z.credits ∷ [] }
 
 -- a live seat makes a step
-pub record Steps (z : Sizes) (kind : Kind) (old new : Table) : Type 0 where
+pub record Steps (z : Sizes) (kind : PoolStep) (old new : Table) : Type 0 where
   pub seat : ℕ
   pub view : View
   pub sits : get_elem? old.views seat ≡ some view
@@ -26,17 +26,17 @@ pub record Steps (z : Sizes) (kind : Kind) (old new : Table) : Type 0 where
   pub makes : Makes z old.words old.views seat view kind new.words new.views
 
 -- the steps in turn
-abbrev pub Runs : Sizes → Table → List Kind → Table → Type 0
-Runs z old [] new = new ≡ old
-Runs z old (kind ∷ kinds) new = (mid : Table) × Steps z kind old mid × Runs z mid kinds new
+abbrev pub RunsPool : Sizes → Table → List PoolStep → Table → Type 0
+RunsPool z old [] new = new ≡ old
+RunsPool z old (kind ∷ kinds) new = (mid : Table) × Steps z kind old mid × RunsPool z mid kinds new
 
 abbrev pub RunsStaySound : Type 0
 RunsStaySound =
-    (z : Sizes) (kinds : List Kind) (end : Table) → 0 < z.credits → z.credits ≤ 2 ^ 31
-    → Runs z (opened_table z) kinds end → IsSoundTable z end.words end.views
+    (z : Sizes) (kinds : List PoolStep) (end : Table) → 0 < z.credits → z.credits ≤ 2 ^ 31
+    → RunsPool z (opened_table z) kinds end → IsSoundTable z end.words end.views
 
 -- 1 for a claim of the buffer that won, for one that was lost, and for the unpin of a pinned hold
-abbrev pub win_of : ℕ → Kind → ℕ
+abbrev pub win_of : ℕ → PoolStep → ℕ
 win_of b (wins c) = same c b
 win_of b (misses c) = 0
 win_of b (peeks c) = 0
@@ -47,7 +47,7 @@ win_of b (unpins k) = 0
 win_of b (splits ks n) = 0
 win_of b (joins other w) = 0
 
-abbrev pub miss_of : ℕ → Kind → ℕ
+abbrev pub miss_of : ℕ → PoolStep → ℕ
 miss_of b (wins c) = 0
 miss_of b (misses c) = same c b
 miss_of b (peeks c) = 0
@@ -58,7 +58,7 @@ miss_of b (unpins k) = 0
 miss_of b (splits ks n) = 0
 miss_of b (joins other w) = 0
 
-abbrev pub return_of : Kind → ℕ
+abbrev pub return_of : PoolStep → ℕ
 return_of (wins c) = 0
 return_of (misses c) = 0
 return_of (peeks c) = 0
@@ -70,11 +70,12 @@ return_of (splits ks n) = 0
 return_of (joins other w) = 0
 
 -- what all seats together tell of these steps
-pub record AreTold (kinds : List Kind) (end : Table) : Type 0 where
+pub record ViewsCount (kinds : List PoolStep) (end : Table) : Type 0 where
   pub claims : (b : ℕ) → all_claims b end.views ≡ total (win_of b) kinds
   pub looks : (b : ℕ) → all_looks b end.views ≡ total (miss_of b) kinds
   pub returns : total (λ (v : View). v.returns) end.views ≡ total return_of kinds
 
 -- claims, looks and returns are how many claims won, claims lost and unpins of pinned holds there were
-abbrev pub RunsAreTold : Type 0
-RunsAreTold = (z : Sizes) (kinds : List Kind) (end : Table) → Runs z (opened_table z) kinds end → AreTold kinds end
+abbrev pub ViewsCountRuns : Type 0
+ViewsCountRuns = (z : Sizes) (kinds : List PoolStep) (end : Table) → RunsPool z (opened_table z) kinds end
+    → ViewsCount kinds end

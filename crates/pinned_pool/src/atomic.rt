@@ -12,10 +12,10 @@ ghost use Rattle.std.specs.Prelude.{
   slice_index,
 };
 ghost use Rattle.view_sums.specs.Total.{total};
-ghost use Rattle.pin_core.specs.Buffers.{buffers, room};
+ghost use Rattle.pin_core.specs.Buffers.{buffers, buffer_words};
 ghost use Rattle.pin_core.specs.Holding.{at, sole_at};
 ghost use Rattle.pinned_pool.specs.Moves.{
-  times,
+  meant_count,
   front_of,
   won,
   lost,
@@ -24,7 +24,7 @@ ghost use Rattle.pinned_pool.specs.Moves.{
   unpin,
   split_old,
   split_new,
-  joined,
+  joined_views,
 };
 ghost use Rattle.pinned_pool.specs.Rule.{word_at};
 ghost use Rattle.pinned_pool.specs.Views.{IsLoose, OneFront};
@@ -67,7 +67,7 @@ impl<N: PoolName> Pool<N> {
 
     // A fetch-and-add on the count word, under the owner's hold, for one of the owner's credits.
     pub(crate) fn add_pin(&self, owner: &mut PoolSeat<N>, hold: &Hold<N>) -> Hold<N>
-        requires { (0 < times hold.now owner.old.holds) × (1 < owner.old.credits) }
+        requires { (0 < meant_count hold.now owner.old.holds) × (1 < owner.old.credits) }
         ensures owner { owner.new ≡ pin hold.now.buffer owner.old }
         ensures new { result ≡ record { buffer = hold.now.buffer; pinned = true } }
     {
@@ -84,7 +84,7 @@ impl<N: PoolName> Pool<N> {
     // A fetch-and-subtract on the count word. The answer is what it met.
     pub(crate) fn unpin_as<K: Meant>(&self, seat: &mut PoolSeat<N>, hold: Hold<N>) -> u64
         requires meant { K.key ≡ hold }
-        requires held { 0 < times hold seat.old.holds }
+        requires held { 0 < meant_count hold seat.old.holds }
         ensures seat { seat.new ≡ unpin (result == 1) hold seat.old }
         ensures last { result ≡ 1 → total (at hold.buffer) seat.new.holds ≡ 0 }
     {
@@ -105,7 +105,7 @@ impl<N: PoolName> Pool<N> {
         requires place { (W.buffer ≡ buffer) × (W.index ≡ index) }
         requires first { (buffer < buffers N.sizes) × (first ≡ word_at N.sizes buffer 0) }
         requires exclusive { 0 < total (sole_at buffer) seat.old.holds }
-        requires index { (index ≤ length (front_of buffer seat.old.holds)) × (index < room N.sizes buffer) }
+        requires index { (index ≤ length (front_of buffer seat.old.holds)) × (index < buffer_words N.sizes buffer) }
         ensures { seat.new ≡ put buffer index word seat.old }
     {
         let _ = buffer;
@@ -155,7 +155,7 @@ impl<N: PoolName> Pool<N> {
 
     // The seat that is left learns by a load what the rule says of the holds that it has then.
     pub(crate) fn glue(&self, into: &mut PoolSeat<N>, from: PoolSeat<N>)
-        ensures joined { into.new ≡ joined into.old from }
+        ensures joined { into.new ≡ joined_views into.old from }
         ensures loose { IsLoose into.new }
         ensures fronts { OneFront into.new }
     {

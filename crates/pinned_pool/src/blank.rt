@@ -24,13 +24,13 @@ pub struct PoolBlank {
 }
 
 impl Model for PoolBlank {
-    ghost use Rattle.pinned_pool.specs.Blanks.{Blank, IsBlank};
+    ghost use Rattle.pinned_pool.specs.Blanks.{BlankPool, IsBlankPool};
 
-    ghost Value = { Blank };
+    ghost Value = { BlankPool };
 
     ghost view = { λ b. record { table = b.table.shared.table_id; sizes = b.table.shared.key } };
 
-    ghost invariant = { λ b. IsBlank b.table.shared.table_id b.table.shared.key b.small b.large b.seat };
+    ghost invariant = { λ b. IsBlankPool b.table.shared.table_id b.table.shared.key b.small b.large b.seat };
 }
 
 impl PoolBlank {

@@ -2,9 +2,9 @@
 ghost use Rattle.std.specs.Prelude.{◌≡◌, ◌+◌, ◌*◌, ◌%◌, ◌<◌, ◌≤◌, length, take, drop};
 ghost use Rattle.std.specs.Int.{w64, to_le_bytes};
 ghost use Rattle.view_sums.specs.Total.{total};
-ghost use Rattle.pin_core.specs.Buffers.{buffers, room};
+ghost use Rattle.pin_core.specs.Buffers.{buffers, buffer_words};
 ghost use Rattle.pin_core.specs.Holding.{at, sole_at};
-ghost use Rattle.pinned_pool.specs.Bytes.{bytes_of, PutsBytes};
+ghost use Rattle.pinned_pool.specs.Bytes.{bytes_of_words, PutsBytes};
 ghost use Rattle.pinned_pool.specs.Rule.{word_at};
 ghost use Rattle.pinned_pool.specs.Moves.{front_of};
 
@@ -37,7 +37,7 @@ impl<N: PoolName> Pool<N> {
         requires whole { length bytes.now % 8 ≡ 0 }
         requires exclusive { 0 < total (sole_at hold.now.buffer) seat.old.holds }
         requires index { (index ≤ length (front_of hold.now.buffer seat.old.holds))
-            × (8 * index + length bytes.now ≤ 8 * room N.sizes hold.now.buffer) }
+            × (8 * index + length bytes.now ≤ 8 * buffer_words N.sizes hold.now.buffer) }
         ensures { PutsBytes hold.now.buffer index bytes.now seat.old seat.new }
     {
         let buffer = hold.buffer();
@@ -49,12 +49,12 @@ impl<N: PoolName> Pool<N> {
         }
     }
 
-    /// Writes bytes from the word at an index on, 8 to a word, each in a single step. The last word is filled up with
-    /// zeros, and the front ends with it.
+    /// Writes bytes from the word at an index on, 8 to a word, each in a single step. The front ends with the last of
+    /// these words; of its bytes behind the last one that was given nothing is said.
     pub fn put_bytes(&self, seat: &mut PoolSeat<N>, hold: &Hold<N>, index: u32, bytes: &[u8])
         requires exclusive { 0 < total (sole_at hold.now.buffer) seat.old.holds }
         requires index { (index ≤ length (front_of hold.now.buffer seat.old.holds))
-            × (8 * index + length bytes.now ≤ 8 * room N.sizes hold.now.buffer) }
+            × (8 * index + length bytes.now ≤ 8 * buffer_words N.sizes hold.now.buffer) }
         ensures { PutsBytes hold.now.buffer index bytes.now seat.old seat.new }
     {
         let whole = bytes.len() / 8;
@@ -80,7 +80,7 @@ impl<N: PoolName> Pool<N> {
         requires inside { 8 * index + length room.old ≤ 8 * length (front_of buffer seat.old.holds) }
         ensures seat { seat.new ≡ seat.old }
         ensures bytes { room.new
-            ≡ take (length room.old) (drop (8 * index) (bytes_of (front_of buffer seat.old.holds))) }
+            ≡ take (length room.old) (drop (8 * index) (bytes_of_words (front_of buffer seat.old.holds))) }
     {
         seat.is_seat();
         for k in 0..8 {
@@ -96,7 +96,7 @@ impl<N: PoolName> Pool<N> {
         requires inside { 8 * index + length room.old ≤ 8 * length (front_of buffer seat.old.holds) }
         ensures seat { seat.new ≡ seat.old }
         ensures bytes { room.new
-            ≡ take (length room.old) (drop (8 * index) (bytes_of (front_of buffer seat.old.holds))) }
+            ≡ take (length room.old) (drop (8 * index) (bytes_of_words (front_of buffer seat.old.holds))) }
     {
         seat.is_seat();
         let first = self.first_word(buffer);
@@ -114,7 +114,7 @@ impl<N: PoolName> Pool<N> {
         requires inside { 8 * index + length room.old ≤ 8 * length (front_of buffer seat.old.holds) }
         ensures seat { seat.new ≡ seat.old }
         ensures bytes { room.new
-            ≡ take (length room.old) (drop (8 * index) (bytes_of (front_of buffer seat.old.holds))) }
+            ≡ take (length room.old) (drop (8 * index) (bytes_of_words (front_of buffer seat.old.holds))) }
     {
         seat.is_seat();
         let first = self.first_word(buffer);
@@ -132,7 +132,7 @@ impl<N: PoolName> Pool<N> {
         requires inside { 8 * index + length room.old ≤ 8 * length (front_of buffer seat.old.holds) }
         ensures seat { seat.new ≡ seat.old }
         ensures bytes { room.new
-            ≡ take (length room.old) (drop (8 * index) (bytes_of (front_of buffer seat.old.holds))) }
+            ≡ take (length room.old) (drop (8 * index) (bytes_of_words (front_of buffer seat.old.holds))) }
     {
         seat.is_seat();
         let lines = room.len() / 64;
@@ -161,7 +161,7 @@ impl<N: PoolName> Pool<N> {
         requires inside { index < length (front_of buffer seat.old.holds) }
         ensures seat { seat.new ≡ seat.old }
         ensures bytes { room.new
-            ≡ take (length room.old) (drop (8 * index + from) (bytes_of (front_of buffer seat.old.holds))) }
+            ≡ take (length room.old) (drop (8 * index + from) (bytes_of_words (front_of buffer seat.old.holds))) }
     {
         let word = self.load_at(seat, buffer, index).to_le_bytes();
         room.copy_from_slice(&word[from..from + room.len()]);
@@ -173,7 +173,7 @@ impl<N: PoolName> Pool<N> {
         requires inside { 8 * index + length room.old ≤ 8 * length (front_of buffer seat.old.holds) }
         ensures seat { seat.new ≡ seat.old }
         ensures bytes { room.new
-            ≡ take (length room.old) (drop (8 * index) (bytes_of (front_of buffer seat.old.holds))) }
+            ≡ take (length room.old) (drop (8 * index) (bytes_of_words (front_of buffer seat.old.holds))) }
     {
         seat.is_seat();
         let whole = room.len() / 8;
@@ -195,7 +195,8 @@ impl<N: PoolName> Pool<N> {
         requires held { 0 < total (at buffer) seat.old.holds }
         requires inside { from + length room.old ≤ 8 * length (front_of buffer seat.old.holds) }
         ensures seat { seat.new ≡ seat.old }
-        ensures bytes { room.new ≡ take (length room.old) (drop from (bytes_of (front_of buffer seat.old.holds))) }
+        ensures bytes { room.new ≡ take (length room.old)
+            (drop from (bytes_of_words (front_of buffer seat.old.holds))) }
     {
         let index = from / 8;
         let skipped = from as usize % 8;

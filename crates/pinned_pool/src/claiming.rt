@@ -20,7 +20,7 @@ ghost use Rattle.view_sums.specs.Total.{total, Each};
 ghost use Rattle.pin_core.specs.Buffers.{buffers};
 ghost use Rattle.pin_core.specs.Holding.{Holding, Key, at};
 ghost use Rattle.pinned_pool.specs.Moves.{won, lost, loose_key};
-ghost use Rattle.pinned_pool.specs.Claims.{Passed, Wins, first_of, count_of};
+ghost use Rattle.pinned_pool.specs.Claims.{Passed, Wins, class_start, count_of};
 ghost use Rattle.pinned_pool.specs.Claimed.{with_claimed, ClaimsMore, NoneFree, GivesBack};
 ghost use Rattle.pinned_pool.specs.Classes.{just};
 ghost use Rattle.pinned_pool.specs.Sought.{Sought, missing};
@@ -48,7 +48,7 @@ impl<N: PoolName> Pool<N> {
 
     // The first buffer of the class, and how many there are.
     fn range(&self, class: Class) -> (u32, u32)
-        ensures range { (result.0 ≡ first_of N.sizes class) × (result.1 ≡ count_of N.sizes class)
+        ensures range { (result.0 ≡ class_start N.sizes class) × (result.1 ≡ count_of N.sizes class)
             × (result.0 + result.1 ≤ buffers N.sizes) }
         ensures fits { buffers N.sizes < 2 ^ 32 }
     {
@@ -96,7 +96,7 @@ impl<N: PoolName> Pool<N> {
     fn scan(&self, seat: &mut PoolSeat<N>, class: Class) -> Result<Hold<N>, NoBuffer>
         ensures won { IfOk result (λ h. Wins N.sizes class h seat.old seat.new) }
         ensures none { IfErr result (λ e. (e.class ≡ class) × (e.looked ≡ count_of N.sizes class)
-            × Passed (first_of N.sizes class) e.looked seat.old seat.new) }
+            × Passed (class_start N.sizes class) e.looked seat.old seat.new) }
     {
         let (first, count) = self.range(class);
         let passed = self.pass_held(seat, first, count);
@@ -121,7 +121,7 @@ impl<N: PoolName> Pool<N> {
     pub fn claim(&self, seat: &mut PoolSeat<N>, class: Class) -> Result<Hold<N>, NoBuffer>
         ensures won { IfOk result (λ h. Wins N.sizes class h seat.old seat.new) }
         ensures none { IfErr result (λ e. (e.class ≡ class) × (e.looked ≡ count_of N.sizes class)
-            × Passed (first_of N.sizes class) e.looked seat.old seat.new) }
+            × Passed (class_start N.sizes class) e.looked seat.old seat.new) }
         ensures sought { Sought N.sizes (just class 1) (missing result) seat.old seat.new }
     {
         self.scan(seat, class)

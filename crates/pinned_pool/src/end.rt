@@ -1,7 +1,7 @@
 //! The end of a pool.
 ghost use Rattle.std.specs.Prelude.{◌≡◌, ◌+◌, ◌<◌, ◌≤◌};
 ghost use Rattle.std.specs.Slots.{slots_items, slots_len, IsFull};
-ghost use Rattle.pinned_pool.specs.Ends.{nonzero_in, end_of, LooksClaimed, AllEnded};
+ghost use Rattle.pinned_pool.specs.Ends.{nonzero_in, pool_end, LooksClaimed, AllEnded};
 ghost use Rattle.pinned_pool.specs.Views.{IsLoose};
 
 use crate::name::PoolName;
@@ -56,7 +56,7 @@ impl<N: PoolName> Pool<N> {
     /// Ends the pool. With all credits in one seat no other seat holds a buffer.
     pub fn close(self, seat: PoolSeat<N>) -> PoolEnd
         requires { seat.credits ≡ N.sizes.credits }
-        ensures end { result ≡ end_of N.sizes seat }
+        ensures end { result ≡ pool_end N.sizes seat }
         ensures loose { IsLoose seat }
         ensures looks { LooksClaimed seat }
         ensures lasts { AllEnded seat }

@@ -2,7 +2,7 @@
 ghost use Rattle.pinned_pool.specs.Addresses.{OneByteEach};
 ghost use Rattle.pinned_pool.specs.InWords.{SoundInWords};
 ghost use Rattle.pinned_pool.specs.StepKinds.{StepsAreEvents};
-ghost use Rattle.pinned_pool.specs.Runs.{RunsStaySound, RunsAreTold};
+ghost use Rattle.pinned_pool.specs.Runs.{RunsStaySound, ViewsCountRuns};
 
 /// Each step of a live seat keeps the rule, and makes of all seats' holds and credits what its events make of a plain
 /// list of holds. A count word falls to 0 only by the unpin that met 1, and a data word changes only by a put under the
@@ -24,7 +24,7 @@ pub fn runs_stay_sound()
 /// After any steps from the opening on, the claims, looks and returns of all seats are how many claims won, claims lost
 /// and unpins of pinned holds there were.
 pub fn runs_are_told()
-    ensures { RunsAreTold }
+    ensures { ViewsCountRuns }
 {}
 
 /// No address is that of two bytes.

@@ -1,6 +1,6 @@
 //! Holds that go from one seat to another.
 ghost use Rattle.std.specs.Prelude.{◌≡◌, ◌<◌, ◌-◌};
-ghost use Rattle.pinned_pool.specs.Moves.{HasHolds, taken_by, split_old, split_new, joined, losing, gaining};
+ghost use Rattle.pinned_pool.specs.Moves.{HasHolds, holds_for, split_old, split_new, joined_views, losing, gaining};
 
 use crate::name::PoolName;
 use crate::naming::NamesHolds;
@@ -19,7 +19,7 @@ impl<N: PoolName> Pool<N> {
         requires held { HasHolds (K.keys holds) from.old.holds }
         requires credits { (0 < credits) × (credits < from.old.credits) }
         ensures from { from.new ≡ split_old (K.keys holds) credits from.old }
-        ensures into { into.new ≡ joined into.old (split_new (K.keys holds) credits from.old) }
+        ensures into { into.new ≡ joined_views into.old (split_new (K.keys holds) credits from.old) }
     {
         let moved = self.split(from, holds, credits);
         self.join(into, moved);
@@ -31,7 +31,7 @@ impl<N: PoolName> Pool<N> {
         requires held { HasHolds (K.keys holds) from.old.holds }
         requires credits { 1 < from.old.credits }
         ensures from { from.new ≡ losing (K.keys holds) from.old }
-        ensures into { into.new ≡ gaining (taken_by (K.keys holds) from.old.holds) into.old }
+        ensures into { into.new ≡ gaining (holds_for (K.keys holds) from.old.holds) into.old }
     {
         into.is_seat();
         self.pass(from, into, holds, 1);
@@ -43,7 +43,7 @@ impl<N: PoolName> Pool<N> {
         requires held { HasHolds (K.keys holds) from.old.holds }
         requires credits { 1 < into.old.credits }
         ensures from { from.new ≡ losing (K.keys holds) from.old }
-        ensures into { into.new ≡ gaining (taken_by (K.keys holds) from.old.holds) into.old }
+        ensures into { into.new ≡ gaining (holds_for (K.keys holds) from.old.holds) into.old }
     {
         from.is_seat();
         self.pass(into, from, (), 1);

@@ -11,9 +11,9 @@ pub trait PoolName {
 }
 
 impl PoolName for Brand {
-    ghost use Rattle.pinned_pool.specs.Named.{unnamed_table, no_sizes};
+    ghost use Rattle.pinned_pool.specs.Named.{unnamed_pool, no_pool_sizes};
 
-    ghost table = { unnamed_table };
+    ghost table = { unnamed_pool };
 
-    ghost sizes = { no_sizes };
+    ghost sizes = { no_pool_sizes };
 }

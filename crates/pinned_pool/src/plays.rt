@@ -118,10 +118,10 @@ impl<G: Gift> Split<View> for SplitSeat<G> {
 pub(crate) struct JoinSeats;
 
 impl Join<View> for JoinSeats {
-    ghost use Rattle.pinned_pool.specs.Moves.{joined};
+    ghost use Rattle.pinned_pool.specs.Moves.{joined_views};
     ghost use Rattle.pinned_pool.specs.Views.{nobody};
 
-    ghost both = { joined };
+    ghost both = { joined_views };
 
     ghost spent = { nobody };
 }

@@ -1,6 +1,6 @@
 //! Seats that are split and joined.
 ghost use Rattle.std.specs.Prelude.{◌≡◌, ◌<◌, map};
-ghost use Rattle.pinned_pool.specs.Moves.{HasHolds, key_of, split_old, split_new, joined};
+ghost use Rattle.pinned_pool.specs.Moves.{HasHolds, hold_key, split_old, split_new, joined_views};
 ghost use Rattle.pinned_pool.specs.Views.{IsLoose, OneFront};
 
 use crate::name::PoolName;
@@ -21,14 +21,14 @@ impl<N: PoolName> Pool<N> {
         requires credits { (0 < credits) × (credits < seat.old.credits) }
         ensures old { seat.new ≡ split_old (K.keys holds) credits seat.old }
         ensures new { result ≡ split_new (K.keys holds) credits seat.old }
-        ensures exactly { map key_of result.holds ≡ K.keys holds }
+        ensures exactly { map hold_key result.holds ≡ K.keys holds }
     {
         self.cut::<Brand, K>(seat, holds, credits)
     }
 
     /// Takes in all that the other seat has, and tells a proof what the rule says of the holds that the seat has then.
     pub fn join(&self, into: &mut PoolSeat<N>, from: PoolSeat<N>)
-        ensures joined { into.new ≡ joined into.old from }
+        ensures joined { into.new ≡ joined_views into.old from }
         ensures loose { IsLoose into.new }
         ensures fronts { OneFront into.new }
     {

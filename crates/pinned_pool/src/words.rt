@@ -1,7 +1,7 @@
 //! The data words of a buffer, under a hold.
 ghost use Rattle.std.specs.Prelude.{◌≡◌, ◌+◌, ◌<◌, ◌≤◌, length, slice_index};
 ghost use Rattle.view_sums.specs.Total.{total};
-ghost use Rattle.pin_core.specs.Buffers.{buffers, room};
+ghost use Rattle.pin_core.specs.Buffers.{buffers, buffer_words};
 ghost use Rattle.pin_core.specs.Holding.{at, sole_at};
 ghost use Rattle.pinned_pool.specs.Rule.{word_at};
 ghost use Rattle.pinned_pool.specs.Moves.{put, front_of};
@@ -33,7 +33,7 @@ impl<N: PoolName> Pool<N> {
     pub fn put_word(&self, seat: &mut PoolSeat<N>, hold: &Hold<N>, index: u32, word: u64)
         requires exclusive { 0 < total (sole_at hold.now.buffer) seat.old.holds }
         requires index { (index ≤ length (front_of hold.now.buffer seat.old.holds))
-            × (index < room N.sizes hold.now.buffer) }
+            × (index < buffer_words N.sizes hold.now.buffer) }
         ensures { seat.new ≡ put hold.now.buffer index word seat.old }
     {
         let buffer = hold.buffer();

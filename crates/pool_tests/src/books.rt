@@ -47,7 +47,7 @@ impl Deed for Looked {
 
 // A shard's seat with the entries of its deeds, as a lock holds them.
 #[derive(Drop)]
-struct Shelf<N: BookName> {
+struct ShardMap<N: BookName> {
     seat: ShardSeat<N>,
     history: Vec<Entry>,
     ghost kept: { history.items ≡ entries_of seat.told },
@@ -90,22 +90,22 @@ struct Outcome {
 }
 
 fn enter<N: BookName>(
-    shelf: &mut Shelf<N>,
+    shard_map: &mut ShardMap<N>,
     book: &Book<N>,
     mine: &mut SessionSeat<N>,
     call: u32,
 ) -> Result<Noted, Memory> {
-    shelf.history.reserve(1)?;
+    shard_map.history.reserve(1)?;
     let at = Entry {
         session: mine.session(),
         call,
         part: 0,
     };
     let deed = Looked { at };
-    let place = book.meet(&mut shelf.seat, mine, &deed);
-    shelf.history.push_reserved(deed.entry());
+    let place = book.meet(&mut shard_map.seat, mine, &deed);
+    shard_map.history.push_reserved(deed.entry());
     Ok(Noted {
-        shard: shelf.seat.shard(),
+        shard: shard_map.seat.shard(),
         place,
         at,
     })
@@ -113,23 +113,23 @@ fn enter<N: BookName>(
 
 fn see<N: BookName>(
     alloc: Global,
-    shelf: &mut Shelf<N>,
+    shard_map: &mut ShardMap<N>,
     book: &Book<N>,
     mine: &mut SessionSeat<N>,
 ) -> Result<Seen, Memory> {
-    let place = book.both_lists(&mut shelf.seat, mine);
+    let place = book.both_lists(&mut shard_map.seat, mine);
     Ok(Seen {
-        shard: shelf.seat.shard(),
+        shard: shard_map.seat.shard(),
         place,
-        history: shelf.history.iter().copied().collect(alloc)?,
+        history: shard_map.history.iter().copied().collect(alloc)?,
     })
 }
 
-// Calls go to the shelves in turn, and behind each the session looks at the shelf.
+// Calls go to the shard maps in turn, and behind each the session looks at the shard map.
 fn work<N: BookName, R: Wait>(
     rt: &R,
     alloc: Global,
-    shelves: &[Mutex<Shelf<N>>],
+    shard_maps: &[Mutex<ShardMap<N>>],
     book: &Book<N>,
     seat: SessionSeat<N>,
     calls: u32,
@@ -138,11 +138,11 @@ fn work<N: BookName, R: Wait>(
     let mut notes = Vec::new(alloc);
     let mut sights = Vec::new(alloc);
     for call in 0..calls {
-        let turn = (call as usize).checked_rem(shelves.len());
-        let Some(shelf) = turn.and_then(|turn| shelves.get(turn)) else {
+        let turn = (call as usize).checked_rem(shard_maps.len());
+        let Some(shard_map) = turn.and_then(|turn| shard_maps.get(turn)) else {
             return Err(Memory);
         };
-        let mut guard = shelf.lock(rt);
+        let mut guard = shard_map.lock(rt);
         let noted = enter(&mut guard, book, &mut seat, call)?;
         notes.push(noted)?;
         sights.push(see(alloc, &mut guard, book, &mut seat)?)?;
@@ -158,7 +158,7 @@ type Both<N> = (Result<Session<N>, Memory>, Result<Session<N>, Memory>);
 fn work_both<N: BookName + Send + Sync, R: Threads + Wait + Sync>(
     rt: &R,
     alloc: Global,
-    shelves: &[Mutex<Shelf<N>>],
+    shard_maps: &[Mutex<ShardMap<N>>],
     book: &Book<N>,
     first: SessionSeat<N>,
     second: SessionSeat<N>,
@@ -166,26 +166,26 @@ fn work_both<N: BookName + Send + Sync, R: Threads + Wait + Sync>(
 ) -> Both<N> {
     join(
         rt,
-        move || work(rt, alloc, shelves, book, first, calls),
-        move || work(rt, alloc, shelves, book, second, calls),
+        move || work(rt, alloc, shard_maps, book, first, calls),
+        move || work(rt, alloc, shard_maps, book, second, calls),
     )
 }
 
-fn shelves_of<N: BookName>(
+fn shard_maps_of<N: BookName>(
     alloc: Global,
     mut seats: ShardSeats<N>,
-) -> Result<Vec<Mutex<Shelf<N>>>, Memory>
+) -> Result<Vec<Mutex<ShardMap<N>>>, Memory>
     requires { Each (λ (list : ShardList). list.told ≡ []) seats.items }
 {
-    let mut shelves = Vec::new(alloc);
+    let mut shard_maps = Vec::new(alloc);
     while let Some(seat) = seats.pop() {
-        let shelf = Shelf {
+        let shard_map = ShardMap {
             seat,
             history: Vec::new(alloc),
         };
-        shelves.push(Mutex::new(shelf))?;
+        shard_maps.push(Mutex::new(shard_map))?;
     }
-    Ok(shelves)
+    Ok(shard_maps)
 }
 
 // What the sessions saw is how the shards' lists begin, and what sessions were told to do the shards did.
@@ -204,14 +204,14 @@ fn close_told<N: BookName>(book: Book<N>, shards: ShardSeats<N>, sessions: Sessi
 fn close_all<N: BookName>(
     alloc: Global,
     book: Book<N>,
-    shelves: Vec<Mutex<Shelf<N>>>,
+    shard_maps: Vec<Mutex<ShardMap<N>>>,
     first: Session<N>,
     second: Session<N>,
 ) -> Result<Outcome, Memory> {
-    let mut shards = ShardSeats::with_room(alloc, shelves.len())?;
+    let mut shards = ShardSeats::with_room(alloc, shard_maps.len())?;
     let mut histories = Vec::new(alloc);
-    for shelf in shelves {
-        let Shelf { seat, history } = shelf.into_inner();
+    for shard_map in shard_maps {
+        let ShardMap { seat, history } = shard_map.into_inner();
         histories.push((seat.shard(), history))?;
         shards.push(seat)?;
     }
@@ -238,9 +238,17 @@ fn run_named<N: BookName + Send + Sync, R: Threads + Wait + Sync>(
     let (Some(second), Some(first)) = (sessions.pop(), sessions.pop()) else {
         return Err(Memory);
     };
-    let shelves = shelves_of(alloc, shards)?;
-    let (first, second) = work_both(rt, alloc, shelves.as_slice(), &book, first, second, calls);
-    close_all(alloc, book, shelves, first?, second?)
+    let shard_maps = shard_maps_of(alloc, shards)?;
+    let (first, second) = work_both(
+        rt,
+        alloc,
+        shard_maps.as_slice(),
+        &book,
+        first,
+        second,
+        calls,
+    );
+    close_all(alloc, book, shard_maps, first?, second?)
 }
 
 fn run<R: Threads + Wait + Sync>(
@@ -313,7 +321,7 @@ enum Act {
     Enter,
 }
 
-// One thread's turns: which session, at which shelf, what it does, and what it is answered.
+// One thread's turns: which session, at which shard map, what it does, and what it is answered.
 static TURNS: [(u16, usize, Act, u64); 12] = [
     (0, 0, Act::Look, 0),
     (0, 0, Act::Enter, 0),
@@ -331,14 +339,14 @@ static TURNS: [(u16, usize, Act, u64); 12] = [
 
 fn take<N: BookName>(
     alloc: Global,
-    shelf: &mut Shelf<N>,
+    shard_map: &mut ShardMap<N>,
     book: &Book<N>,
     mine: &mut SessionSeat<N>,
     act: Act,
 ) -> Result<u64, Memory> {
     match act {
-        Act::Look => Ok(see(alloc, shelf, book, mine)?.place),
-        Act::Enter => Ok(enter(shelf, book, mine, 0)?.place),
+        Act::Look => Ok(see(alloc, shard_map, book, mine)?.place),
+        Act::Enter => Ok(enter(shard_map, book, mine, 0)?.place),
     }
 }
 
@@ -354,13 +362,13 @@ fn all_answered<N: BookName, R: Wait>(
     let (Some(mut second), Some(mut first)) = (sessions.pop(), sessions.pop()) else {
         return Err(Memory);
     };
-    let shelves = shelves_of(alloc, shards)?;
+    let shard_maps = shard_maps_of(alloc, shards)?;
     let mut all = true;
     for (session, turn, act, answer) in TURNS {
-        let Some(shelf) = shelves.get(turn) else {
+        let Some(shard_map) = shard_maps.get(turn) else {
             return Err(Memory);
         };
-        let mut guard = shelf.lock(rt);
+        let mut guard = shard_map.lock(rt);
         let mine = if session == 0 {
             take(alloc, &mut guard, &book, &mut first, act)?
         } else {

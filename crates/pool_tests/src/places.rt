@@ -1,6 +1,6 @@
 ghost use Rattle.std.specs.Prelude.{◌≤◌};
 
-use lent_place::{Fits, Place};
+use handover_slot::{Fits, HandoverSlot};
 use std::test::Fail;
 
 #[derive(Drop)]
@@ -11,13 +11,13 @@ impl Fits<u64> for Small {
 }
 
 // What is left of a value, which is given back.
-fn taken(place: &Place<Small, u64>) -> Option<u64> {
+fn taken(place: &HandoverSlot<Small, u64>) -> Option<u64> {
     let (Small(n), loan) = place.take()?;
     loan.give(Small(n / 2));
     Some(n)
 }
 
-fn filled(place: &Place<Small, u64>) -> bool
+fn filled(place: &HandoverSlot<Small, u64>) -> bool
     requires { 7 ≤ place.now }
 {
     match place.first() {
@@ -31,7 +31,7 @@ fn filled(place: &Place<Small, u64>) -> bool
 
 #[test]
 fn a_value_is_lent_and_given_back(rt: HostRuntime) -> Result<(), Fail> {
-    let place: Place<Small, u64> = Place::new(rt.alloc(), &9)?;
+    let place: HandoverSlot<Small, u64> = HandoverSlot::new(rt.alloc(), &9)?;
     assert!(rt; taken(&place).is_none());
     assert!(rt; filled(&place) && !filled(&place));
     assert!(rt; taken(&place) == Some(7) && taken(&place) == Some(3));

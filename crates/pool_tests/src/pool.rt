@@ -1,8 +1,8 @@
 ghost use Rattle.std.specs.Prelude.{◌≡◌, true, false, ◌+◌, ◌<◌, ◌≤◌, [], ◌∷◌, length, IfSome};
 ghost use Rattle.view_sums.specs.Total.{total};
 ghost use Rattle.pin_core.specs.Holding.{sole_at};
-ghost use Rattle.pinned_pool.specs.Moves.{times, front_of};
-ghost use Rattle.pin_core.specs.Buffers.{room};
+ghost use Rattle.pinned_pool.specs.Moves.{meant_count, front_of};
+ghost use Rattle.pin_core.specs.Buffers.{buffer_words};
 
 use pinned_pool::{
     Class, Held, Hold, Memory, NoBuffer, Pool, PoolBlank, PoolName, PoolSeat, PoolSeats, Unpinned,
@@ -256,8 +256,9 @@ fn pin_often<N: PoolName>(
     hold: &Hold<N>,
     count: u32,
 )
-    requires { (0 < times hold.now owner.old.holds) × (taker.old.holds ≡ []) × (2 < taker.old.credits) }
-    ensures { (0 < times hold.now owner.new.holds) × (taker.new.holds ≡ []) × (taker.new.credits ≡ taker.old.credits)
+    requires { (0 < meant_count hold.now owner.old.holds) × (taker.old.holds ≡ []) × (2 < taker.old.credits) }
+    ensures { (0 < meant_count hold.now owner.new.holds) × (taker.new.holds ≡ [])
+        × (taker.new.credits ≡ taker.old.credits)
         × (owner.new.credits ≡ owner.old.credits) }
 {
     for _ in 0..count {
@@ -274,8 +275,9 @@ fn pin_own<N: PoolName>(
     hold: Hold<N>,
     count: u32,
 ) -> (PoolSeat<N>, PoolSeat<N>, Hold<N>)
-    requires { (0 < times hold owner.holds) × (taker.holds ≡ []) × (2 < taker.credits) }
-    ensures { (0 < times hold result.0.holds) × (result.1.credits ≡ taker.credits) × (result.0.credits ≡ owner.credits)
+    requires { (0 < meant_count hold owner.holds) × (taker.holds ≡ []) × (2 < taker.credits) }
+    ensures { (0 < meant_count hold result.0.holds) × (result.1.credits ≡ taker.credits)
+        × (result.0.credits ≡ owner.credits)
         × (result.2 ≡ hold) }
 {
     pin_often(pool, &mut owner, &mut taker, &hold, count);
@@ -290,8 +292,9 @@ fn claim_and_pin<N: PoolName>(
 ) -> Option<(Hold<N>, Hold<N>)>
     requires { (first.old.holds ≡ []) × (second.old.holds ≡ []) × (2 < second.old.credits) }
     ensures credits { first.new.credits ≡ first.old.credits }
-    ensures holds { IfSome result (λ h. (0 < times h.0 first.new.holds) × (h.0.pinned ≡ false)
-        × (0 < times h.1 second.new.holds) × (h.1.pinned ≡ true) × (second.new.credits + 1 ≡ second.old.credits)) }
+    ensures holds { IfSome result (λ h. (0 < meant_count h.0 first.new.holds) × (h.0.pinned ≡ false)
+        × (0 < meant_count h.1 second.new.holds) × (h.1.pinned ≡ true)
+        × (second.new.credits + 1 ≡ second.old.credits)) }
 {
     let hold = pool.claim(first, Class::Small).ok()?;
     let pinned = pool.pin(first, second, &hold);
@@ -308,8 +311,8 @@ fn close_all<N: PoolName>(
     pinned: Hold<N>,
 ) -> (Unpinned, Unpinned, Held)
     requires credits { first.credits + (second.credits + 1) + others.0.credits + others.1.credits ≡ N.sizes.credits }
-    requires hold { (0 < times hold first.holds) × (hold.pinned ≡ false) }
-    requires pinned { (0 < times pinned second.holds) × (pinned.pinned ≡ true) }
+    requires hold { (0 < meant_count hold first.holds) × (hold.pinned ≡ false) }
+    requires pinned { (0 < meant_count pinned second.holds) × (pinned.pinned ≡ true) }
 {
     let second_last = pool.unpin(&mut second, pinned);
     let first_last = pool.unpin(&mut first, hold);
@@ -435,10 +438,10 @@ fn seats_go_into_a_list(rt: HostRuntime) -> Result<(), Fail> {
 #[tactic(auto, using(pinned_pool::proofs::Still::seat_steps))]
 fn fill<N: PoolName>(pool: &Pool<N>, seat: &mut PoolSeat<N>, hold: &Hold<N>, count: u32)
     requires sole { 0 < total (sole_at hold.now.buffer) seat.old.holds }
-    requires count { count ≤ room N.sizes hold.now.buffer }
+    requires count { count ≤ buffer_words N.sizes hold.now.buffer }
     ensures sole { 0 < total (sole_at hold.now.buffer) seat.new.holds }
     ensures front { count ≤ length (front_of hold.now.buffer seat.new.holds) }
-    ensures held { 0 < times hold.now seat.old.holds → 0 < times hold.now seat.new.holds }
+    ensures held { 0 < meant_count hold.now seat.old.holds → 0 < meant_count hold.now seat.new.holds }
     ensures credits { seat.new.credits ≡ seat.old.credits }
 {
     for k in 0..count {
@@ -479,10 +482,12 @@ fn pin_filled<N: PoolName>(
     taker: &mut PoolSeat<N>,
     hold: &Hold<N>,
 ) -> Hold<N>
-    requires hold { (0 < times hold.now owner.old.holds) × (64 ≤ length (front_of hold.now.buffer owner.old.holds)) }
+    requires hold { (0 < meant_count hold.now owner.old.holds)
+        × (64 ≤ length (front_of hold.now.buffer owner.old.holds)) }
     requires taker { (taker.old.holds ≡ []) × (2 < taker.old.credits) }
-    ensures hold { (0 < times hold.now owner.new.holds) × (64 ≤ length (front_of hold.now.buffer owner.new.holds)) }
-    ensures new { (0 < times result taker.new.holds) × (64 ≤ length (front_of result.buffer taker.new.holds)) }
+    ensures hold { (0 < meant_count hold.now owner.new.holds)
+        × (64 ≤ length (front_of hold.now.buffer owner.new.holds)) }
+    ensures new { (0 < meant_count result taker.new.holds) × (64 ≤ length (front_of result.buffer taker.new.holds)) }
     ensures pinned { result.pinned ≡ true }
     ensures credits { (owner.new.credits ≡ owner.old.credits) × (taker.new.credits + 1 ≡ taker.old.credits) }
 {
@@ -498,7 +503,7 @@ fn load_often<N: PoolName>(
     bytes: &[u8; 512],
     count: u32,
 ) -> (PoolSeat<N>, Hold<N>, u32)
-    requires { (0 < times hold seat.holds) × (64 ≤ length (front_of hold.buffer seat.holds)) }
+    requires { (0 < meant_count hold seat.holds) × (64 ≤ length (front_of hold.buffer seat.holds)) }
     ensures { (result.0 ≡ seat) × (result.1 ≡ hold) }
 {
     let mut room = [0u8; 512];
@@ -527,9 +532,9 @@ fn load_by_two<N: PoolName + Send + Sync, R: Threads + Sync>(
     bytes: &[u8; 512],
     count: u32,
 ) -> (Loader<N>, Loader<N>, [u32; 2])
-    requires first { (0 < times loaders.0.hold loaders.0.seat.holds)
+    requires first { (0 < meant_count loaders.0.hold loaders.0.seat.holds)
         × (64 ≤ length (front_of loaders.0.hold.buffer loaders.0.seat.holds)) }
-    requires second { (0 < times loaders.1.hold loaders.1.seat.holds)
+    requires second { (0 < meant_count loaders.1.hold loaders.1.seat.holds)
         × (64 ≤ length (front_of loaders.1.hold.buffer loaders.1.seat.holds)) }
     ensures { (result.0 ≡ loaders.0) × (result.1 ≡ loaders.1) }
 {
@@ -569,9 +574,9 @@ fn close_loaded<N: PoolName>(
 ) -> ([Unpinned; 3], Held)
     requires credits { owner.credits + taker.credits + (loaders.0.seat.credits + 1) + (loaders.1.seat.credits + 1)
         ≡ N.sizes.credits }
-    requires hold { (0 < times hold owner.holds) × (hold.pinned ≡ false) }
-    requires first { (0 < times loaders.0.hold loaders.0.seat.holds) × (loaders.0.hold.pinned ≡ true) }
-    requires second { (0 < times loaders.1.hold loaders.1.seat.holds) × (loaders.1.hold.pinned ≡ true) }
+    requires hold { (0 < meant_count hold owner.holds) × (hold.pinned ≡ false) }
+    requires first { (0 < meant_count loaders.0.hold loaders.0.seat.holds) × (loaders.0.hold.pinned ≡ true) }
+    requires second { (0 < meant_count loaders.1.hold loaders.1.seat.holds) × (loaders.1.hold.pinned ≡ true) }
 {
     let Loader {
         seat: mut first,
@@ -625,9 +630,9 @@ fn load_by_three<N: PoolName + Send + Sync, R: Threads + Sync>(
     let (loaded, pinned) = join(
         rt,
         move ||
-            requires { (0 < times loaders.0.hold loaders.0.seat.holds)
+            requires { (0 < meant_count loaders.0.hold loaders.0.seat.holds)
                 × (64 ≤ length (front_of loaders.0.hold.buffer loaders.0.seat.holds))
-                × (0 < times loaders.1.hold loaders.1.seat.holds)
+                × (0 < meant_count loaders.1.hold loaders.1.seat.holds)
                 × (64 ≤ length (front_of loaders.1.hold.buffer loaders.1.seat.holds)) }
         { load_by_two(rt, shared, loaders, bytes, count) },
         move || pin_own(shared, owner, taker, hold, count),

@@ -1,6 +1,6 @@
 ghost use Rattle.std.specs.Prelude.{◌≡◌, ℕ, false, true, ◌+◌, ◌*◌, ◌<◌, ◌≤◌, [], ◌∷◌, length, vec_len, vec_capacity};
 ghost use Rattle.std.specs.Prelude.{IfSome, IfOk, IfErr, OnOk};
-ghost use Rattle.frag_value.specs.Fragments.{value_limit};
+ghost use Rattle.flake_base.specs.Limits.{value_limit};
 
 mod copier;
 mod keeping;

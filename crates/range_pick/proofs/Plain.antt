@@ -1,5 +1,6 @@
 -- The number of a plain decimal, digit by digit.
-use Rattle.std.proofs.Common.{◌≡◌, ◌∙◌, sym, ap, ℕ, ◌+◌, ◌-◌, ◌*◌, ◌<◌, ◌≤◌, ◌^◌, List, [], ◌∷◌, length, take, drop, get_or, Bool, true, false, if◌then◌else◌, Some, None, arith, refl, lit<}
+use Rattle.std.proofs.Common.{◌≡◌, ◌∙◌, sym, ap, ℕ, ◌+◌, ◌-◌, ◌*◌, ◌<◌, ◌≤◌, ◌^◌, List, [], ◌∷◌, length, take, drop}
+use Rattle.std.proofs.Common.{get_or, Bool, true, false, if◌then◌else◌, Some, None, arith, refl, lit<}
 use Rattle.std.specs.List.{fold}
 use Rattle.std.specs.Fmt.{decimal}
 use Rattle.std.specs.Str.{bytes_eq}
@@ -15,7 +16,8 @@ abbrev pub with_digit : ℕ → ℕ → ℕ
 with_digit n digit = n * 10 + (digit - 48)
 
 -- one digit more
-pub number_more : (word : List ℕ) (i : ℕ) → i < length word → number_of (take (i + 1) word) ≡ number_of (take i word) * 10 + (get_or word i 0 - 48)
+pub number_more : (word : List ℕ) (i : ℕ) → i < length word → number_of (take (i + 1) word)
+    ≡ number_of (take i word) * 10 + (get_or word i 0 - 48)
 number_more word i within = fold_more with_digit 0 word i 0 within
 
 grows : (n : ℕ) (word : List ℕ) → n ≤ fold with_digit n word
@@ -37,11 +39,13 @@ plain_number word number is = by_test (bytes_eq (decimal (number_of word)) word)
   by_test false is = absurd (cc)
 
 -- digits of which the first ones are too many for 64 bits
-pub too_large : (word : List ℕ) (i : ℕ) → 2 ^ 64 ≤ number_of (take i word) → (number : ℕ) → plain_of word ≡ Some number → 2 ^ 64 ≤ number
+pub too_large : (word : List ℕ) (i : ℕ) → 2 ^ 64 ≤ number_of (take i word) → (number : ℕ) → plain_of word ≡ Some number
+    → 2 ^ 64 ≤ number
 too_large word i large number is = omega (arith, at_least word i, plain_number word number is)
 
 -- the number of 64 bits that the digits so far and one more would make isn't one
-pub no_more : (word : List ℕ) (i n : ℕ) → i < length word → n ≡ number_of (take i word) → 2 ^ 64 ≤ n * 10 + (get_or word i 0 - 48) → (number : ℕ) → plain_of word ≡ Some number → 2 ^ 64 ≤ number
+pub no_more : (word : List ℕ) (i n : ℕ) → i < length word → n ≡ number_of (take i word)
+    → 2 ^ 64 ≤ n * 10 + (get_or word i 0 - 48) → (number : ℕ) → plain_of word ≡ Some number → 2 ^ 64 ≤ number
 no_more word i n within is large = too_large word (i + 1) (omega (arith, number_more word i within))
 
 minus_test : (byte : ℕ) (begins : Bool) → bytes_eq (byte ∷ []) (45 ∷ []) ≡ begins → (byte == 45) ≡ begins
@@ -49,10 +53,12 @@ minus_test byte true is = grind (arith, nat_tests)
 minus_test byte false is = grind (arith, nat_tests)
 
 -- a word that begins with a `-`, and one that doesn't
-pub with_minus : (word : List ℕ) → bytes_eq (take 1 word) (45 ∷ []) ≡ true → signed_of word ≡ option_and_then negative_of (plain_of (drop 1 word))
+pub with_minus : (word : List ℕ) → bytes_eq (take 1 word) (45 ∷ []) ≡ true → signed_of word
+    ≡ option_and_then negative_of (plain_of (drop 1 word))
 with_minus [] begins = absurd (cc)
 with_minus (byte ∷ word) begins = let test = minus_test byte true begins in rw test refl
 
-pub without_minus : (word : List ℕ) → bytes_eq (take 1 word) (45 ∷ []) ≡ false → signed_of word ≡ option_and_then positive_of (plain_of word)
+pub without_minus : (word : List ℕ) → bytes_eq (take 1 word) (45 ∷ []) ≡ false → signed_of word
+    ≡ option_and_then positive_of (plain_of word)
 without_minus [] begins = let zero_text = decimal_digit 0 (lit< tt) in rw zero_text refl
 without_minus (byte ∷ word) begins = let test = minus_test byte false begins in rw test refl

@@ -16,20 +16,20 @@ touched from (suc more) = (from + suc more + 4095) / fragment_limit
 
 -- the pieces of bytes in so many fragments, from this place of this fragment on: each but the last goes to its
 -- fragment's end
-abbrev pub pieces_over : ℕ → ℕ → ℕ → ℕ → List Piece
-pieces_over zero frag from len = []
-pieces_over (suc more) frag from len =
+abbrev pub span_pieces_over : ℕ → ℕ → ℕ → ℕ → List Piece
+span_pieces_over zero frag from len = []
+span_pieces_over (suc more) frag from len =
     let most = fragment_limit - from in
-    piece_at frag from (min len most) ∷ pieces_over more (frag + 1) 0 (len - most)
+    piece_at frag from (min len most) ∷ span_pieces_over more (frag + 1) 0 (len - most)
 
-abbrev pub pieces_of : Span → List Piece
-pieces_of span =
+abbrev pub span_pieces : Span → List Piece
+span_pieces span =
     let from = span.from % fragment_limit in
-    pieces_over (touched from span.len) (span.from / fragment_limit) from span.len
+    span_pieces_over (touched from span.len) (span.from / fragment_limit) from span.len
 
 -- a piece's bytes, in the fragment of its number
-abbrev pub bytes_in : List ℕ → Piece → List ℕ
-bytes_in value piece = take piece.len (drop piece.from (slice_index_or (fragments_of value) piece.frag []))
+abbrev pub piece_bytes_in : List ℕ → Piece → List ℕ
+piece_bytes_in value piece = take piece.len (drop piece.from (slice_index_or (fragments_of value) piece.frag []))
 
 -- a piece of the fragments that follow one another from this one
 pub record IsPiece (frag number : ℕ) (piece : Piece) : Type 0 where
@@ -42,4 +42,4 @@ pub record IsPiece (frag number : ℕ) (piece : Piece) : Type 0 where
 pub record ArePieces (span : Span) (pieces : List Piece) : Type 0 where
   pub each : (number : ℕ) (piece : Piece) → slice_get pieces number ≡ Some piece
       → IsPiece (span.from / fragment_limit) number piece
-  pub joined : (value : List ℕ) → flat_map (bytes_in value) pieces ≡ take span.len (drop span.from value)
+  pub joined : (value : List ℕ) → flat_map (piece_bytes_in value) pieces ≡ take span.len (drop span.from value)

@@ -1,6 +1,6 @@
 // The parts of a value's fragments that a span lies in.
 ghost use Rattle.std.specs.Prelude.{◌≡◌, ◌+◌, ◌≤◌};
-ghost use Rattle.range_pick.specs.Pieces.{pieces_of, ArePieces};
+ghost use Rattle.range_pick.specs.Pieces.{span_pieces, ArePieces};
 
 use crate::Span;
 use std::marker::Model;
@@ -24,12 +24,12 @@ pub struct Pieces {
 
 impl Model for Pieces {
     ghost use Rattle.std.specs.Prelude.{◌+◌, ◌≤◌, List};
-    ghost use Rattle.range_pick.specs.Pieces.{pieces_of};
+    ghost use Rattle.range_pick.specs.Pieces.{span_pieces};
     ghost use Rattle.range_pick.specs.declared.pieces.Piece.{Piece};
 
     ghost Value = { List Piece };
 
-    ghost view = { λ p. pieces_of p.rest };
+    ghost view = { λ p. span_pieces p.rest };
 
     ghost invariant = { λ p. p.rest.from + p.rest.len ≤ 65536 };
 }
@@ -38,7 +38,7 @@ impl Pieces {
     /// The pieces of a span of a value, which has at most 65,536 bytes.
     pub fn of(span: Span) -> Pieces
         requires { span.from + span.len ≤ 65536 }
-        ensures pieces { result ≡ pieces_of span }
+        ensures pieces { result ≡ span_pieces span }
         ensures parts { ArePieces span result }
     {
         Pieces { rest: span }

@@ -4,7 +4,7 @@
 
 ghost use Rattle.std.specs.Prelude.{◌≡◌, ◌++◌, List, ℕ, IfOk};
 ghost use Rattle.flake_model.specs.Resp.{Words, Parses};
-ghost use Rattle.resp_reader.specs.Reader.{Reads, input_end};
+ghost use Rattle.resp_reader.specs.Reader.{ReadsRequests, input_end};
 
 use anyhow::{Context, Result, bail};
 use resp_reader::{Ended, ReadError, Reader};
@@ -43,8 +43,8 @@ fn sets(alloc: Global, count: u32, len: u16) -> std::result::Result<Vec<u8>, All
 // Takes the requests that are whole, and counts them and their words' bytes.
 fn take(reader: &mut Reader, tally: &mut Tally)
     ensures open { reader.new.closed ≡ reader.old.closed }
-    ensures fed { (bytes : List ℕ) (given : List Words) → Reads bytes given reader.old
-        → (more : List Words) × Reads bytes (given ++ more) reader.new }
+    ensures fed { (bytes : List ℕ) (given : List Words) → ReadsRequests bytes given reader.old
+        → (more : List Words) × ReadsRequests bytes (given ++ more) reader.new }
 {
     while let Some(request) = reader.next() {
         tally.requests = tally.requests.saturating_add(1);

@@ -9,14 +9,14 @@ use Rattle.replay_check.specs.declared.error.AnswerError.{AnswerError}
 use Rattle.replay_check.specs.declared.error.AnswerError.TheVariants.{BadJournal, Memory}
 
 -- the journal has the parts of all commands in order
-abbrev pub IsWhole : List (List Command) → List (List Entry) → Type 0
-IsWhole sessions journal = IsOrderly sessions journal (map length sessions)
+abbrev pub IsWholeJournal : List (List Command) → List (List Entry) → Type 0
+IsWholeJournal sessions journal = IsOrderly sessions journal (map length sessions)
 
 -- the journal is orderly for all commands of the inputs, and these are the texts of their replies
 pub record AreAnswers (inputs : List (List ℕ)) (journal : List (List Entry)) (texts : List (List ℕ)) : Type 0 where
   pub sessions : List (List Command)
   pub inputs_are : AreInputs inputs sessions
-  pub orderly : IsWhole sessions journal
+  pub orderly : IsWholeJournal sessions journal
   pub count : length texts ≡ length inputs
   pub each : (session : ℕ) (commands : List Command) → slice_get sessions session ≡ Some commands
       → slice_get texts session ≡ Some (wire_text sessions journal session (length commands))
@@ -26,7 +26,7 @@ pub record IsBadJournal (inputs : List (List ℕ)) (journal : List (List Entry))
   pub sessions : List (List Command)
   pub inputs_are : AreInputs inputs sessions
   pub first : IsFirstFault sessions journal shard place
-  pub not_orderly : IsWhole sessions journal → ⊥
+  pub not_orderly : IsWholeJournal sessions journal → ⊥
 
 -- an error but for want of memory is that of a bad journal
 abbrev pub IsRefusal : List (List ℕ) → List (List Entry) → AnswerError → Type 0

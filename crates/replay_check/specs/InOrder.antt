@@ -14,9 +14,9 @@ behind entry [] = []
 behind entry (step ∷ steps) = if is_entry step.0 entry then steps else behind entry steps
 
 -- the parts behind those of some entries, one after another: those behind the part of the last
-abbrev pub left_by : List Step → List Entry → List Step
-left_by steps [] = steps
-left_by steps (entry ∷ entries) = left_by (behind entry steps) entries
+abbrev pub steps_behind : List Step → List Entry → List Step
+steps_behind steps [] = steps
+steps_behind steps (entry ∷ entries) = steps_behind (behind entry steps) entries
 
 -- parts that may have no entry
 abbrev pub AreWrites : List Step → Type 0
@@ -33,7 +33,7 @@ pub record IsNext (steps : List Step) (entry : Entry) : Type 0 where
 -- the parts of a session that are left behind its entries so far
 abbrev pub left_behind : List (List Command) → ℕ → ℕ → List Entry → ℕ → List Step
 left_behind sessions shards shard earlier session =
-    left_by (parts_in sessions shards shard session) (of_session session earlier)
+    steps_behind (parts_in sessions shards shard session) (of_session session earlier)
 
 -- An entry is in order where it is that of one of its session's parts of the shard, behind that of the session's last
 -- entry before it, and each part between the two is a write. A history's end is in order where each part of each

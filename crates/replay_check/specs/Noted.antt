@@ -19,14 +19,14 @@ abbrev pub slots_meant : List (Option PartAnswer) → List (Option Answer)
 slots_meant slots = map slot_meant slots
 
 -- the first answer stands
-abbrev pub first_of : Option Answer → Answer → Option Answer
-first_of None answer = Some answer
-first_of (Some first) answer = Some first
+abbrev pub first_answer : Option Answer → Answer → Option Answer
+first_answer None answer = Some answer
+first_answer (Some first) answer = Some first
 
 -- the answers with one more, at a place
 abbrev pub noted : ℕ → Answer → List (Option Answer) → List (Option Answer)
 noted place answer [] = []
-noted zero answer (slot ∷ slots) = first_of slot answer ∷ slots
+noted zero answer (slot ∷ slots) = first_answer slot answer ∷ slots
 noted (suc place) answer (slot ∷ slots) = slot ∷ noted place answer slots
 
 -- the answers to a session's parts, by a list of answers at entries

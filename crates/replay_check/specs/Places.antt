@@ -11,8 +11,8 @@ use Rattle.replay_check.specs.Inputs.{parts_of}
 use Rattle.replay_check.specs.Writes.{writes}
 use Rattle.replay_check.specs.InOrder.{behind, IsNext, left_behind}
 
-abbrev pub place_of : ℕ → Step → Place
-place_of shards step =
+abbrev pub step_place : ℕ → Step → Place
+step_place shards step =
     record { entry = step.0; shard = shard_of shards (key_of step.1); is_write = writes step.1 }
 
 -- a place that isn't in a shard, or whose part is a write
@@ -36,7 +36,7 @@ told sessions = map (λ session. session.commands.items) sessions
 -- the places of each session are those of its parts
 abbrev pub ArePlaced : ℕ → List Session → Type 0
 ArePlaced shards sessions = (number : ℕ) (session : Session) → slice_get sessions number ≡ Some session
-    → session.places.items ≡ map (place_of shards) (session_steps number 0 session.commands.items)
+    → session.places.items ≡ map (step_place shards) (session_steps number 0 session.commands.items)
 
 -- where each session stands in its parts: behind those of the entries so far
 pub record AreAt (sessions : List (List Command)) (shards shard : ℕ) (earlier : List Entry) (cursors : List ℕ) :

@@ -8,10 +8,10 @@ use Rattle.resp_reader.specs.declared.error.ReadError.TheVariants.{BadCount, Exp
 use Rattle.resp_reader.specs.declared.error.ReadError.TheVariants.{Inline, TooLong, Memory}
 
 -- what is too long has no error
-abbrev pub refusal_of : ReadError → Option ErrorKind
-refusal_of (BadCount place) = Some ProtocolCount
-refusal_of (ExpectedBulk place) = Some ProtocolBulk
-refusal_of (BadLength place) = Some ProtocolLength
-refusal_of (Inline place) = Some ProtocolInline
-refusal_of (TooLong taken) = None
-refusal_of Memory = None
+abbrev pub error_kind_of : ReadError → Option ErrorKind
+error_kind_of (BadCount place) = Some ProtocolCount
+error_kind_of (ExpectedBulk place) = Some ProtocolBulk
+error_kind_of (BadLength place) = Some ProtocolLength
+error_kind_of (Inline place) = Some ProtocolInline
+error_kind_of (TooLong taken) = None
+error_kind_of Memory = None

@@ -8,7 +8,7 @@ use Rattle.replay_check.specs.InOrder.{IsNext, left_behind}
 use Rattle.replay_check.specs.Places.{AreAt}
 
 -- it is in order, its session stands behind its part, which is the one at this place
-pub record IsTaken (sessions : List (List Command)) (shards shard : ℕ) (earlier : List Entry) (cursors : List ℕ)
+pub record IsEntryTaken (sessions : List (List Command)) (shards shard : ℕ) (earlier : List Entry) (cursors : List ℕ)
     (entry : Entry) (place : ℕ) : Type 0 where
   pub next : IsNext (left_behind sessions shards shard earlier entry.session) entry
   pub at : AreAt sessions shards shard (earlier ++ entry ∷ []) cursors

@@ -1,5 +1,5 @@
 ghost use Rattle.std.specs.Prelude.{◌≤◌, IfOk, IfErr, length};
-ghost use Rattle.journal_text.specs.Histories.{histories};
+ghost use Rattle.flake_base.specs.Histories.{histories};
 ghost use Rattle.replay_check.specs.Inputs.{contents};
 ghost use Rattle.replay_check.specs.Answered.{AreAnswers, IsRefusal};
 

@@ -2,7 +2,7 @@
 ghost use Rattle.std.specs.Prelude.{◌≡◌, ◌≢◌, IfOk, map};
 ghost use Rattle.flake_model.specs.Command.{command_of};
 ghost use Rattle.replay_check.specs.Inputs.{AreCommands};
-ghost use Rattle.replay_check.specs.Refused.{refusal_of};
+ghost use Rattle.replay_check.specs.Refused.{error_kind_of};
 
 use command_parts::Command;
 use flake_base::{ErrorKind, Memory};
@@ -38,7 +38,7 @@ fn requested(alloc: Global, reader: Reader) -> Result<Vec<Command>, Memory>
 
 // What an error of the reader is answered by, unless memory was wanting; nothing, where the input is too long.
 fn refusal(error: ReadError) -> Result<Option<ErrorKind>, Memory>
-    ensures kind { IfOk result (λ kind. kind ≡ refusal_of error) }
+    ensures kind { IfOk result (λ kind. kind ≡ error_kind_of error) }
     ensures other { IfOk result (λ kind. error ≢ ReadError.Memory) }
 {
     match error {

@@ -4,8 +4,8 @@ ghost use Rattle.std.specs.Prelude.{IsTrue, IfOk, IfSome, IsNone};
 ghost use Rattle.flake_base.specs.declared.journal.Entry.{Entry};
 ghost use Rattle.flake_model.specs.Journal.{Step, in_shard};
 ghost use Rattle.replay_check.specs.InOrder.{AreWrites, IsNext, left_behind};
-ghost use Rattle.replay_check.specs.Places.{place_of, all_due_from, IsFound, told, ArePlaced, AreAt};
-ghost use Rattle.replay_check.specs.Taken.{IsTaken};
+ghost use Rattle.replay_check.specs.Places.{step_place, all_due_from, IsFound, told, ArePlaced, AreAt};
+ghost use Rattle.replay_check.specs.Taken.{IsEntryTaken};
 
 use crate::place::Place;
 use crate::session::Session;
@@ -14,10 +14,10 @@ use std::alloc::Global;
 
 // The place of an entry's part, which is next of the shard's parts from a place on: the others before it are writes.
 fn next_part(places: &[Place], at: usize, shard: u16, entry: Entry) -> Option<usize>
-    ensures found { (shards : ℕ) (steps : List Step) → places.now ≡ map (place_of shards) steps
+    ensures found { (shards : ℕ) (steps : List Step) → places.now ≡ map (step_place shards) steps
         → IfSome result (λ found. IsFound shards shard steps at found entry) }
     ensures below { IfSome result (λ found. found < length places.now) }
-    ensures none { (shards : ℕ) (steps : List Step) → places.now ≡ map (place_of shards) steps
+    ensures none { (shards : ℕ) (steps : List Step) → places.now ≡ map (step_place shards) steps
         → IsNone result → IsNext (in_shard shards shard (drop at steps)) entry → ⊥ }
 {
     for found in at..places.len() {
@@ -51,7 +51,7 @@ pub fn take_part(
     requires { vec_len cursors.old ≡ length sessions.now }
     ensures taken { (shards : ℕ) (earlier : List Entry) → ArePlaced shards sessions.now
         → AreAt (told sessions.now) shards shard earlier cursors.old.items
-        → IfSome result (λ place. IsTaken (told sessions.now) shards shard earlier cursors.new.items entry place) }
+        → IfSome result (λ place. IsEntryTaken (told sessions.now) shards shard earlier cursors.new.items entry place) }
     ensures within { IfSome result (λ place. entry.session < length sessions.now) }
     ensures none { (shards : ℕ) (earlier : List Entry) → ArePlaced shards sessions.now
         → AreAt (told sessions.now) shards shard earlier cursors.old.items

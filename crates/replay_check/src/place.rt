@@ -4,7 +4,7 @@ ghost use Rattle.flake_model.specs.Command.{parts};
 ghost use Rattle.flake_model.specs.Journal.{shard_of as shard_by, call_steps, session_steps};
 ghost use Rattle.shard_part.specs.Parts.{operation_by, operation_of};
 ghost use Rattle.replay_check.specs.Writes.{writes};
-ghost use Rattle.replay_check.specs.Places.{place_of as place_by};
+ghost use Rattle.replay_check.specs.Places.{step_place as place_by};
 
 use command_parts::Command;
 use flake_base::{Entry, Memory};

@@ -5,8 +5,8 @@ ghost use Rattle.std.specs.FinMap as finite;
 ghost use Rattle.flake_base.specs.declared.journal.Entry.{Entry as ModelEntry};
 ghost use Rattle.flake_model.specs.Store.{Store as Meaning, Operation, Answer, answer, after};
 ghost use Rattle.flake_model.specs.Journal.{step_of, answers_from, answers_of};
-ghost use Rattle.byte_store.specs.Store.{Holds, answer_meant};
-ghost use Rattle.journal_text.specs.Histories.{histories};
+ghost use Rattle.byte_store.specs.Store.{HoldsStore, answer_meant};
+ghost use Rattle.flake_base.specs.Histories.{histories};
 ghost use Rattle.replay_check.specs.InOrder.{AreInOrder};
 ghost use Rattle.replay_check.specs.Places.{told, ArePlaced};
 ghost use Rattle.replay_check.specs.Noted.{AreNoted, HasPart};
@@ -28,12 +28,12 @@ fn do_part(
     entry: Entry,
 ) -> Result<PartAnswer, Memory>
     requires { (operation : Operation) × HasPart session.now.commands.items entry operation }
-    ensures answer { (meaning : Meaning) (operation : Operation) → Holds store.old meaning
+    ensures answer { (meaning : Meaning) (operation : Operation) → HoldsStore store.old meaning
         → HasPart session.now.commands.items entry operation
         → IfOk result (λ a. answer_meant a ≡ answer meaning operation) }
-    ensures after { (meaning : Meaning) (operation : Operation) → Holds store.old meaning
+    ensures after { (meaning : Meaning) (operation : Operation) → HoldsStore store.old meaning
         → HasPart session.now.commands.items entry operation
-        → OnOk result (Holds store.new (after meaning operation)) }
+        → OnOk result (HoldsStore store.new (after meaning operation)) }
 {
     let command = &session.commands[entry.call as usize];
     let part = command.part(entry.part as usize);

@@ -2,7 +2,7 @@
 ghost use Rattle.std.specs.Prelude.{◌≡◌, ◌<◌, ◌≤◌, IfOk, length, map};
 ghost use Rattle.flake_model.specs.Journal.{session_steps};
 ghost use Rattle.replay_check.specs.Inputs.{AreCommands, AreInputs, contents};
-ghost use Rattle.replay_check.specs.Places.{place_of, told, ArePlaced};
+ghost use Rattle.replay_check.specs.Places.{step_place, told, ArePlaced};
 
 use crate::commands::commands_of;
 use crate::place::{Place, places_of};
@@ -22,7 +22,7 @@ fn session_of(alloc: Global, number: u16, input: &Bytes, shards: u16) -> Result<
     requires { 0 < shards }
     ensures commands { IfOk result (λ session. AreCommands input.now.items session.commands.items) }
     ensures places { IfOk result (λ session. session.places.items
-        ≡ map (place_of shards) (session_steps number 0 session.commands.items)) }
+        ≡ map (step_place shards) (session_steps number 0 session.commands.items)) }
 {
     let commands = commands_of(alloc, input.as_slice())?;
     let places = places_of(alloc, number, commands.as_slice(), shards)?;

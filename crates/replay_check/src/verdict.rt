@@ -1,6 +1,6 @@
 // The verdict on replies that are given.
 ghost use Rattle.std.specs.Prelude.{◌≡◌, ◌≤◌, IfOk, length};
-ghost use Rattle.journal_text.specs.Histories.{histories};
+ghost use Rattle.flake_base.specs.Histories.{histories};
 ghost use Rattle.replay_check.specs.Inputs.{contents};
 ghost use Rattle.replay_check.specs.Differs.{IsVerdict, IsComparison};
 

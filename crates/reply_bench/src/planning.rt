@@ -1,7 +1,7 @@
 //! Replies as they are planned, and as they are given back.
 ghost use Rattle.std.specs.Prelude.{◌≡◌, ◌+◌, ◌*◌, ◌<◌, ◌≤◌, ◌++◌, length, None, IfOk};
 ghost use Rattle.frag_value.specs.Values.{HasValue};
-ghost use Rattle.reply_layout.specs.Gathered.{text_of};
+ghost use Rattle.reply_layout.specs.Gathered.{text_of_pieces};
 ghost use Rattle.reply_planner.specs.Laid.{pieces_in};
 ghost use Rattle.reply_planner.specs.Owned.{AreOwn};
 ghost use Rattle.reply_planner.specs.Planned.{room_of};
@@ -21,7 +21,7 @@ const THRESHOLD: u32 = 512;
 #[inline(always)]
 fn seal<N: PoolName>(plan: Plan<'_, N>, seat: &mut PoolSeat<N>, stage: &mut Stage<N>) -> Parcel<N>
     requires done { plan.begun ≡ None }
-    requires some { 0 < length (text_of (pieces_in plan.taken)) }
+    requires some { 0 < length (text_of_pieces (pieces_in plan.taken)) }
     requires whole { length stage.old + length plan.base.stage ≡ stage_size }
     requires own { AreOwn seat.old.holds (stage.old ++ plan.base.stage) }
     requires rich { most_credits ≤ seat.old.credits + plan.base.descriptors + 3 }
@@ -76,7 +76,7 @@ fn hand_often<N: PoolName>(
     requires value { HasValue owner.old.holds value.now }
     ensures none { plan.new.begun ≡ None }
     ensures base { plan.new.base ≡ plan.old.base }
-    ensures some { 0 < times → 0 < length (text_of (pieces_in plan.new.taken)) }
+    ensures some { 0 < times → 0 < length (text_of_pieces (pieces_in plan.new.taken)) }
     ensures value { HasValue owner.new.holds value.now }
 {
     for _ in 0..times {

@@ -1,6 +1,6 @@
 //! Replies over and over, each planned and given back.
 ghost use Rattle.std.specs.Prelude.{◌≡◌, ◌+◌, ◌≤◌, length, IfOk, OnOk};
-ghost use Rattle.frag_value.specs.Fragments.{value_limit};
+ghost use Rattle.flake_base.specs.Limits.{value_limit};
 ghost use Rattle.frag_value.specs.Values.{HasValue};
 ghost use Rattle.reply_bench.specs.Desks.{IsDesk, HasLent, most_credits};
 

@@ -1,30 +1,35 @@
 -- Replies that lie in no fragment.
-use Rattle.std.proofs.Common.{◌≡◌, ℕ, zero, suc, ◌+◌, ◌-◌, ◌≤◌, List, [], ◌∷◌, length, arith, ap, length-append, lit<, lit≤}
+use Rattle.std.proofs.Common.{◌≡◌, ℕ, zero, suc, ◌+◌, ◌-◌, ◌≤◌, List, [], ◌∷◌, length, arith, ap, length-append, lit<}
+use Rattle.std.proofs.Common.{lit≤}
 use Rattle.std.specs.Fmt.{decimal}
 use Rattle.std.proofs.lemmas.Fmt.{length-decimal-le}
 use Rattle.flake_base.specs.declared.reply.ErrorKind.{ErrorKind}
-use Rattle.flake_base.specs.declared.reply.ErrorKind.TheVariants.{UnknownCommand, WrongCount, Syntax, TooManyKeys, KeyTooLong, ValueTooLong, NoBuffer, ProtocolCount, ProtocolBulk, ProtocolLength, ProtocolInline, NotInteger}
+use Rattle.flake_base.specs.declared.reply.ErrorKind.TheVariants.{UnknownCommand, WrongCount, Syntax, TooManyKeys}
+use Rattle.flake_base.specs.declared.reply.ErrorKind.TheVariants.{KeyTooLong, ValueTooLong, NoBuffer, ProtocolCount}
+use Rattle.flake_base.specs.declared.reply.ErrorKind.TheVariants.{ProtocolBulk, ProtocolLength, ProtocolInline}
+use Rattle.flake_base.specs.declared.reply.ErrorKind.TheVariants.{NotInteger}
 use Rattle.flake_model.specs.Resp.{crlf}
 use Rattle.flake_model.specs.Reply.{Reply, ok, pong, error, int, bulk, null, array, reply_text}
 use Rattle.reply_layout.specs.Pieces.{plain}
-use Rattle.reply_layout.specs.Layout.{copied, placings_of, buffers_for}
-use Rattle.reply_layout.specs.Runs.{one_if, run_count, IsLine, IsWithin}
+use Rattle.reply_layout.specs.Layout.{copied, placings_of, staging_buffers_for}
+use Rattle.reply_layout.specs.Runs.{one_if, run_count, IsLine, IsWithinNeed}
 use Rattle.reply_layout.specs.Need.{need, copied_need}
 use Rattle.reply_layout.proofs.Fits.{layout_fits}
 
-one_run : (n : ℕ) → run_count 0 (copied n ∷ []) + (buffers_for n - 1) ≤ buffers_for n
+one_run : (n : ℕ) → run_count 0 (copied n ∷ []) + (staging_buffers_for n - 1) ≤ staging_buffers_for n
 one_run zero = omega arith
 one_run (suc n) =
     let count : 0 + suc n ≡ suc n = omega arith in
     omega (arith, ap one_if count)
 
-pub plain_fits : (threshold : ℕ) (bytes stage : List ℕ) → IsWithin (copied_need (length bytes)) stage (placings_of threshold (plain bytes ∷ []))
+pub plain_fits : (threshold : ℕ) (bytes stage : List ℕ) → IsWithinNeed (copied_need (length bytes)) stage
+    (placings_of threshold (plain bytes ∷ []))
 plain_fits threshold bytes stage =
     let n = length bytes in
     let copies : n + 0 ≡ n = omega arith in
     record {
-      segments = omega (arith, layout_fits stage (copied n ∷ []), one_run n, ap buffers_for copies);
-      buffers = omega (arith, ap buffers_for copies);
+      segments = omega (arith, layout_fits stage (copied n ∷ []), one_run n, ap staging_buffers_for copies);
+      buffers = omega (arith, ap staging_buffers_for copies);
     }
 
 short_error : (kind : ErrorKind) → length (reply_text (error kind)) ≤ 512
@@ -52,7 +57,8 @@ short_line (bulk bytes) is = absurd is
 short_line null is = lit≤ tt
 short_line (array items) is = absurd is
 
-pub line_fits : (threshold : ℕ) (reply : Reply) → IsLine reply → (stage : List ℕ) → IsWithin (need 1 1) stage (placings_of threshold (plain (reply_text reply) ∷ []))
+pub line_fits : (threshold : ℕ) (reply : Reply) → IsLine reply → (stage : List ℕ)
+    → IsWithinNeed (need 1 1) stage (placings_of threshold (plain (reply_text reply) ∷ []))
 line_fits threshold reply is stage =
     let short = short_line reply is in
     let fits = plain_fits threshold (reply_text reply) stage in

@@ -5,7 +5,7 @@ use Rattle.flake_model.specs.Command.{Command}
 use Rattle.flake_model.specs.Deed.{Deed}
 use Rattle.flake_model.specs.Reply.{reply_text}
 use Rattle.reply_layout.specs.Pieces.{reply_from, pieces_of}
-use Rattle.reply_layout.specs.Layout.{placings_of, copied_of, pinned_of, layout_of, buffers_for}
+use Rattle.reply_layout.specs.Layout.{placings_of, copied_of, pinned_of, layout_of, staging_buffers_for}
 
 pub record Frame : Type 0 where
   pub segments : List Seg
@@ -23,7 +23,7 @@ frame_from threshold free command deeds =
     let placings = placings_of threshold (pieces_of command deeds) in
     record {
       segments = layout_of free placings;
-      lent = take (buffers_for (copied_of placings)) free;
+      lent = take (staging_buffers_for (copied_of placings)) free;
       pinned = pinned_of placings;
       bytes = length (reply_text (reply_from command deeds));
     }

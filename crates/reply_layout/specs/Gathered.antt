@@ -23,8 +23,8 @@ abbrev pub copied_text : ℕ → List Piece → List ℕ
 copied_text threshold pieces = flat_map (copied_from threshold) pieces
 
 -- the bytes of pieces, joined
-abbrev pub text_of : List Piece → List ℕ
-text_of pieces = flat_map piece_bytes pieces
+abbrev pub text_of_pieces : List Piece → List ℕ
+text_of_pieces pieces = flat_map piece_bytes pieces
 
 -- the staging buffers have these bytes
 pub record IsStaged (read : Reading) (stage : List ℕ) (text : List ℕ) : Type 0 where

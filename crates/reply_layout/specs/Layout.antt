@@ -65,5 +65,5 @@ abbrev pub layout_of : List ℕ → List Placing → List Seg
 layout_of stage placings = segments_from stage 0 (runs 0 placings)
 
 -- so many staging buffers are used by n copied bytes
-abbrev pub buffers_for : ℕ → ℕ
-buffers_for n = (n + 511) / staging_limit
+abbrev pub staging_buffers_for : ℕ → ℕ
+staging_buffers_for n = (n + 511) / staging_limit

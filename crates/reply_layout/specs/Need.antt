@@ -4,7 +4,7 @@ use Rattle.flake_model.specs.Resp.{array_head}
 use Rattle.flake_model.specs.Command.{Command, ping_with, get, set, mget, get_range}
 use Rattle.flake_model.specs.Reply.{bulk, reply_text}
 use Rattle.reply_layout.specs.declared.need.Need.{Need}
-use Rattle.reply_layout.specs.Layout.{buffers_for}
+use Rattle.reply_layout.specs.Layout.{staging_buffers_for}
 
 abbrev pub need : ℕ → ℕ → Need
 need descriptors stage = record { descriptors = descriptors; stage = stage }
@@ -17,12 +17,12 @@ value_copied = 521
 -- so many values, with a head of so many bytes before them
 abbrev pub values_need : ℕ → ℕ → Need
 values_need values head =
-    let stage = buffers_for (head + value_copied * values) in
+    let stage = staging_buffers_for (head + value_copied * values) in
     need (16 * values + (values + 1) + (stage - 1)) stage
 
 -- so many bytes, all copied
 abbrev pub copied_need : ℕ → Need
-copied_need bytes = need (buffers_for bytes) (buffers_for bytes)
+copied_need bytes = need (staging_buffers_for bytes) (staging_buffers_for bytes)
 
 -- any other reply is a line of at most 512 bytes
 abbrev pub need_of : Command → Need

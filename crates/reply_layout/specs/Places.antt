@@ -14,8 +14,8 @@ abbrev pub copies_of : List ℕ → List Placing → List Seg
 copies_of stage placings = copies_from stage 0 (runs 0 placings)
 
 -- the address of each byte of segments, in order
-abbrev pub addresses_in : List Seg → List ℕ
-addresses_in segments = flat_map (λ (seg : Seg). range_with_len seg.address seg.len) segments
+abbrev pub byte_addresses : List Seg → List ℕ
+byte_addresses segments = flat_map (λ (seg : Seg). range_with_len seg.address seg.len) segments
 
 -- no byte is in two of these staging buffers
 abbrev pub AreDisjoint : List ℕ → Type 0

@@ -2,9 +2,9 @@
 use Rattle.std.specs.Prelude.{◌≡◌, ℕ, zero, suc, ◌+◌, ◌*◌, ◌^◌, ◌<◌, ◌≤◌, List, [], ◌∷◌, length, Option, None, Some}
 use Rattle.flake_model.specs.Deed.{Deed}
 use Rattle.flake_model.specs.Fragments.{fragment_limit}
-use Rattle.flake_model.specs.Store.{value_limit}
+use Rattle.flake_base.specs.Limits.{value_limit}
 use Rattle.flake_model.specs.Reply.{Reply, ok, pong, error, int, bulk, null, array}
-use Rattle.reply_layout.specs.Layout.{Placing, copied, pinned, copied_of, layout_of, buffers_for}
+use Rattle.reply_layout.specs.Layout.{Placing, copied, pinned, copied_of, layout_of, staging_buffers_for}
 use Rattle.reply_layout.specs.declared.need.Need.{Need}
 
 abbrev pub one_if : ℕ → ℕ
@@ -38,9 +38,9 @@ pub record IsPartValue (deed : Deed) (bytes : List ℕ) : Type 0 where
   pub addressed : 0 < length bytes → deed.first + length bytes ≤ fragment_limit * length deed.found
 
 -- a layout takes no more than is asked for
-pub record IsWithin (need : Need) (stage : List ℕ) (placings : List Placing) : Type 0 where
+pub record IsWithinNeed (need : Need) (stage : List ℕ) (placings : List Placing) : Type 0 where
   pub segments : length (layout_of stage placings) ≤ need.descriptors
-  pub buffers : buffers_for (copied_of placings) ≤ need.stage
+  pub buffers : staging_buffers_for (copied_of placings) ≤ need.stage
 
 -- a reply that is one short line, in no stored fragment
 abbrev pub IsLine : Reply → Type 0

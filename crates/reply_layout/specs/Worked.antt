@@ -24,37 +24,37 @@ abbrev key : List ℕ
 key = 107 ∷ []
 
 abbrev did : Operation → Answer → List ℕ → ℕ → Option Deed
-did operation answer found first =
-    Some (deed_at (record { session = 0; call = 1; part = 0 }) operation answer found first [])
+did operation answer found_deed first =
+    Some (deed_at (record { session = 0; call = 1; part = 0 }) operation answer found_deed first [])
 
 -- so many bytes `A`
 abbrev letters : ℕ → List ℕ
 letters n = replicate n 65
 
 -- a GET of so many bytes in the fragments at these addresses
-abbrev found : ℕ → List ℕ → Option Deed
-found n addresses = did (part.get key) (value (letters n)) addresses 0
+abbrev found_deed : ℕ → List ℕ → Option Deed
+found_deed n addresses = did (part.get key) (value (letters n)) addresses 0
 
 abbrev pub rows : List Row
 rows =
-    row 512 (1050112 ∷ 1050624 ∷ []) (get key) (found 511 (1114112 ∷ []) ∷ [])
+    row 512 (1050112 ∷ 1050624 ∷ []) (get key) (found_deed 511 (1114112 ∷ []) ∷ [])
     (segment 1050112 512 ∷ segment 1050624 7 ∷ [])
-    ∷ row 512 (1051136 ∷ []) (get key) (found 512 (1114624 ∷ []) ∷ [])
+    ∷ row 512 (1051136 ∷ []) (get key) (found_deed 512 (1114624 ∷ []) ∷ [])
     (segment 1051136 6 ∷ segment 1114624 512 ∷ segment 1051142 2 ∷ [])
-    ∷ row 512 (1049088 ∷ []) (get key) (found 600 (3145728 ∷ []) ∷ [])
+    ∷ row 512 (1049088 ∷ []) (get key) (found_deed 600 (3145728 ∷ []) ∷ [])
     (segment 1049088 6 ∷ segment 3145728 600 ∷ segment 1049094 2 ∷ [])
     ∷ row 512 (1049088 ∷ []) (mget (key ∷ key ∷ (120 ∷ []) ∷ []))
-    (found 600 (3145728 ∷ []) ∷ found 600 (3145728 ∷ []) ∷ did (part.get (120 ∷ [])) missing [] 0 ∷ [])
+    (found_deed 600 (3145728 ∷ []) ∷ found_deed 600 (3145728 ∷ []) ∷ did (part.get (120 ∷ [])) missing [] 0 ∷ [])
     (segment 1049088 10 ∷ segment 3145728 600 ∷ segment 1049098 8 ∷ segment 3145728 600 ∷ segment 1049106 7 ∷ [])
-    ∷ row 512 (1050112 ∷ []) (get key) (found 4100 (3149824 ∷ 1114112 ∷ []) ∷ [])
+    ∷ row 512 (1050112 ∷ []) (get key) (found_deed 4100 (3149824 ∷ 1114112 ∷ []) ∷ [])
     (segment 1050112 7 ∷ segment 3149824 4096 ∷ segment 1050119 6 ∷ [])
     ∷ row 512 (1049088 ∷ []) (set always true key (letters 1))
     (did (part.set always true key (letters 1)) (value (letters 600)) (3145728 ∷ []) 0 ∷ [])
     (segment 1049088 6 ∷ segment 3145728 600 ∷ segment 1049094 2 ∷ [])
-    ∷ row 512 (1049088 ∷ []) (get key) (found 16385 (3145728 ∷ 3149824 ∷ 3153920 ∷ 3158016 ∷ 1114112 ∷ []) ∷ [])
+    ∷ row 512 (1049088 ∷ []) (get key) (found_deed 16385 (3145728 ∷ 3149824 ∷ 3153920 ∷ 3158016 ∷ 1114112 ∷ []) ∷ [])
     (segment 1049088 8 ∷ segment 3145728 4096 ∷ segment 3149824 4096 ∷ segment 3153920 4096
     ∷ segment 3158016 4096 ∷ segment 1049096 3 ∷ [])
-    ∷ row 1 (1049088 ∷ []) (get key) (found 1 (1114112 ∷ []) ∷ [])
+    ∷ row 1 (1049088 ∷ []) (get key) (found_deed 1 (1114112 ∷ []) ∷ [])
     (segment 1049088 4 ∷ segment 1114112 1 ∷ segment 1049092 2 ∷ [])
     ∷ row 512 (1049088 ∷ []) (get_range key (pos 100) (pos 4999))
     (did (part.get_range key (pos 100) (pos 4999)) (value (letters 4900)) (3145728 ∷ 3149824 ∷ []) 100 ∷ [])

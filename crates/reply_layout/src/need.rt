@@ -72,7 +72,7 @@ impl Need {
 // So many staging buffers have room for so many bytes.
 fn buffers_for(bytes: usize) -> u32
     requires { bytes ≤ 65536 }
-    ensures { result ≡ layout.buffers_for bytes }
+    ensures { result ≡ layout.staging_buffers_for bytes }
 {
     ((bytes + STAGING_BYTES - 1) / STAGING_BYTES) as u32
 }

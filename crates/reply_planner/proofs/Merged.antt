@@ -1,5 +1,6 @@
 -- Buffers that are put in their places among others.
-use Rattle.std.proofs.Common.{◌≡◌, ℕ, zero, suc, ◌+◌, ◌<◌, ◌≤◌, ⊎_elim, List, [], ◌∷◌, ◌++◌, length, drop, cond, sym, refl, ap, ◌∙◌, subst, arith}
+use Rattle.std.proofs.Common.{◌≡◌, ℕ, zero, suc, ◌+◌, ◌<◌, ◌≤◌, ⊎_elim, List, [], ◌∷◌, ◌++◌, length, drop, cond, sym}
+use Rattle.std.proofs.Common.{refl, ap, ◌∙◌, subst, arith}
 use Rattle.std.proofs.lemmas.Bool.{lt-ltb, le-ltb, cases_lt}
 use Rattle.view_sums.specs.Total.{total, same, Each}
 use Rattle.view_sums.proofs.Items.{length-total}
@@ -15,12 +16,16 @@ pub inserted-here : (b c : ℕ) (cs : List ℕ) → b ≤ c → inserted b (c �
 inserted-here b c cs more = ap (λ t. cond t (c ∷ inserted b cs) (b ∷ c ∷ cs)) (le-ltb c b more)
 
 -- behind those that are less
-pub inserted-behind : (b : ℕ) (front back : List ℕ) → Each (λ c. c < b) front → inserted b (front ++ back) ≡ front ++ inserted b back
+pub inserted-behind : (b : ℕ) (front back : List ℕ) → Each (λ c. c < b) front → inserted b (front ++ back) ≡ front
+    ++ inserted b back
 inserted-behind b [] back all = refl
-inserted-behind b (c ∷ front) back all = inserted-on b c (front ++ back) all.0 ∙ ap (λ l. c ∷ l) (inserted-behind b front back all.1)
+inserted-behind b (c ∷ front) back all = inserted-on b c (front ++ back) all.0
+    ∙ ap (λ l. c ∷ l) (inserted-behind b front back all.1)
 
-pub inserted-between : (b c : ℕ) (front back : List ℕ) → Each (λ d. d < b) front → b ≤ c → inserted b (front ++ c ∷ back) ≡ front ++ b ∷ c ∷ back
-inserted-between b c front back all more = inserted-behind b front (c ∷ back) all ∙ ap (λ l. front ++ l) (inserted-here b c back more)
+pub inserted-between : (b c : ℕ) (front back : List ℕ) → Each (λ d. d < b) front → b ≤ c
+    → inserted b (front ++ c ∷ back) ≡ front ++ b ∷ c ∷ back
+inserted-between b c front back all more = inserted-behind b front (c ∷ back) all
+    ∙ ap (λ l. front ++ l) (inserted-here b c back more)
 
 -- one after another
 pub merged-append : (bs ds cs : List ℕ) → merged (bs ++ ds) cs ≡ merged bs (merged ds cs)
@@ -45,7 +50,8 @@ pub length-inserted : (b : ℕ) (cs : List ℕ) → length (inserted b cs) ≡ l
 length-inserted b cs = omega (arith, length-total (inserted b cs), length-total cs, total-inserted (λ _. 1) b cs)
 
 pub length-merged : (bs cs : List ℕ) → length (merged bs cs) ≡ length bs + length cs
-length-merged bs cs = omega (arith, length-total (merged bs cs), length-total bs, length-total cs, total-merged (λ _. 1) bs cs)
+length-merged bs cs =
+    omega (arith, length-total (merged bs cs), length-total bs, length-total cs, total-merged (λ _. 1) bs cs)
 
 pub among-merged : (b : ℕ) (bs cs : List ℕ) → among b (merged bs cs) ≡ among b bs + among b cs
 among-merged b bs cs = total-merged (λ c. same c b) bs cs
@@ -91,7 +97,8 @@ ordered-drop (suc n) [] ordered = tt
 ordered-drop (suc n) (c ∷ cs) ordered = ordered-drop n cs (ordered-rest c cs ordered)
 
 apart : (b c : ℕ) → same c b ≡ 0 → b ≤ c → b < c
-apart b c differ most = ⊎_elim (λ less. less) (λ least. let e : c ≡ b = omega arith in absurd (omega (arith, same-yes c b e))) (cases_lt b c)
+apart b c differ most = ⊎_elim (λ less. less)
+    (λ least. let e : c ≡ b = omega arith in absurd (omega (arith, same-yes c b e))) (cases_lt b c)
 
 -- a buffer that isn't there yet leaves the order
 above-inserted : (a b : ℕ) (cs : List ℕ) → a < b → IsAbove a cs → among b cs ≡ 0 → IsAbove a (inserted b cs)
@@ -119,7 +126,11 @@ rising-merged (b ∷ bs) once =
 
 above-ordered : (a : ℕ) (cs : List ℕ) → IsFrom a cs → ((b : ℕ) → among b (a ∷ cs) ≤ 1) → IsAbove a cs
 above-ordered a [] ordered once = tt
-above-ordered a (c ∷ cs) ordered once = (apart a c (omega (arith, once a, same-yes a a refl)) ordered.0, above-ordered c cs ordered.1 (λ b. omega (arith, once b)))
+above-ordered a (c ∷ cs) ordered once = (
+  apart a c (omega (arith, once a, same-yes a a refl)) ordered.0,
+  above-ordered c cs ordered.1
+      (λ b. omega (arith, once b)),
+)
 
 -- in order, and each once: they rise
 pub rising-ordered : (cs : List ℕ) → IsOrdered cs → ((b : ℕ) → among b cs ≤ 1) → IsRising cs

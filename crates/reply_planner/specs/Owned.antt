@@ -4,7 +4,7 @@ use Rattle.view_sums.specs.Total.{total}
 use Rattle.pin_core.specs.Holding.{Holding, Key, fresh}
 use Rattle.pin_core.specs.declared.sizes.Sizes.{Sizes}
 use Rattle.pinned_pool.specs.Views.{among}
-use Rattle.pinned_pool.specs.Moves.{key_of, loose_key}
+use Rattle.pinned_pool.specs.Moves.{hold_key, loose_key}
 use Rattle.pinned_pool.specs.declared.view.View.{View}
 
 -- 1 for an exclusive hold of the buffer that isn't pinned
@@ -28,15 +28,15 @@ keys_for bs = map loose_key bs
 abbrev pub fresh_all : List ℕ → List Holding
 fresh_all bs = map fresh bs
 
-abbrev pub buffers_of : List Key → List ℕ
-buffers_of ks = map (λ (k : Key). k.buffer) ks
+abbrev pub key_buffers : List Key → List ℕ
+key_buffers ks = map (λ (k : Key). k.buffer) ks
 
 -- a hold of a small buffer, not pinned
 abbrev pub IsStaging : Sizes → Key → Type 0
 IsStaging z k = (k.buffer < z.small) × (k ≡ loose_key k.buffer)
 
 -- a seat that did nothing but take holds
-pub record IsIdle (v : View) : Type 0 where
+pub record OnlyTookHolds (v : View) : Type 0 where
   pub claims : v.claims ≡ []
   pub looks : v.looks ≡ []
   pub returns : v.returns ≡ 0
@@ -45,5 +45,5 @@ pub record IsIdle (v : View) : Type 0 where
 -- these holds, and behind them exclusive ones of these buffers
 pub record HasParts (keys : List Key) (staged : List ℕ) (hs : List Holding) : Type 0 where
   pub front : List Holding
-  pub keys_are : map key_of front ≡ keys
+  pub keys_are : map hold_key front ≡ keys
   pub parts : bare_all hs ≡ bare_all front ++ fresh_all staged

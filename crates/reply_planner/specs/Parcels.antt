@@ -4,14 +4,14 @@ use Rattle.std.specs.List.{slice_get}
 use Rattle.view_sums.specs.Total.{total, Each}
 use Rattle.pin_core.specs.Holding.{Holding, Key}
 use Rattle.pin_core.specs.declared.sizes.Sizes.{Sizes}
-use Rattle.pinned_pool.specs.Moves.{left_by}
+use Rattle.pinned_pool.specs.Moves.{without_keys}
 use Rattle.pinned_pool.specs.declared.view.View.{View}
 use Rattle.frag_value.specs.Fragments.{frag_limit}
 use Rattle.flake_base.specs.declared.segment.Seg.{Seg}
 use Rattle.reply_layout.specs.Gathered.{read_all}
 use Rattle.reply_layout.specs.Layout.{copied_address, staging_limit}
-use Rattle.reply_planner.specs.Places.{place_of, reading, addresses_of, IsReadable}
-use Rattle.reply_planner.specs.Owned.{bare_all, keys_for, fresh_all, buffers_of, IsStaging, HasParts, IsIdle}
+use Rattle.reply_planner.specs.Places.{place_of, reading, buffer_addresses, IsReadable}
+use Rattle.reply_planner.specs.Owned.{bare_all, keys_for, fresh_all, key_buffers, IsStaging, HasParts, OnlyTookHolds}
 
 -- how many of the keys are of pinned holds
 abbrev pub pinned_keys : List Key → ℕ
@@ -31,7 +31,7 @@ pub record Sent : Type 0 where
 
 -- the addresses of its staging buffers
 abbrev pub lent : Sizes → Sent → List ℕ
-lent z p = addresses_of z p.staged
+lent z p = buffer_addresses z p.staged
 
 -- its segments' bytes, joined, are its text
 abbrev pub sent : Sizes → List Seg → ℕ → List Key → List Key → List Holding → Sent
@@ -39,7 +39,7 @@ sent z segments call pins staged hs = record {
   segments = segments;
   text = read_all (reading z hs) segments;
   call = call;
-  staged = buffers_of staged;
+  staged = key_buffers staged;
   pinned = length pins;
   paid = pinned_keys pins;
   holds = hs;
@@ -50,10 +50,10 @@ pub record IsParcelOf (z : Sizes) (segments : List Seg) (pins staged : List Key)
   pub some : 0 < length segments
   pub few : length segments < 2 ^ 32
   pub readable : Each (IsReadable z seat.holds) segments
-  pub parts : HasParts pins (buffers_of staged) seat.holds
+  pub parts : HasParts pins (key_buffers staged) seat.holds
   pub staging : Each (IsStaging z) staged
   pub credit : seat.credits ≡ 1
-  pub idle : IsIdle seat
+  pub idle : OnlyTookHolds seat
 
 -- what is true of every parcel
 pub record IsSent (z : Sizes) (p : Sent) : Type 0 where
@@ -88,11 +88,11 @@ pub record IsCopied (stage : List ℕ) (bytes : ℕ) (seg : Seg) : Type 0 where
 
 -- the segment lies in a fragment that is held, or in a staging buffer
 abbrev pub IsLaid : Sizes → List Holding → List ℕ → ℕ → Seg → Type 0
-IsLaid z hs stage bytes seg = IsReadable z hs seg ⊎ IsCopied (addresses_of z stage) bytes seg
+IsLaid z hs stage bytes seg = IsReadable z hs seg ⊎ IsCopied (buffer_addresses z stage) bytes seg
 
 -- what a seat is left with, once staging buffers and a credit went to a parcel
 pub record Hands (staged : List ℕ) (own : View) (old new : View) : Type 0 where
-  pub holds : bare_all new.holds ≡ left_by (keys_for staged) (bare_all old.holds)
+  pub holds : bare_all new.holds ≡ without_keys (keys_for staged) (bare_all old.holds)
   pub credits : new.credits + 1 ≡ old.credits + own.credits
   pub claims : new.claims ≡ old.claims
   pub looks : new.looks ≡ old.looks
@@ -101,7 +101,7 @@ pub record Hands (staged : List ℕ) (own : View) (old new : View) : Type 0 wher
 
 -- these holds were given back, so many of them the last of their buffers
 pub record Unpins (keys : List Key) (n : ℕ) (old new : View) : Type 0 where
-  pub holds : new.holds ≡ left_by keys old.holds
+  pub holds : new.holds ≡ without_keys keys old.holds
   pub credits : new.credits ≡ old.credits + pinned_keys keys
   pub claims : new.claims ≡ old.claims
   pub looks : new.looks ≡ old.looks

@@ -5,7 +5,7 @@ use Rattle.view_sums.specs.Total.{total}
 use Rattle.pin_core.specs.Holding.{Holding, at}
 use Rattle.pin_core.specs.declared.sizes.Sizes.{Sizes}
 use Rattle.pinned_pool.specs.Addresses.{address_of, Covers}
-use Rattle.pinned_pool.specs.Bytes.{bytes_of}
+use Rattle.pinned_pool.specs.Bytes.{bytes_of_words}
 use Rattle.pinned_pool.specs.Moves.{front_of}
 use Rattle.flake_base.specs.declared.segment.Seg.{Seg}
 use Rattle.reply_layout.specs.Gathered.{Reading}
@@ -18,15 +18,15 @@ place_of z address =
     else (z.small + (place - 512 * z.small) / 4096, (place - 512 * z.small) % 4096)
 
 -- n bytes of a buffer from an offset on, in the front that these holds have of it
-abbrev pub bytes_in : List Holding → ℕ → ℕ → ℕ → List ℕ
-bytes_in hs b offset n = take n (drop offset (bytes_of (front_of b hs)))
+abbrev pub buffer_bytes : List Holding → ℕ → ℕ → ℕ → List ℕ
+buffer_bytes hs b offset n = take n (drop offset (bytes_of_words (front_of b hs)))
 
 -- the bytes at an address, read under these holds
 abbrev pub reading : Sizes → List Holding → Reading
-reading z hs address n = bytes_in hs (place_of z address).0 (place_of z address).1 n
+reading z hs address n = buffer_bytes hs (place_of z address).0 (place_of z address).1 n
 
-abbrev pub addresses_of : Sizes → List ℕ → List ℕ
-addresses_of z bs = map (address_of z) bs
+abbrev pub buffer_addresses : Sizes → List ℕ → List ℕ
+buffer_addresses z bs = map (address_of z) bs
 
 -- n bytes at the address lie in the front of a buffer that is held
 pub record IsHeld (z : Sizes) (hs : List Holding) (address n : ℕ) : Type 0 where

@@ -2,7 +2,7 @@
 use Rattle.std.specs.Prelude.{ℕ, ◌+◌, ◌-◌, ◌*◌, ◌/◌, List, min, nat_le, if◌then◌else◌, Option, None}
 use Rattle.std.specs.Prelude.{Some, length}
 use Rattle.view_sums.specs.Total.{total}
-use Rattle.frag_value.specs.Taken.{Placed, Extent, entire, ranged, Begun, Piece, copied, whole}
+use Rattle.frag_value.specs.Taken.{PlacedRun, Extent, entire, ranged, Begun, TakenPiece, copied, whole}
 use Rattle.reply_layout.specs.Layout.{placings_of, pinned_of, staging_limit}
 use Rattle.reply_layout.specs.Gathered.{copied_text}
 use Rattle.reply_planner.specs.Laid.{pieces_so_far}
@@ -10,23 +10,23 @@ use Rattle.reply_planner.specs.declared.terms.Terms.{Terms}
 
 pub record Planned : Type 0 where
   pub base : Terms
-  pub taken : List Piece
+  pub taken : List TakenPiece
   pub begun : Option Begun
 
 abbrev pub terms : ℕ → List ℕ → ℕ → Terms
 terms descriptors stage threshold = record { descriptors = descriptors; stage = stage; threshold = threshold }
 
-abbrev pub planned : Terms → List Piece → Option Begun → Planned
+abbrev pub planned : Terms → List TakenPiece → Option Begun → Planned
 planned base taken begun = record { base = base; taken = taken; begun = begun }
 
 -- the bytes of a run that is copied; 1 for a run that isn't, and for one that takes a credit
-abbrev pub short_of : ℕ → Placed → ℕ
+abbrev pub short_of : ℕ → PlacedRun → ℕ
 short_of threshold f = if nat_le threshold (length f.bytes) then 0 else length f.bytes
 
-abbrev pub long_of : ℕ → Placed → ℕ
+abbrev pub long_of : ℕ → PlacedRun → ℕ
 long_of threshold f = if nat_le threshold (length f.bytes) then 1 else 0
 
-abbrev pub paid_of : ℕ → Placed → ℕ
+abbrev pub paid_of : ℕ → PlacedRun → ℕ
 paid_of threshold f = if f.over then 0 else long_of threshold f
 
 -- Of a value that is taken whole one short fragment and the line end may still come, of a range two short ones. At most
@@ -44,7 +44,7 @@ pins_aside threshold None = 0
 pins_aside threshold (Some b) = 16 - total (long_of threshold) b.frags
 
 -- how many values were taken or begun
-abbrev pub one_value : Piece → ℕ
+abbrev pub one_value : TakenPiece → ℕ
 one_value (copied bytes) = 0
 one_value (whole b) = 1
 
@@ -63,7 +63,7 @@ abbrev pub pinned_in : Planned → ℕ
 pinned_in p = pinned_of (placings_of p.base.threshold (pieces_so_far p.taken p.begun))
 
 -- and how many of these took a credit
-abbrev pub paid_by : ℕ → Piece → ℕ
+abbrev pub paid_by : ℕ → TakenPiece → ℕ
 paid_by threshold (copied bytes) = 0
 paid_by threshold (whole b) = total (paid_of threshold) b.frags
 

@@ -5,33 +5,34 @@ use Rattle.std.specs.List.{AllByRecursion}
 use Rattle.view_sums.specs.Total.{total, Each}
 use Rattle.pin_core.specs.Holding.{Holding, Key}
 use Rattle.pin_core.specs.declared.sizes.Sizes.{Sizes}
-use Rattle.pinned_pool.specs.Moves.{key_of}
+use Rattle.pinned_pool.specs.Moves.{hold_key}
 use Rattle.pinned_pool.specs.declared.view.View.{View}
 use Rattle.flake_base.specs.declared.segment.Seg.{Seg}
-use Rattle.frag_value.specs.Taken.{Placed, Begun}
-use Rattle.frag_value.specs.Fragments.{value_limit, frags_limit}
+use Rattle.frag_value.specs.Taken.{PlacedRun, Begun}
+use Rattle.frag_value.specs.Fragments.{frags_limit}
+use Rattle.flake_base.specs.Limits.{value_limit}
 use Rattle.reply_layout.specs.Pieces.{Piece, plain, stored}
 use Rattle.reply_layout.specs.Layout.{Placing, placings_of, layout_of, segments_from, runs, staging_limit}
 use Rattle.reply_layout.specs.Gathered.{copied_text}
-use Rattle.reply_planner.specs.Owned.{IsIdle, IsStaging}
+use Rattle.reply_planner.specs.Owned.{OnlyTookHolds, IsStaging}
 use Rattle.reply_planner.specs.Parcels as parcel
-use Rattle.reply_planner.specs.Places.{reading, addresses_of, IsHeld}
+use Rattle.reply_planner.specs.Places.{reading, buffer_addresses, IsHeld}
 use Rattle.reply_planner.specs.Laid.{pieces_so_far}
 use Rattle.reply_planner.specs.Planned.{Planned, one_value, short_of, long_of, copied_of_extent, bytes_aside}
 use Rattle.reply_planner.specs.Planned.{pins_aside, values_in, pinned_in, paid_in}
 
 -- bytes that these holds keep at an address
-pub record IsAt (z : Sizes) (hs : List Holding) (address : ℕ) (bytes : List ℕ) : Type 0 where
+pub record LiesAt (z : Sizes) (hs : List Holding) (address : ℕ) (bytes : List ℕ) : Type 0 where
   pub held : IsHeld z hs address (length bytes)
   pub bytes_are : reading z hs address (length bytes) ≡ bytes
 
 -- a piece that stays is kept
-abbrev pub IsKept : Sizes → ℕ → List Holding → Piece → Type 0
-IsKept z threshold hs (plain bytes) = Unit {0}
-IsKept z threshold hs (stored address bytes) = nat_le threshold (length bytes) ≡ true → IsAt z hs address bytes
+abbrev pub StaysReadable : Sizes → ℕ → List Holding → Piece → Type 0
+StaysReadable z threshold hs (plain bytes) = Unit {0}
+StaysReadable z threshold hs (stored address bytes) = nat_le threshold (length bytes) ≡ true → LiesAt z hs address bytes
 
 -- whether the last run stays
-abbrev pub ends_long : ℕ → List Placed → Bool
+abbrev pub ends_long : ℕ → List PlacedRun → Bool
 ends_long threshold [] = false
 ends_long threshold (f ∷ []) = nat_le threshold (length f.bytes)
 ends_long threshold (f ∷ g ∷ fs) = ends_long threshold (g ∷ fs)
@@ -62,9 +63,9 @@ pub record Lies (z : Sizes) (threshold : ℕ) (stage : List ℕ) (pieces : List 
   pub text_is : text ≡ copied_text threshold pieces
   pub run_is : run ≤ length text
   -- whatever may still come
-  pub laid : (rest : List Placing) → layout_of (addresses_of z stage) (placings_of threshold pieces ++ rest)
-      ≡ segments ++ segments_from (addresses_of z stage) run (runs (length text - run) rest)
-  pub kept : AllByRecursion (IsKept z threshold hs) pieces
+  pub laid : (rest : List Placing) → layout_of (buffer_addresses z stage) (placings_of threshold pieces ++ rest)
+      ≡ segments ++ segments_from (buffer_addresses z stage) run (runs (length text - run) rest)
+  pub kept : AllByRecursion (StaysReadable z threshold hs) pieces
 
 -- the need is enough for what was taken and for what was begun; so many bytes were copied, the first of them in so many
 -- segments
@@ -79,12 +80,12 @@ pub record Fits (p : Planned) (text run segments : ℕ) : Type 0 where
 
 -- the plan's seat has a hold for each run that stays
 pub record Has (p : Planned) (pins : List Key) (paid : ℕ) (seat : View) : Type 0 where
-  pub keys : map key_of seat.holds ≡ pins
+  pub keys : map hold_key seat.holds ≡ pins
   pub pins_are : length pins ≡ pinned_in p
   pub paid_are : parcel.pinned_keys pins ≡ paid_in p
   pub paid_is : paid ≡ paid_in p
   pub credits : seat.credits + paid ≡ p.base.descriptors + 3
-  pub idle : IsIdle seat
+  pub idle : OnlyTookHolds seat
 
 pub record IsPlan (z : Sizes) (p : Planned) (text : List ℕ) (segments : List Seg) (pins staged : List Key)
     (run paid : ℕ) (seat : View) : Type 0 where

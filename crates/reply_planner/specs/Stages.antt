@@ -6,10 +6,10 @@ use Rattle.pin_core.specs.Holding.{Holding, Key, at}
 use Rattle.pin_core.specs.declared.class.Class.TheVariants.{Small}
 use Rattle.pin_core.specs.declared.sizes.Sizes.{Sizes}
 use Rattle.pinned_pool.specs.Claimed.{with_claimed, KeepsCredits, NoneFree}
-use Rattle.pinned_pool.specs.Moves.{left_by}
+use Rattle.pinned_pool.specs.Moves.{without_keys}
 use Rattle.pinned_pool.specs.declared.pool.NoBuffer.{NoBuffer}
 use Rattle.pinned_pool.specs.declared.view.View.{View}
-use Rattle.reply_planner.specs.Owned.{AreOwn, IsStaging, keys_for, buffers_of}
+use Rattle.reply_planner.specs.Owned.{AreOwn, IsStaging, keys_for, key_buffers}
 use Rattle.reply_planner.specs.declared.error.OpenError.{OpenError}
 
 abbrev pub stage_size : ℕ
@@ -25,11 +25,11 @@ IsOrdered [] = Unit {0}
 IsOrdered (b ∷ bs) = IsFrom b bs
 
 -- a stage's holds, which lie in descending order, and how many there is room for
-pub record IsStage (z : Sizes) (holds : List Key) (capacity : ℕ) : Type 0 where
+pub record IsStageHeld (z : Sizes) (holds : List Key) (capacity : ℕ) : Type 0 where
   pub staging : Each (IsStaging z) holds
   pub room : stage_size ≤ capacity
   pub few : length holds ≤ stage_size
-  pub ordered : IsOrdered (buffers_of (reverse holds))
+  pub ordered : IsOrdered (key_buffers (reverse holds))
 
 -- the lists of no reply
 abbrev pub AreEmpty : List ℕ → List Seg → List Key → List Key → Type 0
@@ -55,7 +55,7 @@ merged [] cs = cs
 merged (b ∷ bs) cs = inserted b (merged bs cs)
 
 -- the seat claimed small buffers for a stage
-pub record IsOpened (z : Sizes) (stage : List ℕ) (old new : View) : Type 0 where
+pub record IsStageOpened (z : Sizes) (stage : List ℕ) (old new : View) : Type 0 where
   pub count : length stage ≡ stage_size
   pub rising : IsRising stage
   pub small : Each (λ b. b < z.small) stage
@@ -66,7 +66,7 @@ pub record IsOpened (z : Sizes) (stage : List ℕ) (old new : View) : Type 0 whe
   pub lasts : new.lasts ≡ old.lasts
 
 -- or it found all small buffers held, and has what it had
-pub record IsRefused (z : Sizes) (none : NoBuffer) (old new : View) : Type 0 where
+pub record StageRefused (z : Sizes) (none : NoBuffer) (old new : View) : Type 0 where
   pub class_is : none.class ≡ Small
   pub none_free : NoneFree z none old new
   pub holds : new.holds ≡ old.holds
@@ -74,21 +74,21 @@ pub record IsRefused (z : Sizes) (none : NoBuffer) (old new : View) : Type 0 whe
 
 -- why a stage isn't opened
 abbrev pub WhyUnopened : Sizes → OpenError → View → View → Type 0
-WhyUnopened z (OpenError.NoBuffer none) old new = IsRefused z none old new
+WhyUnopened z (OpenError.NoBuffer none) old new = StageRefused z none old new
 WhyUnopened z OpenError.Memory old new = new ≡ old
 
 abbrev pub no_memory : OpenError
 no_memory = OpenError.Memory
 
 -- how many requests found no buffer
-abbrev pub found_none : {A : Type 0} → Result A OpenError → ℕ
-found_none (Ok a) = 0
-found_none (Err (OpenError.NoBuffer none)) = 1
-found_none (Err OpenError.Memory) = 0
+abbrev pub stage_found_none : {A : Type 0} → Result A OpenError → ℕ
+stage_found_none (Ok a) = 0
+stage_found_none (Err (OpenError.NoBuffer none)) = 1
+stage_found_none (Err OpenError.Memory) = 0
 
 -- all holds of a stage were given back
 pub record IsClosed (stage : List ℕ) (old new : View) : Type 0 where
-  pub holds : new.holds ≡ left_by (keys_for stage) old.holds
+  pub holds : new.holds ≡ without_keys (keys_for stage) old.holds
   pub credits : new.credits ≡ old.credits
   pub claims : new.claims ≡ old.claims
   pub looks : new.looks ≡ old.looks

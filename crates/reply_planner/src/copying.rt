@@ -4,7 +4,7 @@ ghost use Rattle.view_sums.specs.Total.{total};
 ghost use Rattle.pin_core.specs.Holding.{at};
 ghost use Rattle.pinned_pool.specs.Moves.{front_of};
 ghost use Rattle.flake_model.specs.Resp.{crlf};
-ghost use Rattle.reply_planner.specs.Places.{bytes_in};
+ghost use Rattle.reply_planner.specs.Places.{buffer_bytes};
 ghost use Rattle.reply_planner.specs.Laid.{head_text};
 
 use pinned_pool::{Pool, PoolName, PoolSeat};
@@ -56,7 +56,7 @@ fn append_loaded<N: PoolName>(
     requires inside { from + length room.old ≤ 8 * length (front_of buffer owner.old.holds) }
     requires room { length text.old.items + length room.old ≤ vec_capacity text.old }
     ensures owner { owner.new ≡ owner.old }
-    ensures items { text.new.items ≡ text.old.items ++ bytes_in owner.old.holds buffer from (length room.old) }
+    ensures items { text.new.items ≡ text.old.items ++ buffer_bytes owner.old.holds buffer from (length room.old) }
     ensures capacity { vec_capacity text.old ≤ vec_capacity text.new }
 {
     pool.load_bytes(owner, buffer, from, room);
@@ -80,7 +80,7 @@ pub(crate) fn append_run<N: PoolName>(
     requires short { len < 512 }
     requires room { length text.old.items + len ≤ vec_capacity text.old }
     ensures owner { owner.new ≡ owner.old }
-    ensures items { text.new.items ≡ text.old.items ++ bytes_in owner.old.holds buffer from len }
+    ensures items { text.new.items ≡ text.old.items ++ buffer_bytes owner.old.holds buffer from len }
     ensures capacity { vec_capacity text.old ≤ vec_capacity text.new }
 {
     let count = len as usize;

@@ -1,6 +1,6 @@
 ghost use Rattle.std.specs.Prelude.{◌≡◌, ◌*◌, ◌<◌, ◌≤◌, length};
 ghost use Rattle.view_sums.specs.Total.{Each};
-ghost use Rattle.reply_planner.specs.Owned.{AreOwn, IsStaging, bare_all, buffers_of};
+ghost use Rattle.reply_planner.specs.Owned.{AreOwn, IsStaging, bare_all, key_buffers};
 ghost use Rattle.reply_planner.specs.Filled.{IsFilledWith};
 
 use pinned_pool::{Hold, Pool, PoolName, PoolSeat};
@@ -13,9 +13,9 @@ pub(crate) fn fill<N: PoolName>(
     text: &[u8],
 )
     requires staging { Each (IsStaging N.sizes) staged.now }
-    requires own { AreOwn seat.old.holds (buffers_of staged.now) }
+    requires own { AreOwn seat.old.holds (key_buffers staged.now) }
     requires fits { length text.now ≤ 512 * length staged.now }
-    ensures filled { IsFilledWith text.now (buffers_of staged.now) seat.old seat.new }
+    ensures filled { IsFilledWith text.now (key_buffers staged.now) seat.old seat.new }
 {
     seat.is_seat();
     let used = text.len().div_ceil(512);

@@ -1,8 +1,8 @@
 //! Segments, as they are laid out.
 ghost use Rattle.std.specs.Prelude.{◌≡◌, ◌+◌, ◌-◌, ◌*◌, ◌/◌, ◌≤◌, ◌++◌, length, vec_capacity};
 ghost use Rattle.reply_layout.specs.Layout.{cut};
-ghost use Rattle.reply_planner.specs.Owned.{buffers_of};
-ghost use Rattle.reply_planner.specs.Places.{addresses_of};
+ghost use Rattle.reply_planner.specs.Owned.{key_buffers};
+ghost use Rattle.reply_planner.specs.Places.{buffer_addresses};
 
 use flake_base::Seg;
 use pinned_pool::{Hold, Pool, PoolName};
@@ -20,7 +20,7 @@ pub(crate) fn lay_run<N: PoolName>(
     requires staged { to ≤ 512 * length staged.now }
     requires room { length segments.old.items + (to + 511) / 512 ≤ vec_capacity segments.old + from / 512 }
     ensures items { segments.new.items ≡ segments.old.items
-        ++ cut (addresses_of N.sizes (buffers_of staged.now)) (to - from) from (to - from) }
+        ++ cut (buffer_addresses N.sizes (key_buffers staged.now)) (to - from) from (to - from) }
     ensures count { length segments.new.items + from / 512 ≤ length segments.old.items + (to + 511) / 512 }
     ensures capacity { vec_capacity segments.new ≡ vec_capacity segments.old }
 {

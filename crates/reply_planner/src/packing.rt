@@ -1,12 +1,12 @@
 //! A reply's lists become a parcel.
 ghost use Rattle.std.specs.Prelude.{◌≡◌, ◌+◌, ◌*◌, ◌^◌, ◌<◌, ◌≤◌, ◌++◌, ℕ, length, take, drop, map};
 ghost use Rattle.view_sums.specs.Total.{Each};
-ghost use Rattle.pinned_pool.specs.Moves.{key_of};
+ghost use Rattle.pinned_pool.specs.Moves.{hold_key};
 ghost use Rattle.reply_layout.specs.Gathered.{IsStaged, read_all};
-ghost use Rattle.reply_layout.specs.Layout.{buffers_for};
-ghost use Rattle.reply_planner.specs.Owned.{AreOwn, IsStaging, IsIdle, buffers_of};
+ghost use Rattle.reply_layout.specs.Layout.{staging_buffers_for};
+ghost use Rattle.reply_planner.specs.Owned.{AreOwn, IsStaging, OnlyTookHolds, key_buffers};
 ghost use Rattle.reply_planner.specs.Parcels.{pinned_keys, IsLaid, Hands};
-ghost use Rattle.reply_planner.specs.Places.{reading, addresses_of, IsHeld};
+ghost use Rattle.reply_planner.specs.Places.{reading, buffer_addresses, IsHeld};
 ghost use Rattle.reply_planner.specs.Stages.{stage_size, merged};
 
 use crate::filling::fill;
@@ -20,7 +20,7 @@ fn keep_used<N: PoolName>(stage: &mut Stage<N>, lists: &mut Lists<N>, used: usiz
     requires staging { Each (IsStaging N.sizes) lists.old.staged.items }
     requires room { length stage.old + length lists.old.staged.items ≤ stage_size }
     ensures used { lists.new.staged.items ≡ take used lists.old.staged.items }
-    ensures rest { stage.new ≡ merged (drop used (buffers_of lists.old.staged.items)) stage.old }
+    ensures rest { stage.new ≡ merged (drop used (key_buffers lists.old.staged.items)) stage.old }
     ensures same { (lists.new.text ≡ lists.old.text) × (lists.new.segments ≡ lists.old.segments)
         × (lists.new.pins ≡ lists.old.pins) }
 {
@@ -47,26 +47,27 @@ pub(crate) fn pack<N: PoolName>(
         × (length lists.value.text.items ≤ 512 * length lists.value.staged.items) }
     requires staging { Each (IsStaging N.sizes) lists.value.staged.items }
     requires room { length stage.old + length lists.value.staged.items ≤ stage_size }
-    requires buffers { AreOwn seat.old.holds (stage.old ++ buffers_of lists.value.staged.items) }
-    requires pins { map key_of own.holds ≡ lists.value.pins.items }
-    requires own { (0 < credits) × (own.credits ≡ credits + 1) × IsIdle own }
+    requires buffers { AreOwn seat.old.holds (stage.old ++ key_buffers lists.value.staged.items) }
+    requires pins { map hold_key own.holds ≡ lists.value.pins.items }
+    requires own { (0 < credits) × (own.credits ≡ credits + 1) × OnlyTookHolds own }
     requires some { (0 < length lists.value.segments.items) × (length lists.value.segments.items < 2 ^ 32) }
     requires laid { Each
-        (IsLaid N.sizes own.holds (buffers_of lists.value.staged.items) (length lists.value.text.items))
+        (IsLaid N.sizes own.holds (key_buffers lists.value.staged.items) (length lists.value.text.items))
         lists.value.segments.items }
     ensures segments { result.segments ≡ lists.value.segments.items }
     ensures text { result.text ≡ read_all (reading N.sizes result.holds) result.segments }
     ensures call { result.call ≡ call }
     ensures staged { result.staged
-        ≡ take (buffers_for (length lists.value.text.items)) (buffers_of lists.value.staged.items) }
+        ≡ take (staging_buffers_for (length lists.value.text.items)) (key_buffers lists.value.staged.items) }
     ensures pinned { (result.pinned ≡ length lists.value.pins.items)
         × (result.paid ≡ pinned_keys lists.value.pins.items) }
     ensures copied { IsStaged (reading N.sizes result.holds)
-        (addresses_of N.sizes (buffers_of lists.value.staged.items)) lists.value.text.items }
+        (buffer_addresses N.sizes (key_buffers lists.value.staged.items)) lists.value.text.items }
     ensures kept { (address n : ℕ) → IsHeld N.sizes own.holds address n
         → reading N.sizes result.holds address n ≡ reading N.sizes own.holds address n }
     ensures stage { stage.new
-        ≡ merged (drop (buffers_for (length lists.value.text.items)) (buffers_of lists.value.staged.items)) stage.old }
+        ≡ merged (drop (staging_buffers_for (length lists.value.text.items)) (key_buffers lists.value.staged.items))
+        stage.old }
     ensures hands { Hands result.staged own seat.old seat.new }
     ensures left { AreOwn seat.new.holds stage.new }
 {

@@ -1,7 +1,7 @@
 ghost use Rattle.std.specs.Prelude.{◌≡◌, ◌<◌, length, slice_get, slice_index, Some};
 ghost use Rattle.pinned_pool.specs.Moves.{front_of};
 ghost use Rattle.reply_planner.specs.Parcels.{HasBytes, HasWord, IsSent};
-ghost use Rattle.reply_planner.specs.Places.{bytes_in};
+ghost use Rattle.reply_planner.specs.Places.{buffer_bytes};
 
 use crate::lists::Lists;
 use flake_base::Seg;
@@ -83,7 +83,7 @@ impl<N: PoolName> Parcel<N> {
     pub fn load_bytes(&mut self, pool: &Pool<N>, buffer: u32, from: u32, room: &mut [u8])
         requires { HasBytes N.sizes self.old.segments buffer from (length room.old) }
         ensures same { self.new ≡ self.old }
-        ensures bytes { room.new ≡ bytes_in self.old.holds buffer from (length room.old) }
+        ensures bytes { room.new ≡ buffer_bytes self.old.holds buffer from (length room.old) }
     {
         pool.load_bytes(&mut self.seat, buffer, from, room);
     }

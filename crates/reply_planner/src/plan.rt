@@ -32,18 +32,18 @@ pub struct Plan<'a, N: PoolName> {
 
 impl<'a, N: PoolName> Model for Plan<'a, N> {
     ghost use Rattle.std.specs.Prelude.{◌*◌, ◌≤◌, length, vec_capacity};
-    ghost use Rattle.reply_planner.specs.Owned.{buffers_of};
+    ghost use Rattle.reply_planner.specs.Owned.{key_buffers};
     ghost use Rattle.reply_planner.specs.Told.{told};
     ghost use Rattle.reply_planner.specs.Planned.{Planned, terms, planned};
     ghost use Rattle.reply_planner.specs.Plans.{IsPlan, HasRoom};
 
     ghost Value = { Planned };
 
-    ghost view = { λ p. planned (terms p.need.descriptors (buffers_of p.lists.value.staged.items) p.threshold)
+    ghost view = { λ p. planned (terms p.need.descriptors (key_buffers p.lists.value.staged.items) p.threshold)
         (told N.sizes p.history).taken (told N.sizes p.history).begun };
 
     ghost invariant = { λ p. IsPlan N.sizes
-        (planned (terms p.need.descriptors (buffers_of p.lists.value.staged.items) p.threshold)
+        (planned (terms p.need.descriptors (key_buffers p.lists.value.staged.items) p.threshold)
         (told N.sizes p.history).taken (told N.sizes p.history).begun)
         p.lists.value.text.items p.lists.value.segments.items p.lists.value.pins.items p.lists.value.staged.items
         p.run p.paid p.seat

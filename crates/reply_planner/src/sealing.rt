@@ -1,6 +1,6 @@
 //! A plan becomes a parcel, or is given up.
 ghost use Rattle.std.specs.Prelude.{◌≡◌, ◌+◌, ◌<◌, ◌≤◌, ◌++◌, length, drop, None};
-ghost use Rattle.reply_layout.specs.Gathered.{text_of};
+ghost use Rattle.reply_layout.specs.Gathered.{text_of_pieces};
 ghost use Rattle.reply_planner.specs.Owned.{AreOwn};
 ghost use Rattle.reply_planner.specs.Stages.{stage_size, merged};
 ghost use Rattle.reply_planner.specs.Laid.{pieces_in};
@@ -19,7 +19,7 @@ impl<'a, N: PoolName> Plan<'a, N> {
     /// plan goes back to the seat and to the stage.
     pub fn seal(self, seat: &mut PoolSeat<N>, stage: &mut Stage<N>, call: u32) -> Parcel<N>
         requires done { self.begun ≡ None }
-        requires some { 0 < length (text_of (pieces_in self.taken)) }
+        requires some { 0 < length (text_of_pieces (pieces_in self.taken)) }
         requires room { length stage.old + length self.base.stage ≤ stage_size }
         requires own { AreOwn seat.old.holds (stage.old ++ self.base.stage) }
         ensures parcel { IsSealed N.sizes self.entry call result }

@@ -20,16 +20,16 @@ ghost use Rattle.view_sums.specs.Total.{Each};
 ghost use Rattle.pin_core.specs.declared.class.Class.TheVariants.{Small};
 ghost use Rattle.pinned_pool.specs.Classes.{just};
 ghost use Rattle.pinned_pool.specs.Sought.{Sought};
-ghost use Rattle.reply_planner.specs.Owned.{AreOwn, IsStaging, keys_for, buffers_of};
+ghost use Rattle.reply_planner.specs.Owned.{AreOwn, IsStaging, keys_for, key_buffers};
 ghost use Rattle.reply_planner.specs.Stages.{
   stage_size,
   IsOrdered,
   inserted,
   merged,
-  IsOpened,
+  IsStageOpened,
   WhyUnopened,
   IsClosed,
-  found_none,
+  stage_found_none,
 };
 
 use crate::error::OpenError;
@@ -73,14 +73,14 @@ fn insert_reserved<N: PoolName>(list: &mut Vec<Hold<N>>, place: usize, hold: Hol
 
 impl<N: PoolName> Model for Stage<N> {
     ghost use Rattle.std.specs.Prelude.{ℕ, List, reverse, vec_capacity};
-    ghost use Rattle.reply_planner.specs.Owned.{buffers_of};
-    ghost use Rattle.reply_planner.specs.Stages.{IsStage};
+    ghost use Rattle.reply_planner.specs.Owned.{key_buffers};
+    ghost use Rattle.reply_planner.specs.Stages.{IsStageHeld};
 
     ghost Value = { List ℕ };
 
-    ghost view = { λ s. buffers_of (reverse s.free.items) };
+    ghost view = { λ s. key_buffers (reverse s.free.items) };
 
-    ghost invariant = { λ s. IsStage N.sizes s.free.items (vec_capacity s.free) };
+    ghost invariant = { λ s. IsStageHeld N.sizes s.free.items (vec_capacity s.free) };
 }
 
 impl<N: PoolName> Stage<N> {
@@ -90,9 +90,9 @@ impl<N: PoolName> Stage<N> {
         pool: &Pool<N>,
         seat: &mut PoolSeat<N>,
     ) -> Result<Stage<N>, OpenError>
-        ensures opened { IfOk result (λ s. IsOpened N.sizes s seat.old seat.new) }
+        ensures opened { IfOk result (λ s. IsStageOpened N.sizes s seat.old seat.new) }
         ensures refused { IfErr result (λ e. WhyUnopened N.sizes e seat.old seat.new) }
-        ensures sought { Sought N.sizes (just Small stage_size) (found_none result) seat.old seat.new }
+        ensures sought { Sought N.sizes (just Small stage_size) (stage_found_none result) seat.old seat.new }
     {
         let mut holds = Vec::with_capacity(alloc, STAGE_SIZE)?;
         let mut stage = Stage {
@@ -186,7 +186,7 @@ impl<N: PoolName> Stage<N> {
     pub(crate) fn put_all(&mut self, holds: &mut Vec<Hold<N>>)
         requires staging { Each (IsStaging N.sizes) holds.old.items }
         requires room { length self.old + length holds.old.items ≤ stage_size }
-        ensures stage { self.new ≡ merged (buffers_of holds.old.items) self.old }
+        ensures stage { self.new ≡ merged (key_buffers holds.old.items) self.old }
         ensures none { holds.new.items ≡ [] }
     {
         while let Some(hold) = holds.pop() {
@@ -199,7 +199,7 @@ impl<N: PoolName> Stage<N> {
     pub(crate) fn restore(&mut self, lists: Box<Lists<N>>)
         requires staging { Each (IsStaging N.sizes) lists.value.staged.items }
         requires room { length self.old + length lists.value.staged.items ≤ stage_size }
-        ensures { self.new ≡ merged (buffers_of lists.value.staged.items) self.old }
+        ensures { self.new ≡ merged (key_buffers lists.value.staged.items) self.old }
     {
         let mut lists = lists;
         self.put_all(&mut lists.staged);

@@ -2,17 +2,17 @@
 ghost use Rattle.std.specs.Prelude.{◌≡◌, ℕ, ◌+◌, ◌*◌, ◌<◌, ◌≤◌, ◌-◌, ◌/◌, ◌∷◌, ◌++◌, [], false, length, vec_capacity};
 ghost use Rattle.std.specs.Prelude.{MatchOption};
 ghost use Rattle.pinned_pool.specs.Addresses.{address_of};
-ghost use Rattle.pinned_pool.specs.Moves.{times, front_of};
+ghost use Rattle.pinned_pool.specs.Moves.{meant_count, front_of};
 ghost use Rattle.frag_value.specs.Taken.{
   placed_part,
   placed_over,
-  IsNext,
+  MayComeNext,
   MayShare,
   Loses,
 };
 ghost use Rattle.reply_layout.specs.Layout.{cut, segment};
-ghost use Rattle.reply_planner.specs.Owned.{buffers_of};
-ghost use Rattle.reply_planner.specs.Places.{addresses_of};
+ghost use Rattle.reply_planner.specs.Owned.{key_buffers};
+ghost use Rattle.reply_planner.specs.Places.{buffer_addresses};
 ghost use Rattle.reply_planner.specs.Told.{with_run};
 ghost use Rattle.reply_planner.specs.Planned.{planned};
 
@@ -44,7 +44,7 @@ fn lay<N: PoolName>(
     requires offset { from + len ≤ 4096 }
     ensures segments { let since = length lists.old.text.items - run in
         lists.new.segments.items ≡ lists.old.segments.items
-        ++ cut (addresses_of N.sizes (buffers_of lists.old.staged.items)) since run since
+        ++ cut (buffer_addresses N.sizes (key_buffers lists.old.staged.items)) since run since
         ++ segment (address_of N.sizes hold.buffer + from) len ∷ [] }
     ensures count { length lists.new.segments.items + run / 512
         ≤ length lists.old.segments.items + (length lists.old.text.items + 511) / 512 + 1 }
@@ -77,10 +77,10 @@ impl<'a, N: PoolName> Plan<'a, N> {
         from: u32,
         len: u32,
     )
-        requires held { 0 < times frag.now.hold owner.old.holds }
+        requires held { 0 < meant_count frag.now.hold owner.old.holds }
         requires filled { (0 < len) × (from + len ≤ 8 * length (front_of frag.now.hold.buffer owner.old.holds)) }
         requires short { len < self.old.base.threshold }
-        requires next { MatchOption self.old.begun ⊥ (λ b. IsNext from len b) }
+        requires next { MatchOption self.old.begun ⊥ (λ b. MayComeNext from len b) }
         ensures plan { let run = placed_part N.sizes owner.old.holds frag.now.hold.buffer from len in
             self.new ≡ planned self.old.base self.old.taken (with_run run self.old.begun) }
         ensures owner { owner.new ≡ owner.old }
@@ -105,10 +105,10 @@ impl<'a, N: PoolName> Plan<'a, N> {
         from: u32,
         len: u32,
     )
-        requires held { 0 < times frag.now.hold owner.old.holds }
+        requires held { 0 < meant_count frag.now.hold owner.old.holds }
         requires filled { (0 < len) × (from + len ≤ 8 * length (front_of frag.now.hold.buffer owner.old.holds)) }
         requires long { self.old.base.threshold ≤ len }
-        requires next { MatchOption self.old.begun ⊥ (λ b. IsNext from len b) }
+        requires next { MatchOption self.old.begun ⊥ (λ b. MayComeNext from len b) }
         ensures plan { let run = placed_part N.sizes owner.old.holds frag.now.hold.buffer from len in
             self.new ≡ planned self.old.base self.old.taken (with_run run self.old.begun) }
         ensures owner { MayShare frag.now.hold.buffer owner.old owner.new }
@@ -132,11 +132,11 @@ impl<'a, N: PoolName> Plan<'a, N> {
 
     // A fragment that is copied, and whose hold is given back.
     fn copy_over(&mut self, pool: &Pool<N>, owner: &mut PoolSeat<N>, frag: Frag<N>)
-        requires held { 0 < times frag.hold owner.old.holds }
+        requires held { 0 < meant_count frag.hold owner.old.holds }
         requires loose { frag.hold.pinned ≡ false }
         requires filled { (0 < frag.len) × (frag.len ≤ 8 * length (front_of frag.hold.buffer owner.old.holds)) }
         requires short { frag.len < self.old.base.threshold }
-        requires next { MatchOption self.old.begun ⊥ (λ b. IsNext 0 frag.len b) }
+        requires next { MatchOption self.old.begun ⊥ (λ b. MayComeNext 0 frag.len b) }
         ensures plan { let run = placed_over N.sizes owner.old.holds (frag.hold.buffer, frag.len) in
             self.new ≡ planned self.old.base self.old.taken (with_run run self.old.begun) }
         ensures owner { Loses frag.hold owner.old owner.new }
@@ -155,11 +155,11 @@ impl<'a, N: PoolName> Plan<'a, N> {
 
     // A fragment that stays where it lies, and whose hold comes to the plan.
     fn move_over(&mut self, pool: &Pool<N>, owner: &mut PoolSeat<N>, frag: Frag<N>)
-        requires held { 0 < times frag.hold owner.old.holds }
+        requires held { 0 < meant_count frag.hold owner.old.holds }
         requires loose { frag.hold.pinned ≡ false }
         requires filled { (0 < frag.len) × (frag.len ≤ 8 * length (front_of frag.hold.buffer owner.old.holds)) }
         requires long { self.old.base.threshold ≤ frag.len }
-        requires next { MatchOption self.old.begun ⊥ (λ b. IsNext 0 frag.len b) }
+        requires next { MatchOption self.old.begun ⊥ (λ b. MayComeNext 0 frag.len b) }
         ensures plan { let run = placed_over N.sizes owner.old.holds (frag.hold.buffer, frag.len) in
             self.new ≡ planned self.old.base self.old.taken (with_run run self.old.begun) }
         ensures owner { Loses frag.hold owner.old owner.new }

@@ -2,12 +2,12 @@
 use Rattle.std.specs.Prelude.{ℕ}
 use Rattle.pin_core.specs.declared.class.Class.{Class}
 use Rattle.pin_core.specs.declared.class.Class.TheVariants.{Small, Large}
-use Rattle.frag_value.specs.Counts.{buffers_for}
+use Rattle.frag_value.specs.Counts.{class_buffers_for}
 use Rattle.request_gen.specs.declared.request.Request.{Request}
 use Rattle.request_gen.specs.declared.request.Request.TheVariants.{Get, GetFour, Set, Append, Del}
 
 abbrev pub request_row : Class → Request → ℕ
-request_row class (Set key len) = buffers_for class len
+request_row class (Set key len) = class_buffers_for class len
 request_row Small (Append n) = 1
 request_row Large (Append n) = 2
 request_row class (Get key) = 0

@@ -1,7 +1,7 @@
 ghost use Rattle.std.specs.Prelude.{◌≡◌, ◌≤◌, ◌<◌, ◌*◌};
 ghost use Rattle.pin_core.specs.declared.class.Class.TheVariants.{Small, Large};
 ghost use Rattle.serve_model.specs.Demand.{demand_of, session_row};
-ghost use Rattle.request_demand.specs.Sessions.{commands_of, sessions_of};
+ghost use Rattle.request_demand.specs.Sessions.{generated_commands_of, sessions_of};
 
 use crate::rows::{Demand, request_demand};
 use request_gen::{Draws, next_request};
@@ -26,8 +26,8 @@ pub fn generated_demand(number: u32, sessions: u16, count: u32) -> Demand
 fn session_demand(number: u32, session: u16, count: u32) -> Demand
     requires session { session < 16 }
     requires count { count ≤ 4000 }
-    ensures small { result.small ≡ session_row Small (commands_of number session count) }
-    ensures large { result.large ≡ session_row Large (commands_of number session count) }
+    ensures small { result.small ≡ session_row Small (generated_commands_of number session count) }
+    ensures large { result.large ≡ session_row Large (generated_commands_of number session count) }
     ensures stage { 128 ≤ result.small }
     ensures few { (result.small ≤ 4128) × (result.large ≤ 12_000) }
 {

@@ -1,7 +1,7 @@
 // What one request may claim.
 ghost use Rattle.std.specs.Prelude.{◌≡◌, ◌≤◌, ◌<◌, ◌+◌, ◌*◌, ◌^◌};
 ghost use Rattle.pin_core.specs.declared.class.Class.TheVariants.{Small, Large};
-ghost use Rattle.frag_value.specs.Counts.{buffers_for};
+ghost use Rattle.frag_value.specs.Counts.{class_buffers_for};
 ghost use Rattle.request_gen.specs.Requests.{IsRequest};
 ghost use Rattle.request_demand.specs.Rows.{request_row};
 
@@ -51,8 +51,8 @@ pub(crate) fn request_demand(request: Request) -> Demand
 // A value takes a large buffer for each full fragment, and one of either class for the bytes behind these.
 fn value_demand(len: u16) -> Demand
     requires { len ≤ 9050 }
-    ensures small { result.small ≡ buffers_for Small len }
-    ensures large { result.large ≡ buffers_for Large len }
+    ensures small { result.small ≡ class_buffers_for Small len }
+    ensures large { result.large ≡ class_buffers_for Large len }
     ensures few { (result.small ≤ 1) × (result.large ≤ 3) }
 {
     let full = u32::from(len / FRAGMENT);

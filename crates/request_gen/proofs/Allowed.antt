@@ -1,5 +1,6 @@
 -- All requests are ones that sessions make.
-use Rattle.std.proofs.Common.{◌≡◌, ℕ, zero, suc, ◌+◌, ◌-◌, ◌*◌, ◌%◌, ◌<◌, ◌≤◌, nat_lt, nat_eq, Bool, true, false, cond, refl, arith}
+use Rattle.std.proofs.Common.{◌≡◌, ℕ, zero, suc, ◌+◌, ◌-◌, ◌*◌, ◌%◌, ◌<◌, ◌≤◌, nat_lt, nat_eq, Bool, true, false, cond}
+use Rattle.std.proofs.Common.{refl, arith}
 use Rattle.std.proofs.lemmas.Bool.Decides.{nat_tests}
 use Rattle.std.specs.List.{AllByRecursion}
 use Rattle.request_gen.specs.Draws.{drawn, next_state}
@@ -35,22 +36,29 @@ operation_allowed op n state below =
 
 picked_allowed : (state : ℕ) → IsRequest (picked state).request
 picked_allowed state =
-    operation_allowed (drawn (next_state state) % 7) (drawn (next_state (next_state state)) % 16) (next_state (next_state state)) (omega arith)
+    operation_allowed (drawn (next_state state) % 7) (drawn (next_state (next_state state)) % 16)
+    (next_state (next_state state)) (omega arith)
 
 -- what is made behind the first 16
 abbrev later : ℕ → ℕ → Made
-later r state = cond (nat_lt r 32) (record { request = Set (Own (r - 16)) (50 + 600 * (r - 16)); state = state }) (picked state)
+later r state = cond (nat_lt r 32) (record { request = Set (Own (r - 16)) (50 + 600 * (r - 16)); state = state })
+    (picked state)
 
 later_allowed : (r state : ℕ) → 16 ≤ r → IsRequest (later r state).request
 later_allowed r state from =
-    elim (nat_lt r 32) as (λ b. nat_lt r 32 ≡ b → IsRequest (cond b (record { request = Set (Own (r - 16)) (50 + 600 * (r - 16)); state = state }) (picked state)).request) [
+    elim (nat_lt r 32) as
+    (λ b. nat_lt r 32 ≡ b
+    → IsRequest (cond b (record { request = Set (Own (r - 16)) (50 + 600 * (r - 16)); state = state })
+    (picked state)).request) [
       | true ↦ (λ is. (let below : r < 32 = grind (arith, nat_tests) in (omega arith, omega arith)))
       | false ↦ (λ is. picked_allowed state)
     ] refl
 
 pub made_allowed : (r state : ℕ) → IsRequest (made r state).request
 made_allowed r state =
-    elim (nat_lt r 16) as (λ b. nat_lt r 16 ≡ b → IsRequest (cond b (record { request = shared_set r; state = state }) (later r state)).request) [
+    elim (nat_lt r 16) as
+    (λ b. nat_lt r 16 ≡ b
+    → IsRequest (cond b (record { request = shared_set r; state = state }) (later r state)).request) [
       | true ↦ (λ is. set_allowed r (grind (arith, nat_tests)))
       | false ↦ (λ is. later_allowed r state (grind (arith, nat_tests)))
     ] refl

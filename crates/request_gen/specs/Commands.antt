@@ -2,7 +2,7 @@
 use Rattle.std.specs.Prelude.{ℕ, false, List, [], ◌∷◌, map}
 use Rattle.flake_model.specs.Command.{Command, get, mget, set, append, del}
 use Rattle.flake_model.specs.Store.{always}
-use Rattle.request_gen.specs.Requests.{requests_of}
+use Rattle.request_gen.specs.Requests.{generated_requests}
 use Rattle.request_gen.specs.Words.{key_text, next_number, value_of}
 use Rattle.request_gen.specs.declared.request.Key.TheVariants.{Shared, Own}
 use Rattle.request_gen.specs.declared.request.Request.{Request}
@@ -17,5 +17,5 @@ command_for session (Append n) = append (key_text session (Own n)) (value_of ses
 command_for session (Del n) = del (key_text session (Own n) ∷ [])
 
 -- the commands of a session's first requests
-abbrev pub all_commands : ℕ → ℕ → ℕ → List Command
-all_commands number session count = map (command_for session) (requests_of number session count)
+abbrev pub generated_commands : ℕ → ℕ → ℕ → List Command
+generated_commands number session count = map (command_for session) (generated_requests number session count)

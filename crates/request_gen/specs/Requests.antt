@@ -50,8 +50,8 @@ requests_from zero r state = []
 requests_from (suc more) r state = (made r state).request ∷ requests_from more (r + 1) (made r state).state
 
 -- the first requests of a session
-abbrev pub requests_of : ℕ → ℕ → ℕ → List Request
-requests_of number session count = requests_from count 0 (first_state number session)
+abbrev pub generated_requests : ℕ → ℕ → ℕ → List Request
+generated_requests number session count = requests_from count 0 (first_state number session)
 
 -- requests that sessions make
 abbrev pub IsKey : Key → Type 0

@@ -2,7 +2,7 @@
 use Rattle.std.specs.Prelude.{ℕ, ◌+◌, ◌%◌, List, [], ◌∷◌, ◌++◌, codes, map, replicate}
 use Rattle.std.specs.Fmt.{decimal}
 use Rattle.flake_model.specs.Resp.{Words, array, stream}
-use Rattle.request_gen.specs.Requests.{requests_of}
+use Rattle.request_gen.specs.Requests.{generated_requests}
 use Rattle.request_gen.specs.declared.request.Key.{Key}
 use Rattle.request_gen.specs.declared.request.Key.TheVariants.{Shared, Own}
 use Rattle.request_gen.specs.declared.request.Request.{Request}
@@ -24,18 +24,18 @@ value_of session key len = replicate len (letter_of session key)
 abbrev pub next_number : ℕ → ℕ
 next_number n = (n + 1) % 16
 
-abbrev pub words_of : ℕ → Request → Words
-words_of session (Get key) = codes "GET" ∷ key_text session key ∷ []
-words_of session (GetFour n) = codes "MGET" ∷ key_text session (Shared n) ∷ key_text session (Own n)
+abbrev pub generated_words : ℕ → Request → Words
+generated_words session (Get key) = codes "GET" ∷ key_text session key ∷ []
+generated_words session (GetFour n) = codes "MGET" ∷ key_text session (Shared n) ∷ key_text session (Own n)
     ∷ key_text session (Shared (next_number n)) ∷ key_text session (Own (next_number n)) ∷ []
-words_of session (Set key len) = codes "SET" ∷ key_text session key ∷ value_of session key len ∷ []
-words_of session (Append n) = codes "APPEND" ∷ key_text session (Own n) ∷ value_of session (Own n) 100 ∷ []
-words_of session (Del n) = codes "DEL" ∷ key_text session (Own n) ∷ []
+generated_words session (Set key len) = codes "SET" ∷ key_text session key ∷ value_of session key len ∷ []
+generated_words session (Append n) = codes "APPEND" ∷ key_text session (Own n) ∷ value_of session (Own n) 100 ∷ []
+generated_words session (Del n) = codes "DEL" ∷ key_text session (Own n) ∷ []
 
 -- the words of a session's first requests
 abbrev pub all_words : ℕ → ℕ → ℕ → List Words
-all_words number session count = map (words_of session) (requests_of number session count)
+all_words number session count = map (generated_words session) (generated_requests number session count)
 
 -- the text of requests: arrays of bulk strings, end to end
-abbrev pub text_of : List Words → List ℕ
-text_of requests = stream (map array requests)
+abbrev pub requests_text : List Words → List ℕ
+requests_text requests = stream (map array requests)

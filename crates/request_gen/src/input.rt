@@ -1,5 +1,5 @@
 ghost use Rattle.std.specs.Prelude.{◌≡◌, ◌<◌, IfOk};
-ghost use Rattle.request_gen.specs.Words.{all_words, text_of};
+ghost use Rattle.request_gen.specs.Words.{all_words, requests_text};
 
 use crate::draws::Draws;
 use crate::request::next_request;
@@ -11,7 +11,7 @@ use std::alloc::Global;
 /// The text of a session's first requests. An array of bulk strings has one text, as a request and as a reply.
 pub fn session_input(alloc: Global, number: u32, session: u16, count: u32) -> Result<Bytes, Memory>
     requires { session < 16 }
-    ensures { IfOk result (λ text. text.items ≡ text_of (all_words number session count)) }
+    ensures { IfOk result (λ text. text.items ≡ requests_text (all_words number session count)) }
 {
     let mut draws = Draws::new(number, session);
     let mut text = Bytes::new(alloc);

@@ -7,7 +7,7 @@ ghost use Rattle.flake_model.specs.Command.{command_of};
 ghost use Rattle.request_gen.specs.Commands.{command_for};
 ghost use Rattle.request_gen.specs.Draws.{draws_from};
 ghost use Rattle.request_gen.specs.Requests.{IsRequest, requests_from};
-ghost use Rattle.request_gen.specs.Words.{all_words, text_of, words_of};
+ghost use Rattle.request_gen.specs.Words.{all_words, requests_text, generated_words};
 ghost use Rattle.request_gen.specs.declared.request.Key.{Key};
 ghost use Rattle.request_gen.specs.declared.request.Request.{Request};
 
@@ -30,11 +30,11 @@ pub fn requests_are_allowed()
 /// What is generated is whole requests, and these: none is cut, and none is wrong.
 pub fn generated_input_is_clean()
     ensures { (number session count : ℕ) → session < 16 → count ≤ 4000
-        → Parses (text_of (all_words number session count)) (all_words number session count) End.Clean }
+        → Parses (requests_text (all_words number session count)) (all_words number session count) End.Clean }
 {}
 
 /// Each is the command that it is meant to be, which passes all tests.
 pub fn no_request_is_refused()
     ensures { (session : ℕ) (request : Request) → session < 16 → IsRequest request
-        → command_of (words_of session request) ≡ command_for session request }
+        → command_of (generated_words session request) ≡ command_for session request }
 {}

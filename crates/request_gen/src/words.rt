@@ -2,7 +2,7 @@
 ghost use Rattle.std.specs.Prelude.{◌≡◌, ◌<◌, [], ◌∷◌, Some, IfOk, map, string_bytes};
 ghost use Rattle.resp_text.specs.Meaning.{item_meaning};
 ghost use Rattle.request_gen.specs.Requests.{IsKey, IsRequest};
-ghost use Rattle.request_gen.specs.Words.{key_text, letter_of, value_of, words_of};
+ghost use Rattle.request_gen.specs.Words.{key_text, letter_of, value_of, generated_words};
 
 use crate::request::{Key, Request};
 use flake_base::{Bytes, Memory};
@@ -13,7 +13,7 @@ use std::alloc::Global;
 pub(crate) fn words(alloc: Global, session: u16, request: Request) -> Result<Items, Memory>
     requires session { session < 16 }
     requires request { IsRequest request }
-    ensures { IfOk result (λ words. map item_meaning words.items ≡ map Some (words_of session request)) }
+    ensures { IfOk result (λ words. map item_meaning words.items ≡ map Some (generated_words session request)) }
 {
     match request {
         Request::Get(key) => key_words(alloc, b"GET", session, key),
@@ -53,7 +53,8 @@ fn value_words(
 
 fn four_keys(alloc: Global, session: u16, n: u16) -> Result<Items, Memory>
     requires { n < 16 }
-    ensures { IfOk result (λ words. map item_meaning words.items ≡ map Some (words_of session (Request.GetFour n))) }
+    ensures { IfOk result
+        (λ words. map item_meaning words.items ≡ map Some (generated_words session (Request.GetFour n))) }
 {
     let next = (n + 1) % 16;
     let name = word(alloc, b"MGET")?;

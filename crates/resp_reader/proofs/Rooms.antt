@@ -1,6 +1,8 @@
 -- Words in one room.
-use Rattle.std.proofs.Common.{◌≡◌, ℕ, ◌+◌, ◌-◌, ◌<◌, ◌≤◌, List, [], ◌∷◌, ◌++◌, length, take, drop, get_or, slice_range, append_assoc, suc, zero, inl, inr, arith, refl, ap, sym, ◌∙◌, length-append}
-use Rattle.std.proofs.lemmas.List.{take_all, take_at, drop_all, take-append-drop, take-append-le, drop-append-le, drop-take, drop-drop, length-take, length-drop}
+use Rattle.std.proofs.Common.{◌≡◌, ℕ, ◌+◌, ◌-◌, ◌<◌, ◌≤◌, List, [], ◌∷◌, ◌++◌, length, take, drop, get_or, slice_range}
+use Rattle.std.proofs.Common.{append_assoc, suc, zero, inl, inr, arith, refl, ap, sym, ◌∙◌, length-append}
+use Rattle.std.proofs.lemmas.List.{take_all, take_at, drop_all, take-append-drop, take-append-le, drop-append-le}
+use Rattle.std.proofs.lemmas.List.{drop-take, drop-drop, length-take, length-drop}
 use Rattle.flake_model.specs.Resp.{Words}
 use Rattle.resp_reader.specs.WordRoom.{held, words_to, last_end, AreEnds, GrowsFrom}
 
@@ -12,7 +14,8 @@ pub last_end-le : (start : ℕ) (ends : List ℕ) (most : ℕ) → AreEnds start
 last_end-le start [] most are = are
 last_end-le start (end ∷ ends) most are = last_end-le end ends most are.1
 
-pub ends_within : (start : ℕ) (ends : List ℕ) (most other : ℕ) → AreEnds start ends most → last_end start ends ≤ other → AreEnds start ends other
+pub ends_within : (start : ℕ) (ends : List ℕ) (most other : ℕ) → AreEnds start ends most → last_end start ends ≤ other
+    → AreEnds start ends other
 ends_within start [] most other are within = within
 ends_within start (end ∷ ends) most other are within = (are.0, ends_within end ends most other are.1 within)
 
@@ -21,18 +24,21 @@ length-words_to start [] bytes = refl
 length-words_to start (end ∷ ends) bytes = ap suc (length-words_to end ends bytes)
 
 -- a word stays where more bytes come
-pub words_to-append : (start : ℕ) (ends bytes more : List ℕ) → AreEnds start ends (length bytes) → words_to start ends (bytes ++ more) ≡ words_to start ends bytes
+pub words_to-append : (start : ℕ) (ends bytes more : List ℕ) → AreEnds start ends (length bytes)
+    → words_to start ends (bytes ++ more) ≡ words_to start ends bytes
 words_to-append start [] bytes more are = refl
 words_to-append start (end ∷ ends) bytes more are =
     let within : end ≤ length bytes = start-le end ends (length bytes) are.1 in
     let word : slice_range (bytes ++ more) start end ≡ slice_range bytes start end
     = ap (take (end - start)) (drop-append-le start bytes more (omega (arith, are.0)))
     ∙ take-append-le (end - start) (drop start bytes) more (omega (arith, length-drop start bytes)) in
-    ap (λ w. w ∷ words_to end ends (bytes ++ more)) word ∙ ap (λ ws. slice_range bytes start end ∷ ws) (words_to-append end ends bytes more are.1)
+    ap (λ w. w ∷ words_to end ends (bytes ++ more)) word ∙ ap (λ ws. slice_range bytes start end ∷ ws)
+    (words_to-append end ends bytes more are.1)
 
 -- one word more
 pub words_to-push : (start : ℕ) (ends : List ℕ) (n : ℕ) (bytes : List ℕ)
-    → words_to start (ends ++ n ∷ []) bytes ≡ words_to start ends bytes ++ slice_range bytes (last_end start ends) n ∷ []
+    → words_to start (ends ++ n ∷ []) bytes ≡ words_to start ends bytes ++ slice_range bytes (last_end start ends) n
+    ∷ []
 words_to-push start [] n bytes = refl
 words_to-push start (end ∷ ends) n bytes = ap (λ ws. slice_range bytes start end ∷ ws) (words_to-push end ends n bytes)
 
@@ -40,7 +46,8 @@ pub last_end-push : (start : ℕ) (ends : List ℕ) (n : ℕ) → last_end start
 last_end-push start [] n = refl
 last_end-push start (end ∷ ends) n = last_end-push end ends n
 
-pub ends_push : (start : ℕ) (ends : List ℕ) (n most : ℕ) → AreEnds start ends most → last_end start ends ≤ n → n ≤ most → AreEnds start (ends ++ n ∷ []) most
+pub ends_push : (start : ℕ) (ends : List ℕ) (n most : ℕ) → AreEnds start ends most → last_end start ends ≤ n → n ≤ most
+    → AreEnds start (ends ++ n ∷ []) most
 ends_push start [] n most are from to = (from, to)
 ends_push start (end ∷ ends) n most are from to = (are.0, ends_push end ends n most are.1 from to)
 
@@ -57,10 +64,12 @@ end_at start [] most i are below = absurd (omega arith)
 end_at start (end ∷ ends) most zero are below = (are.0, start-le end ends most are.1)
 end_at start (end ∷ ends) most (suc i) are below = end_at end ends most i are.1 (omega arith)
 
-pub words_to-take : (start : ℕ) (ends bytes : List ℕ) (n : ℕ) → words_to start (take n ends) bytes ≡ take n (words_to start ends bytes)
+pub words_to-take : (start : ℕ) (ends bytes : List ℕ) (n : ℕ) → words_to start (take n ends) bytes
+    ≡ take n (words_to start ends bytes)
 words_to-take start ends bytes zero = refl
 words_to-take start [] bytes (suc n) = refl
-words_to-take start (end ∷ ends) bytes (suc n) = ap (λ ws. slice_range bytes start end ∷ ws) (words_to-take end ends bytes n)
+words_to-take start (end ∷ ends) bytes (suc n) = ap (λ ws. slice_range bytes start end ∷ ws)
+    (words_to-take end ends bytes n)
 
 pub ends_take : (start : ℕ) (ends : List ℕ) (most n : ℕ) → AreEnds start ends most → AreEnds start (take n ends) most
 ends_take start ends most zero are = start-le start ends most are
@@ -69,35 +78,43 @@ ends_take start (end ∷ ends) most (suc n) are = (are.0, ends_take end ends mos
 
 -- what stands behind the first words begins with the next
 pub next_word : (start : ℕ) (ends bytes : List ℕ) (n : ℕ) → AreEnds start ends (length bytes) → n < length ends
-    → drop (last_end start (take n ends)) bytes ≡ get_or (words_to start ends bytes) n [] ++ drop (get_or ends n 0) bytes
+    → drop (last_end start (take n ends)) bytes ≡ get_or (words_to start ends bytes) n []
+    ++ drop (get_or ends n 0) bytes
 next_word start [] bytes n are below = absurd (omega arith)
 next_word start (end ∷ ends) bytes zero are below =
     let sum : start + (end - start) ≡ end = omega (arith, are.0) in
-    sym (take-append-drop (end - start) (drop start bytes)) ∙ ap (λ (t : List ℕ). slice_range bytes start end ++ t) (drop-drop (end - start) start bytes ∙ ap (λ k. drop k bytes) sum)
+    sym (take-append-drop (end - start) (drop start bytes)) ∙ ap (λ (t : List ℕ). slice_range bytes start end ++ t)
+    (drop-drop (end - start) start bytes ∙ ap (λ k. drop k bytes) sum)
 next_word start (end ∷ ends) bytes (suc n) are below = next_word end ends bytes n are.1 (omega arith)
 
 pub last_end-at : (start : ℕ) (ends : List ℕ) → last_end start ends ≡ get_or (start ∷ ends) (length ends) 0
 last_end-at start [] = refl
 last_end-at start (end ∷ ends) = last_end-at end ends
 
-pub same_held : (words others : Words) (word other : List ℕ) → words ≡ others → word ≡ other → held words word ≡ held others other
+pub same_held : (words others : Words) (word other : List ℕ) → words ≡ others → word ≡ other → held words word
+    ≡ held others other
 same_held words others word other same_words same_word = cc
 
 -- more bytes of the next word
 pub appended : (ends bytes more : List ℕ) → AreEnds 0 ends (length bytes)
-    → held (words_to 0 ends (bytes ++ more)) (drop (last_end 0 ends) (bytes ++ more)) ≡ held (words_to 0 ends bytes) (drop (last_end 0 ends) bytes ++ more)
+    → held (words_to 0 ends (bytes ++ more)) (drop (last_end 0 ends) (bytes ++ more)) ≡ held (words_to 0 ends bytes)
+    (drop (last_end 0 ends) bytes ++ more)
 appended ends bytes more are =
-    same_held _ _ _ _ (words_to-append 0 ends bytes more are) (drop-append-le (last_end 0 ends) bytes more (last_end-le 0 ends (length bytes) are))
+    same_held _ _ _ _ (words_to-append 0 ends bytes more are)
+    (drop-append-le (last_end 0 ends) bytes more (last_end-le 0 ends (length bytes) are))
 
 pub ends_more : (ends bytes more : List ℕ) → AreEnds 0 ends (length bytes) → AreEnds 0 ends (length (bytes ++ more))
-ends_more ends bytes more are = ends_within 0 ends (length bytes) (length (bytes ++ more)) are (omega (arith, last_end-le 0 ends (length bytes) are, length-append bytes more))
+ends_more ends bytes more are = ends_within 0 ends (length bytes) (length (bytes ++ more)) are
+    (omega (arith, last_end-le 0 ends (length bytes) are, length-append bytes more))
 
 -- the next word ends
 pub ended : (ends bytes : List ℕ) (n : ℕ) → AreEnds 0 ends (length bytes) → n ≡ length bytes
-    → held (words_to 0 (ends ++ n ∷ []) bytes) (drop (last_end 0 (ends ++ n ∷ [])) bytes) ≡ held (words_to 0 ends bytes ++ drop (last_end 0 ends) bytes ∷ []) []
+    → held (words_to 0 (ends ++ n ∷ []) bytes) (drop (last_end 0 (ends ++ n ∷ [])) bytes)
+    ≡ held (words_to 0 ends bytes ++ drop (last_end 0 ends) bytes ∷ []) []
 ended ends bytes n are n_is =
     let start = last_end 0 ends in
-    let word : slice_range bytes start n ≡ drop start bytes = take_all (n - start) (drop start bytes) (omega (arith, length-drop start bytes)) in
+    let word : slice_range bytes start n ≡ drop start bytes = take_all (n - start) (drop start bytes)
+    (omega (arith, length-drop start bytes)) in
     same_held _ _ _ _ (words_to-push 0 ends n bytes ∙ ap (λ w. words_to 0 ends bytes ++ w ∷ []) word)
     (ap (λ k. drop k bytes) (last_end-push 0 ends n) ∙ drop_all n bytes (omega arith))
 
@@ -114,34 +131,50 @@ grown_word ends bytes words word are (inl same) =
     (same.0, ap (λ es. drop (last_end 0 es) bytes) (take_all (length words) ends (omega arith)) ∙ same.2)
 grown_word ends bytes words word are (inr more) =
     let news = words_to 0 ends bytes in
-    let count : length words < length ends = omega (arith, length-words_to 0 ends bytes, ap length more.2, length-append words ((word ++ more.0) ∷ more.1)) in
-    let next : get_or news (length words) [] ≡ word ++ more.0 = ap (λ ws. get_or ws (length words) []) more.2 ∙ get_or-seam words more.1 (word ++ more.0) in (
+    let count : length words < length ends =
+    omega (arith, length-words_to 0 ends bytes, ap length more.2, length-append words ((word ++ more.0) ∷ more.1))
+    in
+    let next : get_or news (length words) [] ≡ word ++ more.0 = ap (λ ws. get_or ws (length words) []) more.2
+    ∙ get_or-seam words more.1 (word ++ more.0) in (
       more.0 ++ drop (get_or ends (length words) 0) bytes,
-      next_word 0 ends bytes (length words) are count ∙ ap (λ (t : List ℕ). t ++ drop (get_or ends (length words) 0) bytes) next ∙ append_assoc word more.0 _,
+      next_word 0 ends bytes (length words) are count
+          ∙ ap (λ (t : List ℕ). t ++ drop (get_or ends (length words) 0) bytes) next ∙ append_assoc word more.0 _,
     )
 
 grown_words : (ends bytes : List ℕ) (words : Words) (word : List ℕ)
-    → GrowsFrom words word (words_to 0 ends bytes) (drop (last_end 0 ends) bytes) → take (length words) (words_to 0 ends bytes) ≡ words
-grown_words ends bytes words word (inl same) = ap (take (length words)) same.1 ∙ take_all (length words) words (omega arith)
+    → GrowsFrom words word (words_to 0 ends bytes) (drop (last_end 0 ends) bytes)
+    → take (length words) (words_to 0 ends bytes) ≡ words
+grown_words ends bytes words word (inl same) = ap (take (length words)) same.1 ∙ take_all (length words) words
+    (omega arith)
 grown_words ends bytes words word (inr more) = ap (take (length words)) more.2 ∙ take_at words _ (length words) refl
 
 pub ends_back : (ends bytes : List ℕ) (count len : ℕ) → AreEnds 0 ends (length bytes)
     → AreEnds 0 (take count ends) (length (take (last_end 0 (take count ends) + len) bytes))
 ends_back ends bytes count len are =
     let some = ends_take 0 ends (length bytes) count are in
-    ends_within 0 (take count ends) (length bytes) _ some (omega (arith, last_end-le 0 (take count ends) (length bytes) some, length-take (last_end 0 (take count ends) + len) bytes))
+    ends_within 0 (take count ends) (length bytes) _ some
+    (omega (
+      arith,
+      last_end-le 0 (take count ends) (length bytes) some,
+      length-take
+          (last_end 0 (take count ends) + len) bytes,
+    ))
 
 -- back at so many words, and so much of the next
 pub back_at : (ends bytes : List ℕ) (words : Words) (word : List ℕ) → AreEnds 0 ends (length bytes)
     → GrowsFrom words word (words_to 0 ends bytes) (drop (last_end 0 ends) bytes)
     → (let start : ℕ = last_end 0 (take (length words) ends) in
-    held (words_to 0 (take (length words) ends) (take (start + length word) bytes)) (drop start (take (start + length word) bytes)) ≡ held words word)
+    held (words_to 0 (take (length words) ends) (take (start + length word) bytes))
+    (drop start (take (start + length word) bytes)) ≡ held words word)
 back_at ends bytes words word are grown =
     let some = take (length words) ends in
     let start = last_end 0 some in
     let front = take (start + length word) bytes in
     let found = grown_word ends bytes words word are grown in
     let kept : words_to 0 some bytes ≡ words_to 0 some front
-    = ap (words_to 0 some) (sym (take-append-drop (start + length word) bytes)) ∙ words_to-append 0 some front (drop (start + length word) bytes) (ends_back ends bytes (length words) (length word) are) in
-    let here : words_to 0 some front ≡ words = sym kept ∙ words_to-take 0 ends bytes (length words) ∙ grown_words ends bytes words word grown in
-    same_held _ _ _ _ here (drop-take start (length word) bytes ∙ ap (take (length word)) found.1 ∙ take_at word found.0 (length word) refl)
+    = ap (words_to 0 some) (sym (take-append-drop (start + length word) bytes)) ∙ words_to-append 0 some front
+    (drop (start + length word) bytes) (ends_back ends bytes (length words) (length word) are) in
+    let here : words_to 0 some front ≡ words = sym kept ∙ words_to-take 0 ends bytes (length words)
+    ∙ grown_words ends bytes words word grown in
+    same_held _ _ _ _ here (drop-take start (length word) bytes ∙ ap (take (length word)) found.1
+    ∙ take_at word found.0 (length word) refl)

@@ -12,7 +12,7 @@ use Rattle.resp_reader.specs.declared.begun.Stop.TheVariants.{Fault, Memory}
 use Rattle.flake_model.specs.Resp.{Words, IsWord, null_array, element_text, IsFaulty}
 use Rattle.flake_model.specs.Fronts.{array_front, word_front}
 use Rattle.resp_reader.specs.WordRoom.{GrowsFrom}
-use Rattle.resp_reader.specs.Head.{digits_text, IsDigits, IsWhole}
+use Rattle.resp_reader.specs.Head.{digits_text, IsDigits, MayEnd}
 
 -- the bytes that lead to a state, by the words so far and what has come of the next
 abbrev pub state_front : State → Words → List ℕ → List ℕ
@@ -36,7 +36,7 @@ pub record IsArray (count : ℕ) (words : Words) : Type 0 where
 abbrev pub IsState : State → Words → List ℕ → Type 0
 IsState Start words word = (words ≡ []) × (word ≡ [])
 IsState (InCount digits) words word = (words ≡ []) × (word ≡ []) × IsDigits Count digits
-IsState (CountEnd digits) words word = (words ≡ []) × (word ≡ []) × IsDigits Count digits × IsWhole digits
+IsState (CountEnd digits) words word = (words ≡ []) × (word ≡ []) × IsDigits Count digits × MayEnd digits
 IsState (AtWord count) words word = IsArray count words × (word ≡ [])
 IsState (InLength count digits) words word = IsArray count words × (word ≡ []) × IsDigits Length digits
 IsState (LengthEnd count len) words word = IsArray count words × (word ≡ []) × (len ≤ 1048576)
@@ -46,17 +46,17 @@ IsState Null words word = (words ≡ []) × (word ≡ [])
 IsState (Whole count) words word = AllByRecursion IsWord words × (length words ≡ count) × (count ≤ 1024) × (word ≡ [])
 
 -- no element is whole
-abbrev pub IsOpen : State → Type 0
-IsOpen Start = Unit {0}
-IsOpen (InCount digits) = Unit {0}
-IsOpen (CountEnd digits) = Unit {0}
-IsOpen (AtWord count) = Unit {0}
-IsOpen (InLength count digits) = Unit {0}
-IsOpen (LengthEnd count len) = Unit {0}
-IsOpen (InWord count len) = Unit {0}
-IsOpen (WordEnd count) = Unit {0}
-IsOpen Null = ⊥
-IsOpen (Whole count) = ⊥
+abbrev pub IsUnfinished : State → Type 0
+IsUnfinished Start = Unit {0}
+IsUnfinished (InCount digits) = Unit {0}
+IsUnfinished (CountEnd digits) = Unit {0}
+IsUnfinished (AtWord count) = Unit {0}
+IsUnfinished (InLength count digits) = Unit {0}
+IsUnfinished (LengthEnd count len) = Unit {0}
+IsUnfinished (InWord count len) = Unit {0}
+IsUnfinished (WordEnd count) = Unit {0}
+IsUnfinished Null = ⊥
+IsUnfinished (Whole count) = ⊥
 
 -- A state leads to another by the bytes up to the rest, whatever the words are.
 abbrev pub Moves : State → List ℕ → State → List ℕ → Type 0
@@ -69,16 +69,17 @@ Stops state bytes (Fault kind place) = (words : Words) (word : List ℕ) → IsS
     → IsFaulty (state_front state words word ++ bytes) [] kind (length (state_front state words word) + place)
 Stops state bytes Memory = Unit {0}
 
-abbrev pub front_of : Begun → List ℕ
-front_of begun = state_front begun.state begun.room.words begun.room.word
+abbrev pub begun_front : Begun → List ℕ
+begun_front begun = state_front begun.state begun.room.words begun.room.word
 
-abbrev pub IsSound : Begun → Type 0
-IsSound begun = IsState begun.state begun.room.words begun.room.word
+abbrev pub IsBegunSound : Begun → Type 0
+IsBegunSound begun = IsState begun.state begun.room.words begun.room.word
 
 abbrev pub Grows : Begun → Begun → Type 0
 Grows old new = GrowsFrom old.room.words old.room.word new.room.words new.room.word
 
 -- The bytes have an error at this place behind the front.
 abbrev pub Breaks : Begun → List ℕ → Stop → Type 0
-Breaks begun bytes (Fault kind place) = IsFaulty (front_of begun ++ bytes) [] kind (length (front_of begun) + place)
+Breaks begun bytes (Fault kind place) = IsFaulty (begun_front begun ++ bytes) [] kind
+    (length (begun_front begun) + place)
 Breaks begun bytes Memory = Unit {0}

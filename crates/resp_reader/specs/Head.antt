@@ -7,9 +7,9 @@ use Rattle.resp_reader.specs.declared.head.Digits.{Digits}
 use Rattle.resp_reader.specs.declared.head.Digits.TheVariants.{Nothing, Number, Minus, MinusOne}
 use Rattle.flake_model.specs.Fronts.{NoNumber, NoNull}
 
-abbrev pub limit_of : Head → ℕ
-limit_of Count = 1024
-limit_of Length = 1048576
+abbrev pub number_limit : Head → ℕ
+number_limit Count = 1024
+number_limit Length = 1048576
 
 -- what came behind the mark
 abbrev pub digits_text : Digits → List ℕ
@@ -21,18 +21,18 @@ digits_text MinusOne = 45 ∷ 49 ∷ []
 -- only a count may be -1
 abbrev pub IsDigits : Head → Digits → Type 0
 IsDigits head Nothing = Unit {0}
-IsDigits head (Number n) = n ≤ limit_of head
+IsDigits head (Number n) = n ≤ number_limit head
 IsDigits Count Minus = Unit {0}
 IsDigits Count MinusOne = Unit {0}
 IsDigits Length Minus = ⊥
 IsDigits Length MinusOne = ⊥
 
 -- the line may end here
-abbrev pub IsWhole : Digits → Type 0
-IsWhole Nothing = ⊥
-IsWhole (Number n) = Unit {0}
-IsWhole Minus = ⊥
-IsWhole MinusOne = Unit {0}
+abbrev pub MayEnd : Digits → Type 0
+MayEnd Nothing = ⊥
+MayEnd (Number n) = Unit {0}
+MayEnd Minus = ⊥
+MayEnd MinusOne = Unit {0}
 
 -- no line of the head has this front and this byte behind it
 abbrev pub NoLine : Head → List ℕ → ℕ → Type 0

@@ -6,21 +6,21 @@ use Rattle.resp_reader.specs.declared.begun.Mark.{Mark}
 use Rattle.resp_reader.specs.declared.begun.Begun.{Begun}
 use Rattle.resp_reader.specs.declared.parser.Parser.{Parser}
 use Rattle.flake_model.specs.Resp.{Words, Element, AllElements, stream, requests_of, IsFaulty, judged_bytes}
-use Rattle.resp_reader.specs.Begun.{IsSound, IsOpen, front_of, Grows}
+use Rattle.resp_reader.specs.Begun.{IsBegunSound, IsUnfinished, begun_front, Grows}
 use Rattle.resp_reader.specs.WordRoom.{GrowsFrom}
 
 -- between two calls
-pub record IsKept (parser : Parser) : Type 0 where
-  pub sound : IsSound parser.begun
-  pub awaits : IsOpen parser.begun.state
-  pub taken_is : parser.taken ≡ parser.place + length (front_of parser.begun)
+pub record IsBetweenCalls (parser : Parser) : Type 0 where
+  pub sound : IsBegunSound parser.begun
+  pub awaits : IsUnfinished parser.begun.state
+  pub taken_is : parser.taken ≡ parser.place + length (begun_front parser.begun)
   pub judged : parser.taken ≤ judged_bytes
 
 -- whole elements were taken off the bytes, up to the rest
 pub record TakesTo (old new : Parser) (bytes rest : List ℕ) : Type 0 where
   pub elements : List Element
   pub allowed : AllElements elements
-  pub bytes_are : front_of old.begun ++ bytes ≡ stream elements ++ (front_of new.begun ++ rest)
+  pub bytes_are : begun_front old.begun ++ bytes ≡ stream elements ++ (begun_front new.begun ++ rest)
   pub ready_is : new.ready.items ≡ old.ready.items ++ requests_of elements
   pub place_is : new.place ≡ old.place + length (stream elements)
 
@@ -49,7 +49,7 @@ pub record IsBack (old new : Parser) : Type 0 where
 -- the bytes have an error at this place, behind whole requests
 pub record HasFault (old new : Parser) (bytes : List ℕ) (kind place : ℕ) : Type 0 where
   pub requests : List Words
-  pub faulty : IsFaulty (front_of old.begun ++ bytes) requests kind (length (front_of old.begun) + place)
+  pub faulty : IsFaulty (begun_front old.begun ++ bytes) requests kind (length (begun_front old.begun) + place)
   pub ready_is : new.ready.items ≡ old.ready.items ++ requests
 
 abbrev pub StopsAt : Parser → Parser → List ℕ → Stop → Type 0

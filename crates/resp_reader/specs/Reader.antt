@@ -2,14 +2,15 @@
 use Rattle.std.specs.Prelude.{◌≡◌, ℕ, ◌+◌, ◌≤◌, ◌==◌, if◌then◌else◌, List, ◌++◌, length, Option, MatchOption}
 use Rattle.flake_base.specs.declared.session.End.{End}
 use Rattle.flake_base.specs.declared.session.End.TheVariants as ends
-use Rattle.flake_model.specs.Resp.{Words, Element, AllElements, stream, requests_of, IsCutShort, judged_bytes, Parses}
+use Rattle.flake_model.specs.Resp.{Words, Element, AllElements, stream, requests_of, IsElementFront, judged_bytes}
+use Rattle.flake_model.specs.Resp.{Parses}
 use Rattle.resp_reader.specs.declared.error.ReadError.{ReadError}
 use Rattle.resp_reader.specs.declared.error.ReadError.TheVariants.{BadCount, ExpectedBulk, BadLength}
 use Rattle.resp_reader.specs.declared.error.ReadError.TheVariants.{Inline, TooLong, Memory}
 use Rattle.resp_reader.specs.declared.error.Ended.{Ended}
 use Rattle.resp_reader.specs.declared.error.Ended.TheVariants.{Clean, Truncated}
 use Rattle.resp_reader.specs.declared.parser.Parser.{Parser}
-use Rattle.resp_reader.specs.Begun.{front_of}
+use Rattle.resp_reader.specs.Begun.{begun_front}
 
 -- what contracts see of a reader
 pub record Progress : Type 0 where
@@ -26,22 +27,22 @@ abbrev pub fed_to : Progress → ℕ
 fed_to reader = reader.place + length reader.front
 
 -- the end that an error is
-abbrev pub end_of : ReadError → End
-end_of (BadCount place) = ends.Protocol 1 place
-end_of (ExpectedBulk place) = ends.Protocol 2 place
-end_of (BadLength place) = ends.Protocol 3 place
-end_of (Inline place) = ends.Protocol 4 place
-end_of (TooLong taken) = ends.TooLong
-end_of Memory = ends.Memory
+abbrev pub error_end : ReadError → End
+error_end (BadCount place) = ends.Protocol 1 place
+error_end (ExpectedBulk place) = ends.Protocol 2 place
+error_end (BadLength place) = ends.Protocol 3 place
+error_end (Inline place) = ends.Protocol 4 place
+error_end (TooLong taken) = ends.TooLong
+error_end Memory = ends.Memory
 
 -- an input that is too long is so behind all bytes that are judged
-abbrev pub IsTaken : ReadError → Type 0
-IsTaken (BadCount place) = Unit {0}
-IsTaken (ExpectedBulk place) = Unit {0}
-IsTaken (BadLength place) = Unit {0}
-IsTaken (Inline place) = Unit {0}
-IsTaken (TooLong taken) = taken ≡ judged_bytes
-IsTaken Memory = ⊥
+abbrev pub IsErrorTaken : ReadError → Type 0
+IsErrorTaken (BadCount place) = Unit {0}
+IsErrorTaken (ExpectedBulk place) = Unit {0}
+IsErrorTaken (BadLength place) = Unit {0}
+IsErrorTaken (Inline place) = Unit {0}
+IsErrorTaken (TooLong taken) = taken ≡ judged_bytes
+IsErrorTaken Memory = ⊥
 
 -- the error of a kind
 abbrev pub error_at : ℕ → ℕ → ReadError
@@ -63,15 +64,15 @@ pub record IsReadTo (bytes : List ℕ) (requests : List Words) (place : ℕ) (fr
   pub bytes_are : bytes ≡ stream elements ++ front
   pub requests_are : requests ≡ requests_of elements
   pub place_is : place ≡ length (stream elements)
-  pub cut_short : IsCutShort front
+  pub cut_short : IsElementFront front
 
 -- The bytes that were fed in all mean the requests that were given, those that are still to be given, and, where the
 -- reader is closed, its error.
-abbrev pub Reads : List ℕ → List Words → Progress → Type 0
-Reads bytes given reader =
+abbrev pub ReadsRequests : List ℕ → List Words → Progress → Type 0
+ReadsRequests bytes given reader =
     MatchOption reader.closed (IsReadTo bytes (given ++ reader.requests) reader.place reader.front)
-    (λ error. IsTaken error × Parses bytes (given ++ reader.requests) (end_of error))
+    (λ error. IsErrorTaken error × Parses bytes (given ++ reader.requests) (error_end error))
 
 abbrev pub progress : Parser → Option ReadError → Progress
 progress parser closed =
-    record { requests = parser.ready.items; front = front_of parser.begun; place = parser.place; closed = closed }
+    record { requests = parser.ready.items; front = begun_front parser.begun; place = parser.place; closed = closed }

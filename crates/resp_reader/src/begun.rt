@@ -1,8 +1,9 @@
 // Elements in pieces of any length.
 ghost use Rattle.std.specs.Prelude.{◌≡◌, ◌≢◌, ◌<◌, ◌≤◌, ◌+◌, ◌++◌, ◌∷◌, [], List};
 ghost use Rattle.std.specs.Prelude.{ℕ, length, IfOk, IfErr, IfSome, IfNone, OnOk, Err};
-ghost use Rattle.resp_reader.specs.Head.{IsDigits, IsWhole};
-ghost use Rattle.resp_reader.specs.Begun.{IsArray, IsState, IsOpen, Moves, Stops, IsSound, front_of, Breaks, Grows};
+ghost use Rattle.resp_reader.specs.Head.{IsDigits, MayEnd};
+ghost use Rattle.resp_reader.specs.Begun.{IsArray, IsState, IsUnfinished, Moves, Stops, IsBegunSound, begun_front};
+ghost use Rattle.resp_reader.specs.Begun.{Breaks, Grows};
 ghost use Rattle.flake_model.specs.Resp.{Words, IsWord, bulk_string};
 ghost use Rattle.flake_model.specs.Fronts.{array_front};
 ghost use Rattle.resp_reader.specs.WordRoom.{GrowsFrom};
@@ -193,9 +194,9 @@ fn length_end(count: u32, len: u32, bytes: &[u8]) -> Result<(State, &[u8]), Stop
 
 impl Begun {
     pub fn new(alloc: Global) -> Self
-        ensures sound { IsSound result }
+        ensures sound { IsBegunSound result }
         ensures start { result.state ≡ State.Start }
-        ensures empty { front_of result ≡ [] }
+        ensures empty { begun_front result ≡ [] }
     {
         Begun {
             state: State::Start,
@@ -228,11 +229,11 @@ impl Begun {
 
     /// Takes bytes at the front, as far as they lead to another state, and answers the rest.
     pub fn step<'a>(&mut self, bytes: &'a [u8]) -> Result<&'a [u8], Stop>
-        requires sound { IsSound self.old }
-        requires open { IsOpen self.old.state }
+        requires sound { IsBegunSound self.old }
+        requires open { IsUnfinished self.old.state }
         requires some { 0 < length bytes.now }
-        ensures sound { OnOk result (IsSound self.new) }
-        ensures ok { IfOk result (λ rest. front_of self.old ++ bytes.now ≡ front_of self.new ++ rest.now) }
+        ensures sound { OnOk result (IsBegunSound self.new) }
+        ensures ok { IfOk result (λ rest. begun_front self.old ++ bytes.now ≡ begun_front self.new ++ rest.now) }
         ensures shorter { IfOk result (λ rest. length rest.now < length bytes.now) }
         ensures err { IfErr result (Breaks self.old bytes.now) }
         ensures grows { Grows self.old self.new }
@@ -263,10 +264,10 @@ impl Begun {
 
     fn in_word<'a>(&mut self, count: u32, len: u32, bytes: &'a [u8]) -> Result<&'a [u8], Stop>
         requires state { self.old.state ≡ State.InWord count len }
-        requires sound { IsSound self.old }
+        requires sound { IsBegunSound self.old }
         requires some { 0 < length bytes.now }
-        ensures sound { OnOk result (IsSound self.new) }
-        ensures ok { IfOk result (λ rest. front_of self.old ++ bytes.now ≡ front_of self.new ++ rest.now) }
+        ensures sound { OnOk result (IsBegunSound self.new) }
+        ensures ok { IfOk result (λ rest. begun_front self.old ++ bytes.now ≡ begun_front self.new ++ rest.now) }
         ensures shorter { IfOk result (λ rest. length rest.now < length bytes.now) }
         ensures err { IfErr result (Breaks self.old bytes.now) }
         ensures grows { Grows self.old self.new }
@@ -292,10 +293,10 @@ impl Begun {
 
     fn word_end<'a>(&mut self, count: u32, bytes: &'a [u8]) -> Result<&'a [u8], Stop>
         requires state { self.old.state ≡ State.WordEnd count }
-        requires sound { IsSound self.old }
+        requires sound { IsBegunSound self.old }
         requires some { 0 < length bytes.now }
-        ensures sound { OnOk result (IsSound self.new) }
-        ensures ok { IfOk result (λ rest. front_of self.old ++ bytes.now ≡ front_of self.new ++ rest.now) }
+        ensures sound { OnOk result (IsBegunSound self.new) }
+        ensures ok { IfOk result (λ rest. begun_front self.old ++ bytes.now ≡ begun_front self.new ++ rest.now) }
         ensures shorter { IfOk result (λ rest. length rest.now < length bytes.now) }
         ensures err { IfErr result (Breaks self.old bytes.now) }
         ensures grows { Grows self.old self.new }
@@ -311,8 +312,8 @@ impl Begun {
     fn end_word(&mut self, count: u32) -> Result<(), Stop>
         requires array { IsArray count self.old.room.words }
         requires word { IsWord self.old.room.word }
-        ensures sound { OnOk result (IsSound self.new) }
-        ensures ok { OnOk result (front_of self.new
+        ensures sound { OnOk result (IsBegunSound self.new) }
+        ensures ok { OnOk result (begun_front self.new
             ≡ array_front count self.old.room.words ++ bulk_string self.old.room.word) }
         ensures err { IfErr result (λ e. e ≡ Stop.Memory) }
         ensures grows { Grows self.old self.new }

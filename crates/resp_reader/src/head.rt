@@ -2,7 +2,7 @@
 ghost use Rattle.std.specs.Prelude.{◌≡◌, ◌≢◌, ◌<◌, ◌≤◌, ◌+◌, ◌++◌, ◌∷◌, [], List, ℕ};
 ghost use Rattle.std.specs.Prelude.{length, slice_index, IsTrue, IfSome, IfNone, IfOk, IfErr, MatchOption, Some};
 ghost use Rattle.std.specs.Fmt.{decimal};
-ghost use Rattle.resp_reader.specs.Head.{limit_of, digits_text, IsDigits, IsWhole, NoLine, LineFault};
+ghost use Rattle.resp_reader.specs.Head.{number_limit, digits_text, IsDigits, MayEnd, NoLine, LineFault};
 
 use memchr::memchr;
 
@@ -26,7 +26,7 @@ pub enum Digits {
 
 impl Head {
     fn limit(self) -> u32
-        ensures { result ≡ limit_of self }
+        ensures { result ≡ number_limit self }
     {
         match self {
             Head::Count => 1024,
@@ -78,7 +78,7 @@ fn first(head: Head, byte: u8) -> Option<Digits>
 }
 
 fn more(n: u32, head: Head, byte: u8) -> Option<Digits>
-    requires allowed { n ≤ limit_of head }
+    requires allowed { n ≤ number_limit head }
     requires inside { byte ≢ 13 }
     ensures allowed { IfSome result (λ next. IsDigits head next) }
     ensures some { IfSome result (λ next. digits_text next ≡ digits_text (Digits.Number n) ++ byte ∷ []) }
@@ -160,7 +160,7 @@ fn more_line(n: u32, limit: u32, bytes: &[u8]) -> Option<(u32, &[u8])>
 
 /// A number that came with its whole line, and the bytes behind that.
 pub fn whole_line(head: Head, bytes: &[u8]) -> Option<(u32, &[u8])>
-    ensures within { IfSome result (λ found. found.0 ≤ limit_of head) }
+    ensures within { IfSome result (λ found. found.0 ≤ number_limit head) }
     ensures text { IfSome result (λ found. bytes.now ≡ decimal found.0 ++ 13 ∷ 10 ∷ found.1.now) }
     ensures shorter { IfSome result (λ found. length found.1.now < length bytes.now) }
 {
@@ -179,7 +179,7 @@ pub fn line(digits: Digits, head: Head, bytes: &[u8]) -> Result<(Digits, Option<
     requires { IsDigits head digits }
     ensures allowed { IfOk result (λ line. IsDigits head line.0) }
     ensures ok { IfOk result (λ line. MatchOption line.1 (digits_text line.0 ≡ digits_text digits ++ bytes.now)
-        (λ rest. IsWhole line.0 × (digits_text digits ++ bytes.now ≡ digits_text line.0 ++ 13 ∷ rest.now))) }
+        (λ rest. MayEnd line.0 × (digits_text digits ++ bytes.now ≡ digits_text line.0 ++ 13 ∷ rest.now))) }
     ensures shorter { IfOk result (λ line. IfSome line.1 (λ rest. length rest.now < length bytes.now)) }
     ensures err { IfErr result (LineFault head digits bytes.now) }
 {

@@ -4,9 +4,9 @@ ghost use Rattle.std.specs.Prelude.{ℕ, length, IfOk, OnOk, OnErr, IfErr, Some,
 ghost use Rattle.std.specs.Option.{option_to_list};
 ghost use Rattle.flake_model.specs.Resp.{Words, array, request_of, judged_bytes};
 ghost use Rattle.resp_reader.specs.WordRoom.{GrowsFrom};
-ghost use Rattle.resp_reader.specs.Begun.{front_of, IsSound, IsOpen, Breaks, Grows};
-ghost use Rattle.resp_reader.specs.Parser.{IsKept, TakesTo, CanGoBack, IsBack, IsMark, StopsAt};
-ghost use Rattle.resp_reader.specs.Reader.{error_at, Reads, progress};
+ghost use Rattle.resp_reader.specs.Begun.{begun_front, IsBegunSound, IsUnfinished, Breaks, Grows};
+ghost use Rattle.resp_reader.specs.Parser.{IsBetweenCalls, TakesTo, CanGoBack, IsBack, IsMark, StopsAt};
+ghost use Rattle.resp_reader.specs.Reader.{error_at, ReadsRequests, progress};
 ghost use Rattle.resp_reader.specs.Errors.{HasError};
 ghost use Rattle.resp_reader.specs.declared.parser.Parser.{Parser};
 
@@ -50,9 +50,9 @@ fn fault(kind: u8, place: u64) -> ReadError
 
 impl Parser {
     pub fn new(alloc: Global) -> Self
-        ensures kept { IsKept result }
+        ensures kept { IsBetweenCalls result }
         ensures ready { result.ready.items ≡ [] }
-        ensures front { front_of result.begun ≡ [] }
+        ensures front { begun_front result.begun ≡ [] }
         ensures place { result.place ≡ 0 }
     {
         Parser {
@@ -67,13 +67,14 @@ impl Parser {
 
     /// Takes a piece, as far as it is judged.
     pub fn feed(&mut self, piece: &[u8]) -> Result<(), ReadError>
-        requires { IsKept self.old }
-        ensures kept { OnOk result (IsKept self.new) }
-        ensures ok { OnOk result ((bytes : List ℕ) (given : List Words) → Reads bytes given (progress self.old None)
-            → Reads (bytes ++ piece.now) given (progress self.new None)) }
+        requires { IsBetweenCalls self.old }
+        ensures kept { OnOk result (IsBetweenCalls self.new) }
+        ensures ok { OnOk result
+            ((bytes : List ℕ) (given : List Words) → ReadsRequests bytes given (progress self.old None)
+            → ReadsRequests (bytes ++ piece.now) given (progress self.new None)) }
         ensures err { IfErr result (λ e. e ≢ ReadError.Memory → (bytes : List ℕ) (given : List Words)
-            → Reads bytes given (progress self.old None)
-            → Reads (bytes ++ piece.now) given (progress self.new (Some e))) }
+            → ReadsRequests bytes given (progress self.old None)
+            → ReadsRequests (bytes ++ piece.now) given (progress self.new (Some e))) }
         ensures memory { IfErr result (λ e. e ≡ ReadError.Memory → IsBack self.old self.new) }
         ensures taken { OnOk result (self.new.taken ≡ self.old.taken + length piece.now) }
     {
@@ -88,10 +89,10 @@ impl Parser {
 
     // Takes a piece that is judged whole.
     fn judge(&mut self, piece: &[u8]) -> Result<(), ReadError>
-        requires kept { IsKept self.old }
+        requires kept { IsBetweenCalls self.old }
         requires judged { self.old.taken + length piece.now ≤ judged_bytes }
         ensures ok { OnOk result (TakesTo self.old self.new piece.now []) }
-        ensures kept { OnOk result (IsKept self.new) }
+        ensures kept { OnOk result (IsBetweenCalls self.new) }
         ensures err { IfErr result (λ e. e ≢ ReadError.Memory → HasError self.old self.new piece.now e) }
         ensures memory { IfErr result (λ e. e ≡ ReadError.Memory → IsBack self.old self.new) }
         ensures taken { OnOk result (self.new.taken ≡ self.old.taken + length piece.now) }
@@ -106,10 +107,10 @@ impl Parser {
 
     /// Takes all bytes. After want of memory it is as before.
     pub fn take(&mut self, bytes: &[u8]) -> Result<(), Stop>
-        requires kept { IsKept self.old }
+        requires kept { IsBetweenCalls self.old }
         requires judged { self.old.taken + length bytes.now ≤ judged_bytes }
         ensures ok { OnOk result (TakesTo self.old self.new bytes.now []) }
-        ensures kept { OnOk result (IsKept self.new) }
+        ensures kept { OnOk result (IsBetweenCalls self.new) }
         ensures err { IfErr result (StopsAt self.old self.new bytes.now) }
         ensures memory { IfErr result (λ e. e ≡ Stop.Memory → IsBack self.old self.new) }
         ensures taken { OnOk result (self.new.taken ≡ self.old.taken + length bytes.now) }
@@ -171,11 +172,11 @@ impl Parser {
 
     // Takes all bytes, or stops.
     fn run(&mut self, bytes: &[u8]) -> Result<(), Stop>
-        requires kept { IsKept self.old }
+        requires kept { IsBetweenCalls self.old }
         requires judged { self.old.taken + length bytes.now ≤ judged_bytes }
         ensures ok { OnOk result (TakesTo self.old self.new bytes.now []) }
-        ensures sound { OnOk result (IsSound self.new.begun) }
-        ensures open { OnOk result (IsOpen self.new.begun.state) }
+        ensures sound { OnOk result (IsBegunSound self.new.begun) }
+        ensures open { OnOk result (IsUnfinished self.new.begun.state) }
         ensures err { IfErr result (StopsAt self.old self.new bytes.now) }
         ensures back { OnErr result (CanGoBack self.old self.new) }
         ensures taken { self.new.taken ≡ self.old.taken }
@@ -199,11 +200,12 @@ impl Parser {
     }
 
     fn step<'a>(&mut self, bytes: &'a [u8]) -> Result<&'a [u8], Stop>
-        requires sound { IsSound self.old.begun }
-        requires open { IsOpen self.old.begun.state }
+        requires sound { IsBegunSound self.old.begun }
+        requires open { IsUnfinished self.old.begun.state }
         requires some { 0 < length bytes.now }
-        ensures sound { OnOk result (IsSound self.new.begun) }
-        ensures ok { IfOk result (λ rest. front_of self.old.begun ++ bytes.now ≡ front_of self.new.begun ++ rest.now) }
+        ensures sound { OnOk result (IsBegunSound self.new.begun) }
+        ensures ok { IfOk result (λ rest. begun_front self.old.begun ++ bytes.now ≡ begun_front self.new.begun
+            ++ rest.now) }
         ensures shorter { IfOk result (λ rest. length rest.now < length bytes.now) }
         ensures err { IfErr result (Breaks self.old.begun bytes.now) }
         ensures grows { Grows self.old.begun self.new.begun }
@@ -215,11 +217,11 @@ impl Parser {
 
     // Gives the request of an element that is whole, which ends here.
     fn keep(&mut self, end: u64) -> Result<(), Stop>
-        requires sound { IsSound self.old.begun }
-        requires end { end ≡ self.old.place + length (front_of self.old.begun) }
+        requires sound { IsBegunSound self.old.begun }
+        requires end { end ≡ self.old.place + length (begun_front self.old.begun) }
         ensures ok { OnOk result (TakesTo self.old self.new [] []) }
-        ensures sound { OnOk result (IsSound self.new.begun) }
-        ensures open { OnOk result (IsOpen self.new.begun.state) }
+        ensures sound { OnOk result (IsBegunSound self.new.begun) }
+        ensures open { OnOk result (IsUnfinished self.new.begun.state) }
         ensures err { IfErr result (λ e. e ≡ Stop.Memory) }
         ensures back { CanGoBack self.old self.new }
         ensures taken { self.new.taken ≡ self.old.taken }

@@ -2,7 +2,7 @@ ghost use Rattle.std.specs.Prelude.{◌≡◌, ◌≢◌, ◌+◌, ◌≤◌, �
 ghost use Rattle.std.specs.Prelude.{ℕ, length, None, Some, IsNone, OnOk, IfErr, IfSome};
 ghost use Rattle.std.specs.Option.{option_to_list};
 ghost use Rattle.flake_model.specs.Resp.{Words, Parses, judged_bytes};
-ghost use Rattle.resp_reader.specs.Reader.{Reads, fed_to, input_end};
+ghost use Rattle.resp_reader.specs.Reader.{ReadsRequests, fed_to, input_end};
 
 use crate::parser::Parser;
 use crate::{Ended, ReadError, Request};
@@ -19,18 +19,18 @@ pub struct Reader {
 impl Model for Reader {
     ghost use Rattle.std.specs.Prelude.{◌≡◌, None};
     ghost use Rattle.resp_reader.specs.Reader.{Progress, progress};
-    ghost use Rattle.resp_reader.specs.Parser.{IsKept};
+    ghost use Rattle.resp_reader.specs.Parser.{IsBetweenCalls};
 
     ghost Value = { Progress };
 
     ghost view = { λ r. progress r.parser r.closed };
 
-    ghost invariant = { λ r. r.closed ≡ None → IsKept r.parser };
+    ghost invariant = { λ r. r.closed ≡ None → IsBetweenCalls r.parser };
 }
 
 impl Reader {
     pub fn new(alloc: Global) -> Self
-        ensures fed { Reads [] [] result }
+        ensures fed { ReadsRequests [] [] result }
         ensures requests { result.requests ≡ [] }
         ensures open { result.closed ≡ None }
         ensures empty { fed_to result ≡ 0 }
@@ -45,8 +45,9 @@ impl Reader {
     /// from then on.
     pub fn feed(&mut self, piece: &[u8]) -> Result<(), ReadError>
         // All that was fed means what was given and what is still to be given, and the error, if one came.
-        ensures fed { result ≢ Err ReadError.Memory → (bytes : List ℕ) (given : List Words) → Reads bytes given self.old
-            → Reads (bytes ++ piece.now) given self.new }
+        ensures fed { result ≢ Err ReadError.Memory → (bytes : List ℕ) (given : List Words)
+            → ReadsRequests bytes given self.old
+            → ReadsRequests (bytes ++ piece.now) given self.new }
         ensures ok { OnOk result (self.new.closed ≡ None) }
         ensures closes { IfErr result (λ e. e ≢ ReadError.Memory → self.new.closed ≡ Some e) }
 
@@ -77,8 +78,8 @@ impl Reader {
         ensures none { IsNone result ↔ (self.old.requests ≡ []) }
         ensures front { (self.new.front ≡ self.old.front) × (self.new.place ≡ self.old.place) }
         ensures closed { self.new.closed ≡ self.old.closed }
-        ensures fed { (bytes : List ℕ) (given : List Words) → Reads bytes given self.old
-            → Reads bytes (given ++ option_to_list result) self.new }
+        ensures fed { (bytes : List ℕ) (given : List Words) → ReadsRequests bytes given self.old
+            → ReadsRequests bytes (given ++ option_to_list result) self.new }
     {
         self.parser.ready.pop_front()
     }
@@ -93,7 +94,7 @@ impl Reader {
     /// How the input ends that was fed, where no more comes.
     pub fn end(self) -> Ended
         requires { self.closed ≡ None }
-        ensures { (bytes : List ℕ) (given : List Words) → Reads bytes given self
+        ensures { (bytes : List ℕ) (given : List Words) → ReadsRequests bytes given self
             → Parses bytes (given ++ self.requests) (input_end result) }
     {
         if self.parser.place == self.parser.taken {

@@ -4,6 +4,7 @@ mod commands;
 mod faults;
 mod generated;
 mod journals;
+mod pins;
 mod pool;
 mod sessions;
 

@@ -17,11 +17,11 @@ pub enum Line {
 pub type Schedule = Sequence<Line>;
 
 impl Line {
-    ghost use Rattle.schedule_text.specs.Text.{session_of};
+    ghost use Rattle.schedule_text.specs.Text.{line_session};
 
     /// The session that it is for.
     pub fn session(&self) -> u16
-        ensures { result ≡ session_of self.now }
+        ensures { result ≡ line_session self.now }
     {
         match self {
             Line::Call(session) => *session,

@@ -2,8 +2,8 @@ ghost use Rattle.std.specs.Prelude.{◌≡◌, ◌≢◌, ◌<◌, ℕ, IfOk, If
 ghost use Rattle.std.specs.Fmt.{decimal};
 ghost use Rattle.journal_text.specs.Lines.{lines_of};
 ghost use Rattle.schedule_text.specs.declared.line.Line.{Line as Asked};
-ghost use Rattle.schedule_text.specs.Text.{line_text, session_of};
-ghost use Rattle.schedule_text.specs.Reading.{AreLines, IsFault};
+ghost use Rattle.schedule_text.specs.Text.{schedule_line, line_session};
+ghost use Rattle.schedule_text.specs.Reading.{AreScheduleLines, IsScheduleFault};
 
 use crate::error::ScheduleError;
 use crate::line::{Line, Schedule};
@@ -12,8 +12,8 @@ use std::alloc::Global;
 
 /// The schedule, for so many sessions, whose text it is; the last line may lack its LF.
 pub fn read_schedule(alloc: Global, text: &[u8], sessions: u16) -> Result<Schedule, ScheduleError>
-    ensures ok { IfOk result (λ schedule. AreLines sessions (lines_of text.now) schedule.items) }
-    ensures err { IfErr result (IsFault sessions (lines_of text.now)) }
+    ensures ok { IfOk result (λ schedule. AreScheduleLines sessions (lines_of text.now) schedule.items) }
+    ensures err { IfErr result (IsScheduleFault sessions (lines_of text.now)) }
 {
     let mut schedule = Schedule::new(alloc);
     let mut rest = text;
@@ -31,8 +31,8 @@ pub fn read_schedule(alloc: Global, text: &[u8], sessions: u16) -> Result<Schedu
 
 // What a line asks for.
 fn asked(line: &[u8], sessions: u16) -> Option<Line>
-    ensures some { IfSome result (λ asked. (line.now ≡ line_text asked) × (session_of asked < sessions)) }
-    ensures none { IsNone result → (asked : Asked) → session_of asked < sessions → line.now ≢ line_text asked }
+    ensures some { IfSome result (λ asked. (line.now ≡ schedule_line asked) × (line_session asked < sessions)) }
+    ensures none { IsNone result → (asked : Asked) → line_session asked < sessions → line.now ≢ schedule_line asked }
 {
     if let Some(word) = line.strip_prefix(b"call ") {
         return Some(Line::Call(session(word, sessions)?));

@@ -1,21 +1,23 @@
 -- How sessions end whose inputs are generated.
-use Rattle.std.proofs.Common.{◌≡◌, ◌≢◌, ◌∙◌, ℕ, zero, suc, ◌+◌, ◌<◌, ◌≤◌, ◌⊎◌, inl, inr, List, [], ◌∷◌, ◌++◌, Option, Some, map, arith, refl, ap, ap₂, subst, append-nil}
+use Rattle.std.proofs.Common.{◌≡◌, ◌≢◌, ◌∙◌, ℕ, zero, suc, ◌+◌, ◌<◌, ◌≤◌, ◌⊎◌, inl, inr, List, [], ◌∷◌, ◌++◌, Option}
+use Rattle.std.proofs.Common.{Some, map, arith, refl, ap, ap₂, subst, append-nil}
 use Rattle.std.specs.List.{AllByRecursion, range_with_len}
 use Rattle.flake_base.specs.declared.session.End.{End}
-use Rattle.flake_base.specs.declared.session.End.TheVariants.{Clean, Protocol, Truncated, TooLong, ReadFault, Memory, Left}
+use Rattle.flake_base.specs.declared.session.End.TheVariants.{Clean, Protocol, Truncated, TooLong, ReadFault, Memory}
+use Rattle.flake_base.specs.declared.session.End.TheVariants.{Left}
 use Rattle.flake_base.specs.declared.session.SessionEnd.{SessionEnd}
 use Rattle.flake_model.specs.Resp.{Words, Parses}
 use Rattle.flake_model.specs.Command.{Command}
 use Rattle.flake_model.specs.Input.{commands_in}
 use Rattle.flake_model.specs.Run.{all_commands}
-use Rattle.flake_model.specs.Session.{Session, IsSession, IsTold, EndsAs, IsReadOut}
+use Rattle.flake_model.specs.Session.{Session, IsSession, AreKnownBytes, EndsAs, IsReadOut}
 use Rattle.flake_model.proofs.Faults.{error_stays, long_stays}
 use Rattle.flake_model.proofs.OneParse.{one_parse}
 use Rattle.command_pump.specs.Pump.{EndFaults}
-use Rattle.request_gen.specs.Words.{all_words, text_of}
+use Rattle.request_gen.specs.Words.{all_words, requests_text}
 use Rattle.request_gen.proofs.Clean.{is_clean}
-use Rattle.request_demand.specs.Sessions.{commands_of}
-use Rattle.serve_house.specs.Ran.{AreReads}
+use Rattle.request_demand.specs.Sessions.{generated_commands_of}
+use Rattle.run_resources.specs.Ran.{AreReads}
 use Rattle.serve_generated.specs.Generated.{HadMemory}
 
 -- clean, unless memory was wanting
@@ -23,7 +25,8 @@ abbrev pub IsWay : End → Type 0
 IsWay way = (way ≡ Clean) ⊎ (way ≡ Memory)
 
 -- a source without faults, whose bytes are whole requests
-way_is : (e : End) (gave left : List ℕ) (requests other : List Words) (shown : End) → Parses gave other shown → EndsAs e shown → IsReadOut e left → Parses (gave ++ left) requests Clean
+way_is : (e : End) (gave left : List ℕ) (requests other : List Words) (shown : End) → Parses gave other shown
+    → EndsAs e shown → IsReadOut e left → Parses (gave ++ left) requests Clean
     → EndFaults e 0 0 → e ≢ Left → IsWay e
 way_is Clean gave left requests other shown parsed is out clean faults stays = inl refl
 way_is (Protocol kind place) gave left requests other shown parsed is out clean faults stays =
@@ -40,13 +43,15 @@ way_is Memory gave left requests other shown parsed is out clean faults stays = 
 way_is Left gave left requests other shown parsed is out clean faults stays = absurd (stays refl)
 
 -- and then its commands are those of the requests
-commands_are : (e : End) (gave left : List ℕ) (requests other : List Words) (shown : End) → Parses gave other shown → EndsAs e shown → IsReadOut e left → Parses (gave ++ left) requests Clean
+commands_are : (e : End) (gave left : List ℕ) (requests other : List Words) (shown : End) → Parses gave other shown
+    → EndsAs e shown → IsReadOut e left → Parses (gave ++ left) requests Clean
     → e ≡ Clean → commands_in other shown ≡ commands_in requests Clean
 commands_are e gave left requests other shown parsed is out clean e_is =
     let shown_is : shown ≡ Clean = subst (λ e. EndsAs e shown) e_is is in
     let none : left ≡ [] = subst (λ e. IsReadOut e left) e_is out in
     let whole = subst (λ b. Parses b requests Clean) (ap (λ l. gave ++ l) none ∙ append-nil gave) clean in
-    ap (commands_in other) shown_is ∙ ap (λ r. commands_in r Clean) (one_parse gave other requests shown Clean parsed whole).0
+    ap (commands_in other) shown_is ∙ ap (λ r. commands_in r Clean)
+    (one_parse gave other requests shown Clean parsed whole).0
 
 -- what is known of one session
 record IsGenerated (s : Session) (end : SessionEnd) (commands : List Command) : Type 0 where
@@ -54,46 +59,60 @@ record IsGenerated (s : Session) (end : SessionEnd) (commands : List Command) : 
   commands_are : end.end ≢ Memory → s.commands ≡ commands
 
 one_session : (number session count : ℕ) (s : Session) (end : SessionEnd) → session < 16 → count ≤ 4000 → IsSession s
-    → s.input ≡ Some (text_of (all_words number session count)) → s.end ≡ end → EndFaults end.end 0 0 → end.end ≢ Left
-    → IsGenerated s end (commands_of number session count)
+    → s.input ≡ Some (requests_text (all_words number session count)) → s.end ≡ end → EndFaults end.end 0 0
+    → end.end ≢ Left
+    → IsGenerated s end (generated_commands_of number session count)
 one_session number session count s end small few is input_is end_is faults stays =
     let requests = all_words number session count in
-    let told : text_of requests ≡ is.gave ++ is.left = subst (λ input. IsTold input (is.gave ++ is.left)) input_is is.input_is in
-    let clean : Parses (is.gave ++ is.left) requests Clean = subst (λ b. Parses b requests Clean) told (is_clean number session count small few) in
+    let told : requests_text requests ≡ is.gave ++ is.left = subst (λ input. AreKnownBytes input (is.gave ++ is.left))
+    input_is is.input_is in
+    let clean : Parses (is.gave ++ is.left) requests Clean = subst (λ b. Parses b requests Clean) told
+    (is_clean number session count small few) in
     let shown : EndsAs end.end is.shown = subst (λ (e : SessionEnd). EndsAs e.end is.shown) end_is is.shown_is in
     let out : IsReadOut end.end is.left = subst (λ (e : SessionEnd). IsReadOut e.end is.left) end_is is.read_out in
     let way = way_is end.end is.gave is.left requests is.requests is.shown is.parsed shown out clean faults stays in
     record {
       way = way;
-      commands_are = λ memory. is.commands_are ∙ elim way as (λ _. commands_in is.requests is.shown ≡ commands_of number session count) [
-        | inl e ↦ commands_are end.end is.gave is.left requests is.requests is.shown is.parsed shown out clean e
-        | inr e ↦ absurd (memory e)
-      ];
+      commands_are = λ memory. is.commands_are
+          ∙ elim way as (λ _. commands_in is.requests is.shown ≡ generated_commands_of number session count) [
+            | inl e ↦ commands_are end.end is.gave is.left requests is.requests is.shown is.parsed shown out clean e
+            | inr e ↦ absurd (memory e)
+          ];
     }
 
 -- the inputs of the sessions from one on, and their commands
 abbrev pub inputs_from : ℕ → ℕ → ℕ → ℕ → List (Option (List ℕ))
-inputs_from number count session more = map (λ s. Some (text_of (all_words number s count))) (range_with_len session more)
+inputs_from number count session more = map (λ s. Some (requests_text (all_words number s count)))
+    (range_with_len session more)
 
 abbrev pub commands_from : ℕ → ℕ → ℕ → ℕ → List (List Command)
-commands_from number count session more = map (λ s. commands_of number s count) (range_with_len session more)
+commands_from number count session more = map (λ s. generated_commands_of number s count) (range_with_len session more)
 
 -- no read of a source failed, before or since
 abbrev pub no_faults : {A : Type 0} → List A → List ℕ
 no_faults sources = map (λ _. 0) sources
 
-pub all_ways : {A B : Type 0} (number count session more : ℕ) (sessions : List Session) (ends : List SessionEnd) (befores : List A) (nows : List B) → session + more ≤ 16 → count ≤ 4000
-    → AllByRecursion IsSession sessions → map (λ (s : Session). s.input) sessions ≡ inputs_from number count session more → map (λ (s : Session). s.end) sessions ≡ ends
+pub all_ways : {A B : Type 0} (number count session more : ℕ) (sessions : List Session) (ends : List SessionEnd)
+    (befores : List A) (nows : List B) → session + more ≤ 16 → count ≤ 4000
+    → AllByRecursion IsSession sessions → map (λ (s : Session). s.input) sessions
+    ≡ inputs_from number count session more → map (λ (s : Session). s.end) sessions ≡ ends
     → AreReads ends (no_faults befores) (no_faults nows) → AllByRecursion (λ end. end.end ≢ Left) ends
-    → AllByRecursion (λ end. IsWay end.end) ends × (HadMemory ends → all_commands sessions ≡ commands_from number count session more)
+    → AllByRecursion (λ end. IsWay end.end) ends
+    × (HadMemory ends → all_commands sessions ≡ commands_from number count session more)
 all_ways number count session zero [] [] befores nows small few each inputs are reads stays = (tt, λ memory. refl)
-all_ways number count session zero (s ∷ sessions) ends befores nows small few each inputs are reads stays = absurd (cc inputs)
+all_ways number count session zero (s ∷ sessions) ends befores nows small few each inputs are reads stays =
+    absurd (cc inputs)
 all_ways number count session zero [] (end ∷ ends) befores nows small few each inputs are reads stays = absurd (cc are)
 all_ways number count session (suc more) [] ends befores nows small few each inputs are reads stays = absurd (cc inputs)
-all_ways number count session (suc more) (s ∷ sessions) [] befores nows small few each inputs are reads stays = absurd (cc are)
-all_ways number count session (suc more) (s ∷ sessions) (end ∷ ends) [] nows small few each inputs are reads stays = absurd reads
-all_ways number count session (suc more) (s ∷ sessions) (end ∷ ends) (before ∷ befores) [] small few each inputs are reads stays = absurd reads
-all_ways number count session (suc more) (s ∷ sessions) (end ∷ ends) (before ∷ befores) (now ∷ nows) small few each inputs are reads stays =
+all_ways number count session (suc more) (s ∷ sessions) [] befores nows small few each inputs are reads stays =
+    absurd (cc are)
+all_ways number count session (suc more) (s ∷ sessions) (end ∷ ends) [] nows small few each inputs are reads stays =
+    absurd reads
+all_ways number count session (suc more) (s ∷ sessions) (end ∷ ends) (before ∷ befores) [] small few each inputs are
+    reads stays = absurd reads
+all_ways number count session (suc more) (s ∷ sessions) (end ∷ ends) (before ∷ befores) (now ∷ nows) small few each
+    inputs are reads stays =
     let this = one_session number session count s end (omega arith) few each.0 (cc inputs) (cc are) reads.0 stays.0 in
-    let rest = all_ways number count (session + 1) more sessions ends befores nows (omega arith) few each.1 (cc inputs) (cc are) reads.1 stays.1 in
+    let rest = all_ways number count (session + 1) more sessions ends befores nows (omega arith) few each.1 (cc inputs)
+    (cc are) reads.1 stays.1 in
     ((this.way, rest.0), λ memory. ap₂ (λ c cs. c ∷ cs) (this.commands_are memory.0) (rest.1 memory.1))

@@ -10,25 +10,25 @@ use Rattle.flake_model.specs.Run.{all_commands, missing_writes}
 use Rattle.pin_core.specs.declared.class.Class.TheVariants.{Small, Large}
 use Rattle.pinned_pool.specs.Ends.{End}
 use Rattle.serve_model.specs.Demand.{demand_of}
-use Rattle.request_gen.specs.Words.{all_words, text_of}
+use Rattle.request_gen.specs.Words.{all_words, requests_text}
 use Rattle.request_demand.specs.Sessions.{sessions_of}
 use Rattle.gen_words.specs.declared.task.GenTask.{GenTask}
-use Rattle.serve_house.specs.Opened.{pool_sizes}
+use Rattle.run_resources.specs.Opened.{pool_sizes}
 use Rattle.serve_inputs.specs.Ran.{RanAll}
-use Rattle.serve_house.specs.declared.sizes.Sizes.{Sizes}
+use Rattle.run_resources.specs.declared.sizes.Sizes.{Sizes}
 
 -- the input of each session
 abbrev pub inputs_of : GenTask → List (Option (List ℕ))
 inputs_of task =
-    map (λ session. Some (text_of (all_words task.number session task.requests))) (range_with_len 0 task.sessions)
+    map (λ session. Some (requests_text (all_words task.number session task.requests))) (range_with_len 0 task.sessions)
 
 -- and its commands
 abbrev pub commands_in_all : GenTask → List (List Command)
 commands_in_all task = sessions_of task.number task.sessions task.requests
 
 -- the pool has as many buffers of each class as the commands may claim, and at least one large one
-abbrev pub sizes_of : GenTask → Sizes
-sizes_of task = record {
+abbrev pub generated_sizes : GenTask → Sizes
+generated_sizes task = record {
   shards = 8;
   small = demand_of Small (commands_in_all task);
   large = max (demand_of Large (commands_in_all task)) 1;
@@ -48,7 +48,8 @@ module _ {W : Type 0} (put_may : W → Bor (List ℕ) → (W × Bool) → Type 0
   -- The generated inputs were served, and so many bytes of each were put in whole replies.
   pub record RanGenerated (task : GenTask) (lefts : List (Option (List ℕ))) (ends : List SessionEnd)
       (counts : List ℕ) (journal : List (List Entry)) (pool : End) (olds news : List W) : Type 0 where
-    pub ran : RanAll put_may flush_may (pool_sizes task.sessions (sizes_of task)) (inputs_of task) lefts ends counts
+    pub ran : RanAll put_may flush_may (pool_sizes task.sessions (generated_sizes task)) (inputs_of task) lefts ends
+        counts
         journal pool olds news
     -- each session ended clean, but for want of memory
     pub ways : AllByRecursion (λ end. (end.end ≡ Clean) ⊎ (end.end ≡ Memory)) ends

@@ -1,6 +1,6 @@
 ghost use Rattle.std.specs.Prelude.{◌≡◌, ◌≢◌, ◌<◌, ◌≤◌, All, length, map, Some, IfOk, IfErr, IsErrAnd};
-ghost use Rattle.shard_store.specs.Journals.{histories};
-ghost use Rattle.gen_words.specs.Task.{IsAllowed};
+ghost use Rattle.flake_base.specs.Histories.{histories};
+ghost use Rattle.gen_words.specs.Task.{IsAllowedGenerated};
 ghost use Rattle.serve_generated.specs.Generated.{IsTooMuch, RanGenerated};
 
 use crate::input::InputSource;
@@ -39,7 +39,7 @@ pub fn serve_generated<
     flush: &FLUSH,
 ) -> Result<Served<InputSource, W>, (Refused, Vec<W>)>
     requires calls { PUT.IsAlwaysCallable put.now × FLUSH.IsAlwaysCallable flush.now }
-    requires task { IsAllowed task.now }
+    requires task { IsAllowedGenerated task.now }
     requires wires { task.now.sessions ≤ length wires.items }
     ensures ran { IfOk result (λ r. RanGenerated (λ w p r. PUT.post put.now w p r) (λ w r. FLUSH.post flush.now w r)
         task.now (map Some r.sources.items) r.ends.items r.sent.items (histories r.journal.items) r.pool

@@ -1,7 +1,7 @@
 ghost use Rattle.std.specs.Prelude.{◌≡◌, ◌≤◌, IfSome, IsNone};
-ghost use Rattle.gen_words.specs.Task.{IsAllowed};
-ghost use Rattle.serve_house.specs.Opened.{IsSized};
-ghost use Rattle.serve_generated.specs.Generated.{IsTooMuch, sizes_of};
+ghost use Rattle.gen_words.specs.Task.{IsAllowedGenerated};
+ghost use Rattle.run_resources.specs.Opened.{HasRunSizes};
+ghost use Rattle.serve_generated.specs.Generated.{IsTooMuch, generated_sizes};
 
 use gen_words::GenTask;
 use request_demand::generated_demand;
@@ -15,9 +15,9 @@ const MOST_LARGE: u32 = 16_384;
 /// The usual sizes, with as many buffers of each class as the commands may claim, and at least one large one; none
 /// where no pool can have as many.
 pub(crate) fn sizes_for(task: &GenTask) -> Option<Sizes>
-    requires { IsAllowed task.now }
-    ensures sizes { IfSome result (λ sizes. sizes ≡ sizes_of task.now) }
-    ensures sized { IfSome result (λ sizes. IsSized task.now.sessions sizes) }
+    requires { IsAllowedGenerated task.now }
+    ensures sizes { IfSome result (λ sizes. sizes ≡ generated_sizes task.now) }
+    ensures sized { IfSome result (λ sizes. HasRunSizes task.now.sessions sizes) }
     ensures too_much { IsNone result → IsTooMuch task.now }
     ensures enough { IfSome result (λ sizes. IsTooMuch task.now → ⊥) }
 {

@@ -7,12 +7,12 @@ use Rattle.tx_ring.specs.declared.device.DeviceEnd.{DeviceEnd}
 use Rattle.command_pump.specs.Pump.{PumpState, IsPump}
 use Rattle.session_pass.specs.Views.{SessionView}
 use Rattle.session_workers.specs.Jobs.{IsNewJob}
-use Rattle.serve_house.specs.Opened.{IsDesk}
-use Rattle.serve_house.proofs.Desks.{fresh}
+use Rattle.run_resources.specs.Opened.{IsSessionSlot}
+use Rattle.run_resources.proofs.SessionSlots.{fresh}
 
 module _ {g : Ghosts Sent} where
   pub new_job : (z : Sizes) (session : SessionView) (device : DeviceEnd Sent g) (failed : Bool) (pump : PumpState)
-      (left : Option (List ℕ)) (faults : ℕ) → IsDesk z session device failed → IsPump left faults [] pump
+      (left : Option (List ℕ)) (faults : ℕ) → IsSessionSlot z session device failed → IsPump left faults [] pump
       → (pump.left ≡ left) × (pump.faults ≡ faults) → IsNewJob z session pump device failed
   new_job z session device failed pump left faults is unread own = record {
     fresh = fresh z session device failed pump left faults is unread own;

@@ -31,19 +31,21 @@ use Rattle.pin_core.specs.declared.sizes.Sizes.{Sizes}
 use Rattle.pinned_pool.specs.declared.view.View.{View}
 use Rattle.order_book.specs.Pages.{SessionList}
 use Rattle.command_pump.specs.Pump.{PumpState}
-use Rattle.serve_model.specs.Handed.{HasRun, OneRun, AllRun}
+use Rattle.serve_model.specs.Handed.{SessionHasRun, OneRun, AllRun}
 use Rattle.session_pass.specs.Views.{SessionView}
 use Rattle.session_workers.specs.Jobs.{IsDone}
-use Rattle.serve_house.specs.Opened.{session_credits}
-use Rattle.serve_house.specs.Ran.{no_wires, AreReads, AllSent, AllWhole}
-use Rattle.serve_house.proofs.Desks.{number_of, HasCredits}
+use Rattle.run_resources.specs.Opened.{session_credits}
+use Rattle.run_resources.specs.Ran.{no_wires, AreReads, AllSent, AllWhole}
+use Rattle.run_resources.proofs.SessionSlots.{number_of, HasCredits}
 
 module _ {J D W : Type 0} (put_may : W → Bor (List ℕ) → (W × Bool) → Type 0) (flush_may : W → (W × Bool) → Type 0)
-    (z : Sizes) (shards : ℕ) (session : J → SessionView) (pump : J → PumpState) (old : J → W) (end : D → SessionEnd) (bytes : D → ℕ)
+    (z : Sizes) (shards : ℕ) (session : J → SessionView) (pump : J → PumpState) (old : J → W) (end : D → SessionEnd)
+    (bytes : D → ℕ)
     (mine : D → SessionList) (seat : D → View) (left : D → PumpState) (new : D → W) where
   abbrev pub WasDone : J → D → Type 0
   WasDone j d =
-      IsDone put_may flush_may z shards (session j) (pump j) (old j) (end d) (bytes d) (mine d) (seat d) (left d) (new d)
+      IsDone put_may flush_may z shards (session j) (pump j) (old j) (end d) (bytes d) (mine d) (seat d) (left d)
+      (new d)
 
   abbrev pub runs_of : (jobs : List J) (dones : List D) → AllZip WasDone jobs dones → List OneRun
   runs_of [] [] is = []
@@ -66,14 +68,16 @@ module _ {J D W : Type 0} (put_may : W → Bor (List ℕ) → (W × Bool) → Ty
   inputs_are [] [] is = refl
   inputs_are [] (d ∷ dones) is = absurd is
   inputs_are (j ∷ jobs) [] is = absurd is
-  inputs_are (j ∷ jobs) (d ∷ dones) is = ap (λ (more : List (Option (List ℕ))). (pump j).left ∷ more) (inputs_are jobs dones is.1)
+  inputs_are (j ∷ jobs) (d ∷ dones) is = ap (λ (more : List (Option (List ℕ))). (pump j).left ∷ more)
+      (inputs_are jobs dones is.1)
 
   pub lefts_are : (jobs : List J) (dones : List D) (is : AllZip WasDone jobs dones)
       → map (λ (one : OneRun). one.left) (runs_of jobs dones is) ≡ map (λ (d : D). (left d).left) dones
   lefts_are [] [] is = refl
   lefts_are [] (d ∷ dones) is = absurd is
   lefts_are (j ∷ jobs) [] is = absurd is
-  lefts_are (j ∷ jobs) (d ∷ dones) is = ap (λ (more : List (Option (List ℕ))). (left d).left ∷ more) (lefts_are jobs dones is.1)
+  lefts_are (j ∷ jobs) (d ∷ dones) is = ap (λ (more : List (Option (List ℕ))). (left d).left ∷ more)
+      (lefts_are jobs dones is.1)
 
   pub ends_are : (jobs : List J) (dones : List D) (is : AllZip WasDone jobs dones)
       → map (λ (one : OneRun). one.end) (runs_of jobs dones is) ≡ map end dones
@@ -121,14 +125,16 @@ module _ {J D W : Type 0} (put_may : W → Bor (List ℕ) → (W × Bool) → Ty
   all_ran n (j ∷ jobs) (d ∷ dones) is numbers =
       let first : (session j).pass.list.number ≡ n = cc in
       let others : map number_of (map session jobs) ≡ range_with_len (n + 1) (length jobs) = cc in (
-        subst (λ (k : ℕ). HasRun z shards k (pump j).left (left d).left (end d) (mine d) (seat d) is.0.served.texts)
+        subst (λ (k : ℕ). SessionHasRun z shards k (pump j).left (left d).left (end d) (mine d)
+            (seat d) is.0.served.texts)
             first is.0.served.ran,
         refl,
         all_ran (n + 1) jobs dones is.1 others,
       )
 
   pub all_sent : (past : List W) (jobs : List J) (dones : List D) (is : AllZip WasDone jobs dones)
-      → AllSent put_may flush_may (map (λ (one : OneRun). (one.end.failed, flat_map (λ text. text) one.texts)) (runs_of jobs dones is))
+      → AllSent put_may flush_may
+      (map (λ (one : OneRun). (one.end.failed, flat_map (λ text. text) one.texts)) (runs_of jobs dones is))
       (map old jobs ++ past) (map new dones ++ past)
   all_sent past [] [] is = refl
   all_sent past [] (d ∷ dones) is = absurd is

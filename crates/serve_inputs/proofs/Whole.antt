@@ -38,19 +38,20 @@ use Rattle.command_pump.specs.Pump.{PumpState}
 use Rattle.serve_model.specs.Handed.{OneRun}
 use Rattle.serve_model.specs.Seats.{HasAll, IsSpare}
 use Rattle.session_pass.specs.Views.{SessionView}
-use Rattle.serve_house.specs.Joined.{HasJoined}
-use Rattle.serve_house.specs.Opened.{session_credits}
-use Rattle.serve_house.specs.Ran.{AreReads, AllSent, AllWhole}
-use Rattle.serve_house.specs.Together.{AreRuns, HaveShown}
-use Rattle.serve_house.proofs.Joining.{joins_all}
-use Rattle.serve_house.proofs.Desks.{number_of, HasCredits}
+use Rattle.run_resources.specs.Joined.{HasJoined}
+use Rattle.run_resources.specs.Opened.{session_credits}
+use Rattle.run_resources.specs.Ran.{AreReads, AllSent, AllWhole}
+use Rattle.run_resources.specs.Together.{AreRuns, HaveShown}
+use Rattle.run_resources.proofs.Joining.{joins_all}
+use Rattle.run_resources.proofs.SessionSlots.{number_of, HasCredits}
 use Rattle.serve_inputs.specs.Ran.{RanAll}
 use Rattle.serve_inputs.proofs.Runs as runs
 use Rattle.serve_inputs.proofs.Runs.{WasDone}
 
 pub ran_all : {J D W : Type 0} (jobs : List J) (dones : List D) (put_may : W → Bor (List ℕ) → (W × Bool) → Type 0)
     (flush_may : W → (W × Bool) → Type 0) (z y : Sizes) (shards : ℕ) (session : J → SessionView)
-    (pump : J → PumpState) (old : J → W) (end : D → SessionEnd) (bytes : D → ℕ) (mine : D → SessionList) (seat : D → View)
+    (pump : J → PumpState) (old : J → W) (end : D → SessionEnd) (bytes : D → ℕ) (mine : D → SessionList)
+    (seat : D → View)
     (left : D → PumpState) (new : D → W) (inputs lefts : List (Option (List ℕ))) (ends : List SessionEnd)
     (counts : List ℕ) (lists : List SessionList) (journal : List (List Entry)) (closed : End) (spare main : View)
     (past olds news : List W)
@@ -61,14 +62,16 @@ pub ran_all : {J D W : Type 0} (jobs : List J) (dones : List D) (put_may : W →
     → map (λ (j : J). (pump j).left) jobs ≡ inputs → lefts ≡ map (λ (d : D). (left d).left) dones
     → ends ≡ map end dones → counts ≡ map bytes dones → map old jobs ++ past ≡ olds → news ≡ map new dones ++ past
     → RanAll put_may flush_may y inputs lefts ends counts journal closed olds news
-ran_all {J} {D} {W} jobs dones put_may flush_may z y shards session pump old end bytes mine seat left new inputs lefts ends
+ran_all {J} {D} {W} jobs dones put_may flush_may z y shards session pump old end bytes mine seat left new inputs lefts
+    ends
     counts lists journal closed spare main past olds news is same numbers lists_is empty joins shown inputs_is lefts_is
     ends_is counts_is olds_is news_is =
     let each : List OneRun =
     runs.runs_of put_may flush_may z shards session pump old end bytes mine seat left new jobs dones is in
     let seats = runs.seats_are put_may flush_may z shards session pump old end bytes mine seat left new jobs dones is in
     let are : AreRuns z shards each lists main = record {
-      all = runs.all_ran put_may flush_may z shards session pump old end bytes mine seat left new 0 jobs dones is numbers;
+      all = runs.all_ran put_may flush_may z shards session pump old end bytes mine seat left new 0 jobs dones is
+          numbers;
       lists_are = lists_is
           ∙ sym (runs.lists_are put_may flush_may z shards session pump old end bytes mine seat left new jobs dones is);
       olds = runs.olds_are put_may flush_may z shards session pump old end bytes mine seat left new jobs dones is;
@@ -85,8 +88,10 @@ ran_all {J} {D} {W} jobs dones put_may flush_may z y shards session pump old end
     ∙ sym lefts_is in
     let e = runs.ends_are put_may flush_may z shards session pump old end bytes mine seat left new jobs dones is
     ∙ sym ends_is in
-    let sent = runs.all_sent put_may flush_may z shards session pump old end bytes mine seat left new past jobs dones is in
-    let whole = runs.all_whole put_may flush_may z shards session pump old end bytes mine seat left new past jobs dones is in
+    let sent = runs.all_sent put_may flush_may z shards session pump old end bytes mine seat left new past jobs dones is
+    in
+    let whole = runs.all_whole put_may flush_may z shards session pump old end bytes mine seat left new past jobs dones
+    is in
     let own : RanAll put_may flush_may z (map (λ (one : OneRun). one.input) each)
     (map (λ (one : OneRun). one.left) each) (map (λ (one : OneRun). one.end) each) (map bytes dones) journal closed
     (map old jobs ++ past) (map new dones ++ past) = record {
@@ -102,7 +107,8 @@ ran_all {J} {D} {W} jobs dones put_may flush_may z y shards session pump old end
 
 pub all_reads : {J D W : Type 0} (jobs : List J) (dones : List D)
     (put_may : W → Bor (List ℕ) → (W × Bool) → Type 0) (flush_may : W → (W × Bool) → Type 0) (z : Sizes) (shards : ℕ)
-    (session : J → SessionView) (pump : J → PumpState) (old : J → W) (end : D → SessionEnd) (bytes : D → ℕ) (mine : D → SessionList)
+    (session : J → SessionView) (pump : J → PumpState) (old : J → W) (end : D → SessionEnd) (bytes : D → ℕ)
+    (mine : D → SessionList)
     (seat : D → View) (left : D → PumpState) (new : D → W) (befores nows : List ℕ) (ends : List SessionEnd)
     → AllZip (WasDone put_may flush_may z shards session pump old end bytes mine seat left new) jobs dones
     → map (λ (j : J). (pump j).faults) jobs ≡ befores → nows ≡ map (λ (d : D). (left d).faults) dones
@@ -115,7 +121,8 @@ all_reads jobs dones put_may flush_may z shards session pump old end bytes mine 
 
 pub all_ended : {J D W : Type 0} (jobs : List J) (dones : List D)
     (put_may : W → Bor (List ℕ) → (W × Bool) → Type 0) (flush_may : W → (W × Bool) → Type 0) (z : Sizes) (shards : ℕ)
-    (session : J → SessionView) (pump : J → PumpState) (old : J → W) (end : D → SessionEnd) (bytes : D → ℕ) (mine : D → SessionList)
+    (session : J → SessionView) (pump : J → PumpState) (old : J → W) (end : D → SessionEnd) (bytes : D → ℕ)
+    (mine : D → SessionList)
     (seat : D → View) (left : D → PumpState) (new : D → W) (ends : List SessionEnd)
     → AllZip (WasDone put_may flush_may z shards session pump old end bytes mine seat left new) jobs dones
     → ends ≡ map end dones → All (λ (e : SessionEnd). e.end ≢ Left) ends
@@ -123,48 +130,53 @@ all_ended jobs dones put_may flush_may z shards session pump old end bytes mine 
     subst (All (λ (e : SessionEnd). e.end ≢ Left)) (sym ends_is)
     (runs.all_ended put_may flush_may z shards session pump old end bytes mine seat left new jobs dones is)
 
-numbers_in : {K : Type 0} (own : K → SessionView) (desks : List K)
-    → map number_of (map own desks) ≡ map (λ (k : K). number_of (own k)) desks
+numbers_in : {K : Type 0} (own : K → SessionView) (slots : List K)
+    → map number_of (map own slots) ≡ map (λ (k : K). number_of (own k)) slots
 numbers_in own [] = refl
-numbers_in own (k ∷ desks) = ap (λ (ns : List ℕ). number_of (own k) ∷ ns) (numbers_in own desks)
+numbers_in own (k ∷ slots) = ap (λ (ns : List ℕ). number_of (own k) ∷ ns) (numbers_in own slots)
 
--- the numbers and the credits of the sessions' jobs are those of their desks
-pub numbers_are : {J K : Type 0} (jobs : List J) (desks : List K) (session : J → SessionView)
-    (own : K → SessionView) (count : ℕ) → map session jobs ≡ map own desks
-    → map (λ (k : K). number_of (own k)) desks ≡ range_with_len 0 count
+-- the numbers and the credits of the sessions' jobs are those of their session slots
+pub numbers_are : {J K : Type 0} (jobs : List J) (slots : List K) (session : J → SessionView)
+    (own : K → SessionView) (count : ℕ) → map session jobs ≡ map own slots
+    → map (λ (k : K). number_of (own k)) slots ≡ range_with_len 0 count
     → map number_of (map session jobs) ≡ range_with_len 0 (length jobs)
-numbers_are jobs desks session own count same numbers =
+numbers_are jobs slots session own count same numbers =
     let long : count ≡ length jobs = sym (length-range_with_len 0 count) ∙ sym (ap length numbers)
-    ∙ length-map desks (λ k. number_of (own k)) ∙ sym (length-map desks own) ∙ sym (ap length same)
+    ∙ length-map slots (λ k. number_of (own k)) ∙ sym (length-map slots own) ∙ sym (ap length same)
     ∙ length-map jobs session in
-    ap (map number_of) same ∙ numbers_in own desks ∙ numbers ∙ ap (range_with_len 0) long
+    ap (map number_of) same ∙ numbers_in own slots ∙ numbers ∙ ap (range_with_len 0) long
 
 credits_of : {K : Type 0} (P : K → Type 0) (own : K → SessionView) → ((k : K) → P k → HasCredits (own k))
-    → (desks : List K) → All P desks → Each HasCredits (map own desks)
+    → (slots : List K) → All P slots → Each HasCredits (map own slots)
 credits_of P own is [] all = tt
-credits_of P own is (k ∷ desks) all =
-    (is k (All-head P k desks all), credits_of P own is desks (All-tail P k desks all))
+credits_of P own is (k ∷ slots) all =
+    (is k (All-head P k slots all), credits_of P own is slots (All-tail P k slots all))
 
-pub credits_are : {J D K W : Type 0} (jobs : List J) (dones : List D) (desks : List K) (P : K → Type 0)
+pub credits_are : {J D K W : Type 0} (jobs : List J) (dones : List D) (slots : List K) (P : K → Type 0)
     (own : K → SessionView) (put_may : W → Bor (List ℕ) → (W × Bool) → Type 0)
     (flush_may : W → (W × Bool) → Type 0) (z : Sizes) (shards : ℕ) (session : J → SessionView)
-    (pump : J → PumpState) (old : J → W) (end : D → SessionEnd) (bytes : D → ℕ) (mine : D → SessionList) (seat : D → View)
+    (pump : J → PumpState) (old : J → W) (end : D → SessionEnd) (bytes : D → ℕ) (mine : D → SessionList)
+    (seat : D → View)
     (left : D → PumpState) (new : D → W) (spare main : View)
     → AllZip (WasDone put_may flush_may z shards session pump old end bytes mine seat left new) jobs dones
-    → ((k : K) → P k → HasCredits (own k)) → All P desks → map session jobs ≡ map own desks
-    → HasJoined (map seat dones) spare main → main.credits ≡ spare.credits + session_credits * length desks
-credits_are jobs dones desks P own put_may flush_may z shards session pump old end bytes mine seat left new spare main is
+    → ((k : K) → P k → HasCredits (own k)) → All P slots → map session jobs ≡ map own slots
+    → HasJoined (map seat dones) spare main → main.credits ≡ spare.credits + session_credits * length slots
+credits_are jobs dones slots P own put_may flush_may z shards session pump old end bytes mine seat left new
+    spare main
+    is
     each all same joins =
-    let credits = runs.all_credits put_may flush_may z shards session pump old end bytes mine seat left new jobs dones is
-    (subst (Each HasCredits) (sym same) (credits_of P own each desks all)) in
+    let credits = runs.all_credits put_may flush_may z shards session pump old end bytes mine seat left new jobs dones
+    is
+    (subst (Each HasCredits) (sym same) (credits_of P own each slots all)) in
     let has = joins_all (map seat dones) spare main joins in
-    let long : length jobs ≡ length desks =
-    sym (length-map jobs session) ∙ ap length same ∙ length-map desks own in
+    let long : length jobs ≡ length slots =
+    sym (length-map jobs session) ∙ ap length same ∙ length-map slots own in
     omega (arith, has.credits, credits, ap (λ n. session_credits * n) long)
 
 pub as_many : {J D W : Type 0} (jobs : List J) (dones : List D)
     (put_may : W → Bor (List ℕ) → (W × Bool) → Type 0) (flush_may : W → (W × Bool) → Type 0) (z : Sizes) (shards : ℕ)
-    (session : J → SessionView) (pump : J → PumpState) (old : J → W) (end : D → SessionEnd) (bytes : D → ℕ) (mine : D → SessionList)
+    (session : J → SessionView) (pump : J → PumpState) (old : J → W) (end : D → SessionEnd) (bytes : D → ℕ)
+    (mine : D → SessionList)
     (seat : D → View) (left : D → PumpState) (new : D → W)
     → AllZip (WasDone put_may flush_may z shards session pump old end bytes mine seat left new) jobs dones
     → length dones ≡ length jobs

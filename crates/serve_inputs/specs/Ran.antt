@@ -8,7 +8,7 @@ use Rattle.pin_core.specs.declared.sizes.Sizes.{Sizes}
 use Rattle.pinned_pool.specs.Ends.{End}
 use Rattle.serve_model.specs.Replies.{all_replies}
 use Rattle.serve_model.specs.Shown.{WasRun}
-use Rattle.serve_house.specs.Ran.{no_wires, AllSent, AllWhole}
+use Rattle.run_resources.specs.Ran.{no_wires, AllSent, AllWhole}
 
 module _ {W : Type 0} (put_may : W → Bor (List ℕ) → (W × Bool) → Type 0) (flush_may : W → (W × Bool) → Type 0) where
   -- The inputs were served; the returned journal gives the texts of their replies, each of which was put on its wire.

@@ -3,14 +3,14 @@ ghost use Rattle.std.specs.Prelude.{◌≡◌, ◌<◌, ◌≤◌, ◌++◌, [],
 ghost use Rattle.std.specs.List.{AllZip};
 ghost use Rattle.std.specs.Vec.Iter.{into_iter_items};
 ghost use Rattle.session_workers.specs.Jobs.{IsNewJob, IsDone};
-ghost use Rattle.serve_house.specs.Opened.{IsDesk};
+ghost use Rattle.run_resources.specs.Opened.{IsSessionSlot};
 
 use command_exec::Shop;
 use command_pump::Pump;
 use flake_base::Source;
 use order_book::BookName;
 use pinned_pool::PoolName;
-use serve_house::Desk;
+use run_resources::SessionSlot;
 use session_pass::Gate;
 use session_serve::{Line, serve_beside};
 use session_workers::{Done, Job, serve_all};
@@ -19,21 +19,21 @@ use std::sync::Wait;
 use std::thread::Threads;
 use std::vec::IntoIter;
 
-/// Each desk gets the source and the wire at its place. Wires past them are left.
+/// Each session slot gets the source and the wire at its place. Wires past them are left.
 pub(crate) fn line_up<N: BookName, P: PoolName + Send, S: Source + Drop, W: Drop>(
     alloc: Global,
-    desks: Vec<Desk<N, P>>,
+    slots: Vec<SessionSlot<N, P>>,
     sources: Vec<S>,
     wires: Vec<W>,
     jobs: Vec<Job<N, P, S, W>>,
 ) -> (Vec<Job<N, P, S, W>>, IntoIter<W>)
-    requires desks { All (λ d. IsDesk P.sizes d.session d.device.end d.device.failed) desks.items }
-    requires sources { length sources.items ≡ length desks.items }
-    requires wires { length desks.items ≤ length wires.items }
-    requires room { (jobs.items ≡ []) × (length desks.items ≤ vec_capacity jobs) }
+    requires slots { All (λ d. IsSessionSlot P.sizes d.session d.device.end d.device.failed) slots.items }
+    requires sources { length sources.items ≡ length slots.items }
+    requires wires { length slots.items ≤ length wires.items }
+    requires room { (jobs.items ≡ []) × (length slots.items ≤ vec_capacity jobs) }
     ensures fresh { All (λ job. IsNewJob P.sizes job.line.session job.line.pump job.line.device.end
         job.line.device.failed) result.0.items }
-    ensures sessions { map (λ job. job.line.session) result.0.items ≡ map (λ d. d.session) desks.items }
+    ensures sessions { map (λ job. job.line.session) result.0.items ≡ map (λ d. d.session) slots.items }
     ensures lefts { map (λ job. job.line.pump.left) result.0.items ≡ map (λ s. S.left s) sources.items }
     ensures faults { map (λ job. job.line.pump.faults) result.0.items ≡ map (λ s. S.read_faults s) sources.items }
     ensures wires { map (λ job. job.wire) result.0.items ++ into_iter_items result.1 ≡ wires.items }
@@ -41,18 +41,18 @@ pub(crate) fn line_up<N: BookName, P: PoolName + Send, S: Source + Drop, W: Drop
     let mut jobs = jobs;
     let mut more_sources = sources.into_iter();
     let mut more_wires = wires.into_iter();
-    for desk in desks {
+    for slot in slots {
         let Some(source) = more_sources.next() else {
             unreachable!()
         };
         let Some(wire) = more_wires.next() else {
             unreachable!()
         };
-        let Desk {
+        let SessionSlot {
             session,
             device,
             room,
-        } = desk;
+        } = slot;
         let pump = Pump::new(alloc, source);
         let line = Line {
             session,

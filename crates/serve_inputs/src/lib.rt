@@ -3,12 +3,12 @@
 //! one record.
 #![tactic(auto)]
 
-mod crop;
 mod jobs;
+mod results;
 mod run;
 mod serving;
 mod space;
 
 pub use run::serve_inputs;
-pub use serve_house::Sizes;
+pub use run_resources::Sizes;
 pub use serving::Served;

@@ -1,15 +1,15 @@
 // Some sources, from nothing to nothing.
 ghost use Rattle.std.specs.Prelude.{◌≡◌, ◌≢◌, ◌<◌, ◌≤◌, All, length, map, IfOk, IfErr};
-ghost use Rattle.shard_store.specs.Journals.{histories};
-ghost use Rattle.serve_house.specs.Opened.{IsSized, IsPool, IsBook, pool_sizes};
-ghost use Rattle.serve_house.specs.Ran.{AreReads};
+ghost use Rattle.flake_base.specs.Histories.{histories};
+ghost use Rattle.run_resources.specs.Opened.{HasRunSizes, IsPool, IsBook, pool_sizes};
+ghost use Rattle.run_resources.specs.Ran.{AreReads};
 ghost use Rattle.serve_inputs.specs.Ran.{RanAll};
 
 use crate::serving::{Room, Served, serve_opened};
 use flake_base::{End, Source};
 use order_book::{BookBlank, BookName};
 use pinned_pool::{PoolBlank, PoolName};
-use serve_house::{SESSION_CREDITS, Sizes, open_house};
+use run_resources::{SESSION_CREDITS, Sizes, open_resources};
 use session_pass::Gate;
 use std::alloc::Global;
 use std::marker::Brand;
@@ -40,7 +40,7 @@ fn serve_named<
     flush: &FLUSH,
 ) -> Result<Served<S, W>, (Vec<S>, Vec<W>)>
     requires calls { PUT.IsAlwaysCallable put.now × FLUSH.IsAlwaysCallable flush.now }
-    requires sized { IsSized (length sources.items) sizes.now }
+    requires sized { HasRunSizes (length sources.items) sizes.now }
     requires workers { (0 < workers) × (workers ≤ 16) }
     requires wires { length sources.items ≤ length wires.items }
     requires pool { (P.table ≡ pool.table) × (P.sizes ≡ pool.sizes)
@@ -60,11 +60,11 @@ fn serve_named<
     let Ok(space) = Room::<N, P, S, W>::taken(alloc, sources.len(), wires.len()) else {
         return Err((sources, wires));
     };
-    let Ok(house) = open_house::<N, P>(alloc, sizes, sources.len(), pool, book) else {
+    let Ok(resources) = open_resources::<N, P>(alloc, sizes, sources.len(), pool, book) else {
         return Err((sources, wires));
     };
     Ok(serve_opened(
-        rt, alloc, sizes, workers, house, space, sources, wires, gate, put, flush,
+        rt, alloc, sizes, workers, resources, space, sources, wires, gate, put, flush,
     ))
 }
 
@@ -90,7 +90,7 @@ pub fn serve_inputs<
     flush: &FLUSH,
 ) -> Result<Served<S, W>, (Vec<S>, Vec<W>)>
     requires calls { PUT.IsAlwaysCallable put.now × FLUSH.IsAlwaysCallable flush.now }
-    requires sized { IsSized (length sources.items) sizes.now }
+    requires sized { HasRunSizes (length sources.items) sizes.now }
     requires workers { (0 < workers) × (workers ≤ 16) }
     requires wires { length sources.items ≤ length wires.items }
     ensures ran { IfOk result (λ r. RanAll (λ w p r. PUT.post put.now w p r) (λ w r. FLUSH.post flush.now w r)

@@ -2,19 +2,19 @@
 ghost use Rattle.std.specs.Prelude.{◌≡◌, ◌≢◌, ◌<◌, ◌≤◌, [], All, length, map, vec_capacity};
 ghost use Rattle.std.specs.List.{range_with_len};
 ghost use Rattle.serve_model.specs.Seats.{IsSpare};
-ghost use Rattle.shard_store.specs.Journals.{histories};
-ghost use Rattle.serve_house.specs.Opened.{IsPool, IsBook, IsDesk, pool_sizes};
-ghost use Rattle.serve_house.specs.Ran.{AreReads};
+ghost use Rattle.flake_base.specs.Histories.{histories};
+ghost use Rattle.run_resources.specs.Opened.{IsPool, IsBook, IsSessionSlot, pool_sizes};
+ghost use Rattle.run_resources.specs.Ran.{AreReads};
 ghost use Rattle.serve_inputs.specs.Ran.{RanAll};
 
-use crate::crop::{Crop, bring_in};
 use crate::jobs::{line_up, serve_jobs};
+use crate::results::{Results, bring_in};
 use crate::space::Space;
 use command_exec::Shop;
 use flake_base::{End, Ends, Journal, Source};
 use order_book::BookName;
 use pinned_pool::{PoolEnd, PoolName};
-use serve_house::{Closed, House, Sizes, close_all};
+use run_resources::{Closed, RunResources, Sizes, close_all};
 use session_pass::Gate;
 use session_workers::{Done, Job};
 use std::alloc::Global;
@@ -51,7 +51,7 @@ pub(crate) fn serve_opened<
     alloc: Global,
     sizes: &Sizes,
     workers: u16,
-    house: House<N, P>,
+    resources: RunResources<N, P>,
     space: Room<N, P, S, W>,
     sources: Vec<S>,
     wires: Vec<W>,
@@ -64,17 +64,17 @@ pub(crate) fn serve_opened<
     requires pool { IsPool (length sources.items) sizes.now P.sizes }
     requires book { IsBook (length sources.items) sizes.now N.sizes }
     requires wires { length sources.items ≤ length wires.items }
-    requires main { IsSpare house.main × (house.main.credits ≡ 1) }
-    requires desks { All (λ d. IsDesk P.sizes d.session d.device.end d.device.failed) house.desks.items }
-    requires numbers { map (λ d. d.session.pass.list.number) house.desks.items
+    requires main { IsSpare resources.main × (resources.main.credits ≡ 1) }
+    requires slots { All (λ d. IsSessionSlot P.sizes d.session d.device.end d.device.failed) resources.slots.items }
+    requires numbers { map (λ d. d.session.pass.list.number) resources.slots.items
         ≡ range_with_len 0 (length sources.items) }
     requires jobs { (space.jobs.items ≡ []) × (length sources.items ≤ vec_capacity space.jobs) }
     requires dones { (space.dones.items ≡ []) × (length sources.items ≤ vec_capacity space.dones) }
-    requires ends { (space.crop.ends.items ≡ []) × (length sources.items ≤ space.crop.ends.spare) }
-    requires sent { (space.crop.sent.items ≡ []) × (length sources.items ≤ vec_capacity space.crop.sent) }
-    requires lists { (space.crop.lists.items ≡ []) × (length sources.items ≤ space.crop.lists.spare) }
-    requires room { (space.crop.sources.items ≡ []) × (length sources.items ≤ vec_capacity space.crop.sources) }
-    requires wire_room { (space.crop.wires.items ≡ []) × (length wires.items ≤ vec_capacity space.crop.wires) }
+    requires ends { (space.results.ends.items ≡ []) × (length sources.items ≤ space.results.ends.spare) }
+    requires sent { (space.results.sent.items ≡ []) × (length sources.items ≤ vec_capacity space.results.sent) }
+    requires lists { (space.results.lists.items ≡ []) × (length sources.items ≤ space.results.lists.spare) }
+    requires room { (space.results.sources.items ≡ []) × (length sources.items ≤ vec_capacity space.results.sources) }
+    requires wire_room { (space.results.wires.items ≡ []) × (length wires.items ≤ vec_capacity space.results.wires) }
     ensures ran { RanAll (λ w p r. PUT.post put.now w p r) (λ w r. FLUSH.post flush.now w r)
         (pool_sizes (length sources.items) sizes.now) (map (λ s. S.left s) sources.items)
         (map (λ s. S.left s) result.sources.items) result.ends.items result.sent.items
@@ -84,15 +84,19 @@ pub(crate) fn serve_opened<
         (map (λ s. S.read_faults s) result.sources.items) }
     ensures to_the_end { All (λ end. end.end ≢ End.Left) result.ends.items }
 {
-    let House {
+    let RunResources {
         pool,
         book,
         store,
         mut main,
-        desks,
-    } = house;
-    let Space { jobs, dones, crop } = space;
-    let (jobs, past) = line_up(alloc, desks, sources, wires, jobs);
+        slots,
+    } = resources;
+    let Space {
+        jobs,
+        dones,
+        results,
+    } = space;
+    let (jobs, past) = line_up(alloc, slots, sources, wires, jobs);
     let shop = Shop {
         pool: &pool,
         book: &book,
@@ -100,13 +104,13 @@ pub(crate) fn serve_opened<
     };
     let dones = serve_jobs(rt, alloc, &shop, jobs, dones, workers, gate, put, flush);
     let parts = store.into_parts(&pool);
-    let Crop {
+    let Results {
         ends,
         sent,
         lists,
         sources,
         wires,
-    } = bring_in(&pool, &mut main, dones, past, crop);
+    } = bring_in(&pool, &mut main, dones, past, results);
     let Closed { journal, end: pool } = close_all(pool, book, parts, main, lists);
     let _ = sizes;
     Served {

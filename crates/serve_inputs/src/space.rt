@@ -1,7 +1,7 @@
 // Room that is taken before anything is read.
 ghost use Rattle.std.specs.Prelude.{◌≡◌, ◌≤◌, [], vec_capacity, IfOk};
 
-use crate::crop::Crop;
+use crate::results::Results;
 use flake_base::Memory;
 use order_book::BookName;
 use std::alloc::Global;
@@ -11,7 +11,7 @@ use std::alloc::Global;
 pub(crate) struct Space<J, D, N: BookName, S, W> {
     pub(crate) jobs: Vec<J>,
     pub(crate) dones: Vec<D>,
-    pub(crate) crop: Crop<N, S, W>,
+    pub(crate) results: Results<N, S, W>,
 }
 
 impl<J: Drop, D: Drop, N: BookName, S: Drop, W: Drop> Space<J, D, N, S, W> {
@@ -19,16 +19,16 @@ impl<J: Drop, D: Drop, N: BookName, S: Drop, W: Drop> Space<J, D, N, S, W> {
     pub(crate) fn taken(alloc: Global, count: usize, wires: usize) -> Result<Self, Memory>
         ensures jobs { IfOk result (λ s. (s.jobs.items ≡ []) × (count ≤ vec_capacity s.jobs)) }
         ensures dones { IfOk result (λ s. (s.dones.items ≡ []) × (count ≤ vec_capacity s.dones)) }
-        ensures ends { IfOk result (λ s. (s.crop.ends.items ≡ []) × (count ≤ s.crop.ends.spare)) }
-        ensures sent { IfOk result (λ s. (s.crop.sent.items ≡ []) × (count ≤ vec_capacity s.crop.sent)) }
-        ensures lists { IfOk result (λ s. (s.crop.lists.items ≡ []) × (count ≤ s.crop.lists.spare)) }
-        ensures sources { IfOk result (λ s. (s.crop.sources.items ≡ []) × (count ≤ vec_capacity s.crop.sources)) }
-        ensures wires { IfOk result (λ s. (s.crop.wires.items ≡ []) × (wires ≤ vec_capacity s.crop.wires)) }
+        ensures ends { IfOk result (λ s. (s.results.ends.items ≡ []) × (count ≤ s.results.ends.spare)) }
+        ensures sent { IfOk result (λ s. (s.results.sent.items ≡ []) × (count ≤ vec_capacity s.results.sent)) }
+        ensures lists { IfOk result (λ s. (s.results.lists.items ≡ []) × (count ≤ s.results.lists.spare)) }
+        ensures sources { IfOk result (λ s. (s.results.sources.items ≡ []) × (count ≤ vec_capacity s.results.sources)) }
+        ensures wires { IfOk result (λ s. (s.results.wires.items ≡ []) × (wires ≤ vec_capacity s.results.wires)) }
     {
         Ok(Space {
             jobs: Vec::with_capacity(alloc, count)?,
             dones: Vec::with_capacity(alloc, count)?,
-            crop: Crop::with_room(alloc, count, wires)?,
+            results: Results::with_room(alloc, count, wires)?,
         })
     }
 }

@@ -9,7 +9,7 @@ use Rattle.flake_model.specs.Store.{Operation}
 use Rattle.flake_model.specs.Command.{Command, parts}
 use Rattle.flake_model.specs.Deed.{Deed, entries_of}
 use Rattle.flake_model.specs.Journal.{next_parts}
-use Rattle.flake_model.specs.Order.{IsBefore, IsRising}
+use Rattle.flake_model.specs.Order.{IsBefore, EntriesRise}
 use Rattle.flake_model.proofs.Streams.{all_append}
 use Rattle.order_book.specs.Closed.{AreMeant}
 use Rattle.call_model.specs.Outcomes.{Outcomes, entry_at, call_told}
@@ -61,7 +61,7 @@ at_calls P shards session call (command ∷ commands) (outcomes ∷ calls) each 
     (at_calls P shards session (call + 1) commands calls (λ n k from to. each n k (omega arith) (omega arith)))
 
 rising_call : (shards session call part : ℕ) (operations : List Operation) (outcomes : Outcomes)
-    → IsRising (told_entries (call_told shards session call part operations outcomes))
+    → EntriesRise (told_entries (call_told shards session call part operations outcomes))
 rising_call shards session call part operations [] = tt
 rising_call shards session call part [] (outcome ∷ outcomes) = tt
 rising_call shards session call part (operation ∷ operations) (None ∷ outcomes) =
@@ -81,24 +81,25 @@ all_later call entry (later ∷ entries) less from = (
 )
 
 -- entries of earlier calls, and those from a call on
-rising_append : (call : ℕ) (some more : List Entry) → IsRising some → AllByRecursion (λ entry. entry.call < call) some
-    → AllByRecursion (λ entry. call ≤ entry.call) more → IsRising more
-    → IsRising (some ++ more)
+rising_append : (call : ℕ) (some more : List Entry) → EntriesRise some
+    → AllByRecursion (λ entry. entry.call < call) some
+    → AllByRecursion (λ entry. call ≤ entry.call) more → EntriesRise more
+    → EntriesRise (some ++ more)
 rising_append call [] more rising to from rest = rest
 rising_append call (entry ∷ some) more rising to from rest = (
   all_append (λ later. IsBefore entry later) some more rising.0 (all_later call entry more to.0 from),
   rising_append call some more rising.1 to.1 from rest,
 )
 
-rising_told : (call : ℕ) (some more : List (ℕ × Deed)) → IsRising (told_entries some)
+rising_told : (call : ℕ) (some more : List (ℕ × Deed)) → EntriesRise (told_entries some)
     → AllByRecursion (λ entry. entry.call < call) (told_entries some)
-    → AllByRecursion (λ entry. call ≤ entry.call) (told_entries more) → IsRising (told_entries more)
-    → IsRising (told_entries (some ++ more))
-rising_told call some more rising to from rest = subst IsRising (sym (entries_append some more))
+    → AllByRecursion (λ entry. call ≤ entry.call) (told_entries more) → EntriesRise (told_entries more)
+    → EntriesRise (told_entries (some ++ more))
+rising_told call some more rising to from rest = subst EntriesRise (sym (entries_append some more))
     (rising_append call (told_entries some) (told_entries more) rising to from rest)
 
 rising_calls : (shards session call : ℕ) (commands : List Command) (calls : List Outcomes)
-    → IsRising (told_entries (calls_told shards session call commands calls))
+    → EntriesRise (told_entries (calls_told shards session call commands calls))
 rising_calls shards session call commands [] = tt
 rising_calls shards session call [] (outcomes ∷ calls) = tt
 rising_calls shards session call (command ∷ commands) (outcomes ∷ calls) =
@@ -110,7 +111,7 @@ rising_calls shards session call (command ∷ commands) (outcomes ∷ calls) =
     (rising_calls shards session (call + 1) commands calls)
 
 -- the entries of what a session ran rise
-pub run_rising : (shards session : ℕ) (run : Run) → IsRising (told_entries (run_told shards session run))
+pub run_rising : (shards session : ℕ) (run : Run) → EntriesRise (told_entries (run_told shards session run))
 run_rising shards session run =
     let n = length run.calls in
     rising_told n (calls_told shards session 0 run.commands run.calls)

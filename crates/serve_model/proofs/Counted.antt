@@ -10,9 +10,9 @@ use Rattle.pin_core.specs.Holding.{Holding, at, loose_at}
 use Rattle.pin_core.specs.declared.class.Class.{Class}
 use Rattle.pin_core.specs.declared.class.Class.TheVariants.{Small, Large}
 use Rattle.pin_core.specs.declared.sizes.Sizes as pool_sizes
-use Rattle.pinned_pool.specs.Claims.{first_of, count_of}
+use Rattle.pinned_pool.specs.Claims.{class_start, count_of}
 use Rattle.pinned_pool.specs.Classes.{class_at, buffers_in}
-use Rattle.pinned_pool.specs.Ends.{end_of}
+use Rattle.pinned_pool.specs.Ends.{pool_end}
 use Rattle.pinned_pool.specs.Views.{looked_at}
 use Rattle.pinned_pool.specs.declared.view.View.{View}
 use Rattle.flake_model.specs.Command.{Command}
@@ -102,11 +102,11 @@ module _ (books : book_sizes.Sizes) (all : List SessionRun) (shards : List Shard
   few b =
       omega (arith, is.loose b, hold_weight (loose_at b), loose_there store.holds stock.kept stock.holds b)
 
-  held : (class : Class) → held_in (λ (weight : Holding → ℕ). total weight last.holds) (first_of z class)
+  held : (class : Class) → held_in (λ (weight : Holding → ℕ). total weight last.holds) (class_start z class)
       (count_of z class) ≡ fragments_by_class class commands journal
   held class =
       let kept = stock.kept in
-      let first = first_of z class in
+      let first = class_start z class in
       let count = count_of z class in
       held_is (λ (weight : Holding → ℕ). total weight last.holds) (λ b. total (λ (p : ℕ × ℕ). same p.0 b) kept) first
       count (λ b. hold_weight (at b) ∙ held_at store.holds kept stock.holds b) few
@@ -124,7 +124,7 @@ module _ (books : book_sizes.Sizes) (all : List SessionRun) (shards : List Shard
       counted_by (λ (step : Step). is_none (answer_at step.0 answers)) (served_steps 0 ran)
       ∙ weights none_in ∙ runs_none runs lists.runs_are
 
-  pub counted : IsCounted z ran journal (end_of z last)
+  pub counted : IsCounted z ran journal (pool_end z last)
   counted =
       let sums = sums_of z runs seats spent in
       let claimed : (class : Class) → buffers_in z class last.claims + sums.missed class ≤ demand_of class commands =

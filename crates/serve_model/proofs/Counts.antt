@@ -11,7 +11,7 @@ use Rattle.pin_core.specs.Holding.{Holding}
 use Rattle.pin_core.specs.declared.class.Class.{Class}
 use Rattle.pin_core.specs.declared.class.Class.TheVariants.{Small, Large}
 use Rattle.pin_core.specs.declared.sizes.Sizes as pool_sizes
-use Rattle.pinned_pool.specs.Claims.{first_of, count_of}
+use Rattle.pinned_pool.specs.Claims.{class_start, count_of}
 use Rattle.pinned_pool.specs.Classes.{class_at, buffers_in}
 use Rattle.pinned_pool.specs.Ends.{LooksClaimed}
 use Rattle.pinned_pool.specs.Views.{among, looked_at}
@@ -69,13 +69,13 @@ pub all_claimed : (z : pool_sizes.Sizes) (class : Class) (claims : List ℕ)
     → ((b : ℕ) → b < buffers z → class_at z b ≡ class → 0 < among b claims)
     → count_of z class ≤ buffers_in z class claims
 all_claimed z class claims each =
-    let most = sum_from-most (λ b. among b claims) (first_of z class) (count_of z class)
+    let most = sum_from-most (λ b. among b claims) (class_start z class) (count_of z class)
     (λ b from to. each b (range_below z class b from to) (class_of_range z class b from to)) in
-    let turned = sum_from-total same claims (first_of z class) (count_of z class) in
+    let turned = sum_from-total same claims (class_start z class) (count_of z class) in
     omega (arith, most, turned, fewer claims)
   where
     fewer : (cs : List ℕ)
-        → total (λ c. sum_from (same c) (first_of z class) (count_of z class)) cs ≤ buffers_in z class cs
+        → total (λ c. sum_from (same c) (class_start z class) (count_of z class)) cs ≤ buffers_in z class cs
     fewer [] = omega arith
     fewer (c ∷ cs) = omega (arith, range_most z class c, fewer cs)
 

@@ -16,7 +16,7 @@ use Rattle.view_sums.proofs.Sums.{total-append, total-map}
 use Rattle.pin_core.specs.declared.class.Class.{Class}
 use Rattle.pinned_pool.specs.Classes.{just}
 use Rattle.frag_value.specs.Fragments.{class_for, fragments_in}
-use Rattle.flake_model.specs.Deed.{Deed, Places, places_at, AreStored, placed, places_after, kept_fragments}
+use Rattle.flake_model.specs.Deed.{Deed, Places, places_at, AreStored, places_with, places_after, kept_fragments}
 use Rattle.flake_model.specs.Deed.{IsLegalFrom, store_left, places_left, final_store, final_places, IsLegal}
 use Rattle.flake_model.specs.Fragments.{fragments_of}
 use Rattle.flake_model.specs.Store.{Store, Change, keeps, puts, removes, changed, change_by, bytes_at, key_of, after}
@@ -91,7 +91,7 @@ module _ (store : Store) (places : Places) (key : List ℕ) (are : ArePlaced sto
             ap (λ (p : Option (List ℕ)). length (unwrap_or p [])) there ∙ are other found now
 
   stay_placed : (change : Change) (kept : ℕ) (were stored : List ℕ) → AreStored change kept were stored
-      → ArePlaced (changed store key change) (placed places key change stored)
+      → ArePlaced (changed store key change) (places_with places key change stored)
   stay_placed keeps kept were stored is = are
   stay_placed (puts bytes) kept were stored is = inserted bytes stored is.0
   stay_placed removes kept were stored is = removed

@@ -19,7 +19,7 @@ use Rattle.flake_model.specs.Reply.{Reply, reply_of, reply_text}
 use Rattle.flake_model.specs.Journal.{next_parts}
 use Rattle.flake_model.specs.Session.{IsBegun}
 use Rattle.call_model.specs.Demand.{parts_row, long_in}
-use Rattle.call_model.specs.Outcomes.{Outcomes, Told, AreOutcomes, call_told, answers_told, missed_in}
+use Rattle.call_model.specs.Outcomes.{Outcomes, SessionDeeds, AreOutcomes, call_told, answers_told, missed_in}
 use Rattle.call_model.proofs.Rows.{sought_as}
 use Rattle.serve_model.specs.Demand.{stage_row, commands_row}
 use Rattle.serve_model.specs.Runs.{calls_told, replies_told, parts_told, missed_by}
@@ -92,7 +92,7 @@ going_on z shards session given calls texts text pins more command outcomes old 
     record {
       as_many = omega (arith, going.as_many, length-append calls (outcomes ∷ []), length-append given (command ∷ []));
       are = one.are going.are done.running.are done.whole;
-      told_is = done.running.told ∙ ap (λ (told : Told). told ++ here) going.told_is ∙ sym one.told;
+      told_is = done.running.told ∙ ap (λ (told : SessionDeeds). told ++ here) going.told_is ∙ sym one.told;
       texts_are = (λ i. going.texts_are i ++ done.text_is i ∷ [])
           ∙ sym (map-append reply_text (replies_told given calls) (reply ∷ []))
           ∙ ap (map reply_text) (sym (replies_more given calls command outcomes going.as_many));

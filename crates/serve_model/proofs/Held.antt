@@ -9,9 +9,9 @@ use Rattle.pin_core.specs.Holding.{Holding, Key, at, loose_at}
 use Rattle.pin_core.specs.HeldCount.{held_in}
 use Rattle.pin_core.specs.declared.sizes.Sizes.{Sizes}
 use Rattle.pin_core.specs.declared.class.Class.{Class}
-use Rattle.pinned_pool.specs.Claims.{first_of, count_of}
+use Rattle.pinned_pool.specs.Claims.{class_start, count_of}
 use Rattle.pinned_pool.specs.Classes.{just}
-use Rattle.pinned_pool.specs.Moves.{key_of, loose_key}
+use Rattle.pinned_pool.specs.Moves.{hold_key, loose_key}
 use Rattle.frag_value.specs.Fragments.{fragments_in}
 use Rattle.frag_value.specs.Values.{IsPlaced, keys_of}
 use Rattle.flake_model.specs.Command.{Command}
@@ -27,11 +27,11 @@ use Rattle.serve_model.proofs.Finals.{length_in, weigh_fragment, fragments_total
 use Rattle.serve_model.proofs.Ranges.{sum_from, range_one}
 
 -- The weights of holds that are not pinned, by their buffers.
-module _ (holds : List Holding) (kept : List (ℕ × ℕ)) (same_keys : SameItems (map key_of holds) (keys_of kept)) where
+module _ (holds : List Holding) (kept : List (ℕ × ℕ)) (same_keys : SameItems (map hold_key holds) (keys_of kept)) where
   by_keys : (weight : Key → ℕ)
-      → total (λ (h : Holding). weight (key_of h)) holds ≡ total (λ (p : ℕ × ℕ). weight (loose_key p.0)) kept
+      → total (λ (h : Holding). weight (hold_key h)) holds ≡ total (λ (p : ℕ × ℕ). weight (loose_key p.0)) kept
   by_keys weight =
-      sym (total-map weight key_of holds) ∙ same_keys weight
+      sym (total-map weight hold_key holds) ∙ same_keys weight
       ∙ total-map weight (λ (p : ℕ × ℕ). loose_key p.0) kept
 
   pub held_at : (b : ℕ) → total (at b) holds ≡ total (λ (p : ℕ × ℕ). same p.0 b) kept
@@ -65,11 +65,11 @@ held_is weighs f first (suc n) is few =
 
 -- fragments in buffers of their classes, counted by their buffers and by their lengths
 pub placed_total : (z : Sizes) (class : Class) (kept : List (ℕ × ℕ)) → Each (IsPlaced z) kept
-    → total (λ (p : ℕ × ℕ). sum_from (same p.0) (first_of z class) (count_of z class)) kept
+    → total (λ (p : ℕ × ℕ). sum_from (same p.0) (class_start z class) (count_of z class)) kept
     ≡ total (weigh_fragment class) kept
 placed_total z class [] each = refl
 placed_total z class (p ∷ kept) each =
-    let here : sum_from (same p.0) (first_of z class) (count_of z class) ≡ length_in class p.1 =
+    let here : sum_from (same p.0) (class_start z class) (count_of z class) ≡ length_in class p.1 =
     range_one z class p.0 each.0.0 ∙ ap (λ k. just k 1 class) each.0.1 in
     omega (arith, here, placed_total z class kept each.1)
 

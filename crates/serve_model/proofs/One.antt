@@ -5,7 +5,7 @@ use Rattle.flake_base.specs.declared.journal.Entry.{Entry}
 use Rattle.flake_base.specs.declared.session.SessionEnd.{SessionEnd}
 use Rattle.flake_model.specs.Command.{Command}
 use Rattle.flake_model.specs.Journal.{wire_text}
-use Rattle.flake_model.specs.Run.{texts_from}
+use Rattle.flake_model.specs.Run.{wire_texts_from}
 use Rattle.flake_model.specs.Session.{Session}
 use Rattle.serve_model.specs.Handed.{OneRun}
 use Rattle.serve_model.specs.One.{OneRan}
@@ -18,7 +18,7 @@ first_text (text ∷ texts) = text.1
 -- the text of the only session
 only_text : (sessions : List Session) (commands : List (List Command)) (journal : List (List Entry))
     (end : SessionEnd) (text : List ℕ) → map (λ (session : Session). session.end) sessions ≡ end ∷ []
-    → texts_from commands journal 0 sessions ≡ (end.failed, text) ∷ []
+    → wire_texts_from commands journal 0 sessions ≡ (end.failed, text) ∷ []
     → text ≡ wire_text commands journal 0 end.replies
 only_text [] commands journal end text ends texts = absurd (let no : ⊥ = cc in no)
 only_text (session ∷ sessions) commands journal end text ends texts =

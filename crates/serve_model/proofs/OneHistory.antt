@@ -16,12 +16,13 @@ use Rattle.flake_model.specs.Deed.{Deed, entries_of}
 use Rattle.flake_model.specs.Journal.{Step, shard_of, step_of, operation_at, answers_from, answers_of, answer_at}
 use Rattle.flake_model.specs.Journal.{of_session, in_shard, next_parts}
 use Rattle.flake_model.specs.OneThread.{IsSharded}
-use Rattle.flake_model.specs.Order.{IsBefore, IsRising}
+use Rattle.flake_model.specs.Order.{IsBefore, EntriesRise}
 use Rattle.flake_model.proofs.OneOrder.{Among, before_itself}
 use Rattle.flake_model.proofs.OneSession.{Stands, all_filter, steps_are}
 use Rattle.flake_model.proofs.ManyShards.{in_a_piece, in_all, is_found}
 use Rattle.flake_model.proofs.SameStores.{from_shard, to_shard}
-use Rattle.order_book.specs.Pages.{Ranked, Page, session_of, deeds_of, placed, ShardList, SessionList, shown_shard}
+use Rattle.order_book.specs.Pages.{Ranked, Page, deed_session, ranked_deeds, shard_deeds, ShardList, SessionList}
+use Rattle.order_book.specs.Pages.{shown_shard}
 use Rattle.order_book.specs.Pages.{shown_session}
 use Rattle.order_book.specs.Rule.{Rises}
 use Rattle.order_book.specs.Closed.{AreMeant, AreRising, journal_of}
@@ -76,7 +77,8 @@ lists_keyed shards n [] = tt
 lists_keyed shards n (run ∷ runs) = (run_keyed shards n run, lists_keyed shards (n + 1) runs)
 
 -- in a session's list the lower rank is the earlier part
-earlier : (r : ℕ) (xs : List Ranked) (x y : Ranked) → IsRising (map entry_of xs) → Rises r xs → Among xs x → Among xs y
+earlier : (r : ℕ) (xs : List Ranked) (x y : Ranked) → EntriesRise (map entry_of xs) → Rises r xs → Among xs x
+    → Among xs y
     → Goes x y → IsBefore x.deed.entry y.deed.entry
 earlier r [] x y rising rises in_x in_y goes = absurd in_x
 earlier r (z ∷ zs) x y rising rises (inl is) (inl same) goes = absurd (goes.1 (sym is ∙ same))
@@ -111,7 +113,7 @@ entries_are : (xs : List Ranked) → one_thread.entries_of (map step_at xs) ≡ 
 entries_are [] = refl
 entries_are (x ∷ xs) = ap (λ l. x.deed.entry ∷ l) (entries_are xs)
 
-deeds_are : (xs : List Ranked) → map entry_of xs ≡ entries_of (deeds_of xs)
+deeds_are : (xs : List Ranked) → map entry_of xs ≡ entries_of (ranked_deeds xs)
 deeds_are [] = refl
 deeds_are (x ∷ xs) = ap (λ l. x.deed.entry ∷ l) (deeds_are xs)
 
@@ -218,10 +220,10 @@ module _ (books : Sizes) (served : List SessionRun) (shards : List ShardList) (s
   qs_long = sym (length-map qs shown_session) ∙ sym (ap length lists.closed.sessions_shown)
       ∙ sessions_long books served shards sessions lists
 
-  qs_rising : Each (λ (q : Page). IsRising (map entry_of q.deeds)) qs
+  qs_rising : Each (λ (q : Page). EntriesRise (map entry_of q.deeds)) qs
   qs_rising = rising_shown qs (subst AreRising lists.closed.sessions_shown (rising books served shards sessions lists))
 
-  goes_before : (x y : Ranked) → HasHome ps x → HasHome ps y → session_of x ≡ session_of y → Goes x y
+  goes_before : (x y : Ranked) → HasHome ps x → HasHome ps y → deed_session x ≡ deed_session y → Goes x y
       → IsBefore x.deed.entry y.deed.entry
   goes_before x y hx hy same goes =
       let q = session_page_of books ps qs lists.closed.one qs_long hx.page x hx.page_is hx.deed_is in
@@ -229,11 +231,11 @@ module _ (books : Sizes) (served : List SessionRun) (shards : List ShardList) (s
       (sym q.number_is) in
       let in_y = in_session books ps qs lists.closed.one qs_long hy.page q.found y hy.page_is q.among hy.deed_is
       (sym same ∙ sym q.number_is) in
-      earlier 0 q.found.deeds x y (each-among (λ (r : Page). IsRising (map entry_of r.deeds)) qs q.found qs_rising
+      earlier 0 q.found.deeds x y (each-among (λ (r : Page). EntriesRise (map entry_of r.deeds)) qs q.found qs_rising
       q.among)
       (each-among (λ (r : Page). Rises 0 r.deeds) qs q.found lists.closed.one.sessions_rise q.among) in_x in_y goes
 
-  later_all : (i : ℕ) (x : Ranked) (xs : List Ranked) → HasHome ps x → session_of x ≡ i → Each (Goes x) xs
+  later_all : (i : ℕ) (x : Ranked) (xs : List Ranked) → HasHome ps x → deed_session x ≡ i → Each (Goes x) xs
       → Each (HasHome ps) xs → AllByRecursion (λ later. IsBefore x.deed.entry later) (of_session i (map entry_of xs))
   later_all i x [] hx own goes homes = tt
   later_all i x (y ∷ ys) hx own goes homes = by (y.deed.entry.session == i) refl
@@ -245,11 +247,11 @@ module _ (books : Sizes) (served : List SessionRun) (shards : List ShardList) (s
         by true is rest = (goes_before x y hx homes.0 (own ∙ sym (eqb-true y.deed.entry.session i is)) goes.0, rest)
         by false is rest = rest
 
-  orders : (i : ℕ) (xs : List Ranked) → Pairs xs → Each (HasHome ps) xs → IsRising (of_session i (map entry_of xs))
+  orders : (i : ℕ) (xs : List Ranked) → Pairs xs → Each (HasHome ps) xs → EntriesRise (of_session i (map entry_of xs))
   orders i [] goes homes = tt
   orders i (x ∷ xs) goes homes = by (x.deed.entry.session == i) refl (orders i xs goes.1 homes.1) where
-    by : (b : Bool) → (x.deed.entry.session == i) ≡ b → IsRising (of_session i (map entry_of xs))
-        → IsRising (cond b (x.deed.entry ∷ of_session i (map entry_of xs)) (of_session i (map entry_of xs)))
+    by : (b : Bool) → (x.deed.entry.session == i) ≡ b → EntriesRise (of_session i (map entry_of xs))
+        → EntriesRise (cond b (x.deed.entry ∷ of_session i (map entry_of xs)) (of_session i (map entry_of xs)))
     by true is rest = (later_all i x xs homes.0 (eqb-true x.deed.entry.session i is) goes.0 homes.1, rest)
     by false is rest = rest
 
@@ -270,7 +272,7 @@ module _ (books : Sizes) (served : List SessionRun) (shards : List ShardList) (s
   abbrev IsMeant : Ranked → Type 0
   IsMeant x = operation_at commands x.deed.entry ≡ Some x.deed.operation
 
-  on_page : (xs : List Ranked) → AreMeant commands (deeds_of xs) → Each IsMeant xs
+  on_page : (xs : List Ranked) → AreMeant commands (ranked_deeds xs) → Each IsMeant xs
   on_page [] meant = tt
   on_page (x ∷ xs) meant = (meant.0, on_page xs meant.1)
 
@@ -298,7 +300,7 @@ module _ (books : Sizes) (served : List SessionRun) (shards : List ShardList) (s
       subst (Each (λ (s : SessionList). Each (IsKeyed books.shards) s.told)) lists.closed.sessions_shown
       (subst (Each (λ (s : SessionList). Each (IsKeyed books.shards) s.told)) (sym lists.told)
       (lists_keyed books.shards 0 (runs_in served))) in
-      each-among (IsKeyed books.shards) (placed q.found.deeds) (x.shard, x.deed)
+      each-among (IsKeyed books.shards) (shard_deeds q.found.deeds) (x.shard, x.deed)
       (each-among (λ (s : SessionList). Each (IsKeyed books.shards) s.told) (map shown_session qs)
       (shown_session q.found) told (among-map shown_session qs q.found q.among))
       (among-map (λ (y : Ranked). (y.shard, y.deed)) q.found.deeds x in_x)
@@ -339,12 +341,12 @@ module _ (books : Sizes) (served : List SessionRun) (shards : List ShardList) (s
         (get_map_none shown_shard ps shard none)) in
         absurd (let no : ⊥ = cc in no)
     by (Some p) there =
-        let here : slice_get journal shard ≡ Some (entries_of (deeds_of p.deeds)) =
+        let here : slice_get journal shard ≡ Some (entries_of (ranked_deeds p.deeds)) =
         subst (λ l. slice_get (map (λ (s : ShardList). entries_of s.told) l) shard
-        ≡ Some (entries_of (deeds_of p.deeds))) (sym lists.closed.shards_shown)
+        ≡ Some (entries_of (ranked_deeds p.deeds))) (sym lists.closed.shards_shown)
         (get_map (λ (s : ShardList). entries_of s.told) (map shown_shard ps) shard (shown_shard p)
         (get_map shown_shard ps shard p there)) in
-        let same : history ≡ entries_of (deeds_of p.deeds) = cc in
+        let same : history ≡ entries_of (ranked_deeds p.deeds) = cc in
         same ∙ sym (deeds_are p.deeds) ∙ sym (entries_are p.deeds)
         ∙ ap one_thread.entries_of (sym (own_shard shard p there))
 
@@ -378,7 +380,7 @@ module _ (books : Sizes) (served : List SessionRun) (shards : List ShardList) (s
     steps = map step_at all;
     stand = stands all meant;
     sharded = sharded;
-    in_order = λ session. subst (λ entries. IsRising (of_session session entries)) (sym (entries_are all))
+    in_order = λ session. subst (λ entries. EntriesRise (of_session session entries)) (sym (entries_are all))
         (orders session all pairs home);
     answers = all_of_among _ (answers_from finite.empty (map step_at all)) one_store;
   }

@@ -6,7 +6,7 @@ use Rattle.view_sums.specs.Total.{Each}
 use Rattle.flake_base.specs.declared.journal.Entry.{Entry}
 use Rattle.flake_base.specs.declared.session.SessionEnd.{SessionEnd}
 use Rattle.pin_core.specs.declared.sizes.Sizes as pool_sizes
-use Rattle.pinned_pool.specs.Ends.{end_of}
+use Rattle.pinned_pool.specs.Ends.{pool_end}
 use Rattle.pinned_pool.specs.declared.view.View.{View}
 use Rattle.flake_model.specs.Reply.{reply_text}
 use Rattle.flake_model.specs.Run.{WasServed}
@@ -93,7 +93,7 @@ module _ (books : book_sizes.Sizes) (z : pool_sizes.Sizes) (shards : List ShardL
       subst Served (sym parts.journal_is) run
 
   abbrev Ran : View → List (List Entry) → Type 0
-  Ran last j = (run : WasRun z inputs lefts ends j olds news (end_of z last)) × AreThose all run.served.sessions j
+  Ran last j = (run : WasRun z inputs lefts ends j olds news (pool_end z last)) × AreThose all run.served.sessions j
 
   pub was_run : (last : View) (spare : List View) → IsLastSeat store spare seats last → Ran last journal
   unfolding own

@@ -9,7 +9,7 @@ use Rattle.pin_core.specs.Buffers.{buffers}
 use Rattle.pin_core.specs.declared.sizes.Sizes.{Sizes}
 use Rattle.pin_core.specs.declared.class.Class.{Class}
 use Rattle.pin_core.specs.declared.class.Class.TheVariants.{Small, Large}
-use Rattle.pinned_pool.specs.Claims.{first_of, count_of}
+use Rattle.pinned_pool.specs.Claims.{class_start, count_of}
 use Rattle.pinned_pool.specs.Classes.{class_at, just}
 
 -- f of each of n numbers from the first one on, added up
@@ -86,12 +86,13 @@ class_large z b more = let no : nat_lt b z.small ≡ false =
     false_from_ne_true _ (λ is. let less : b < z.small = ltb-true b z.small is in omega arith) in rw no refl
 
 -- the buffers of a class are those of its range
-pub class_of_range : (z : Sizes) (class : Class) (b : ℕ) → first_of z class ≤ b
-    → b < first_of z class + count_of z class → class_at z b ≡ class
+pub class_of_range : (z : Sizes) (class : Class) (b : ℕ) → class_start z class ≤ b
+    → b < class_start z class + count_of z class → class_at z b ≡ class
 class_of_range z Small b from to = class_small z b (omega arith)
 class_of_range z Large b from to = class_large z b (omega arith)
 
-pub range_below : (z : Sizes) (class : Class) (b : ℕ) → first_of z class ≤ b → b < first_of z class + count_of z class
+pub range_below : (z : Sizes) (class : Class) (b : ℕ) → class_start z class ≤ b → b < class_start z class
+    + count_of z class
     → b < buffers z
 range_below z Small b from to = omega arith
 range_below z Large b from to = omega arith
@@ -104,7 +105,7 @@ one_large z class c is = ap (λ k. just k 1 class) is
 
 -- a buffer of the pool is one of its class's range, and of no other
 pub range_one : (z : Sizes) (class : Class) (c : ℕ) → c < buffers z
-    → sum_from (same c) (first_of z class) (count_of z class) ≡ one_in z class c
+    → sum_from (same c) (class_start z class) (count_of z class) ≡ one_in z class c
 range_one z Small c below = ⊎_elim
     (λ less. sum_same-one c 0 z.small (omega arith) (omega arith) ∙ sym (one_small z Small c (class_small z c less)))
     (λ more. sum_same-none c 0 z.small (λ b from to is. omega arith) ∙ sym (one_large z Small c (class_large z c more)))
@@ -116,13 +117,13 @@ range_one z Large c below = ⊎_elim
     (cases_lt c z.small)
 
 -- any number stands at most once in the range of its class
-pub range_most : (z : Sizes) (class : Class) (c : ℕ) → sum_from (same c) (first_of z class) (count_of z class)
+pub range_most : (z : Sizes) (class : Class) (c : ℕ) → sum_from (same c) (class_start z class) (count_of z class)
     ≤ one_in z class c
 range_most z class c = ⊎_elim
     (λ below. omega (arith, range_one z class c below))
     (λ past. omega (
       arith,
-      sum_same-none c (first_of z class) (count_of z class)
+      sum_same-none c (class_start z class) (count_of z class)
           (λ b from to is. omega (arith, range_below z class b from to)),
     ))
     (cases_lt c (buffers z))

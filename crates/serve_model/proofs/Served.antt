@@ -12,10 +12,10 @@ use Rattle.flake_model.specs.Reply.{reply_text}
 use Rattle.flake_model.specs.Deed.{entries_of}
 use Rattle.flake_model.specs.Journal.{Step, answers_of, replies_from, commands_of, wire_text, of_session, in_shard}
 use Rattle.flake_model.specs.Journal.{IsServed, none, HasInOrder, next_parts, ran_steps}
-use Rattle.flake_model.specs.Order.{IsRising}
-use Rattle.flake_model.specs.Run.{all_commands, ran_by, texts_from}
+use Rattle.flake_model.specs.Order.{EntriesRise}
+use Rattle.flake_model.specs.Run.{all_commands, ran_by, wire_texts_from}
 use Rattle.flake_model.specs.Session.{Session, IsSession}
-use Rattle.order_book.specs.Pages.{Ranked, Page, session_of as own_session, ShardList, SessionList, shown_shard}
+use Rattle.order_book.specs.Pages.{Ranked, Page, deed_session as own_session, ShardList, SessionList, shown_shard}
 use Rattle.order_book.specs.Closed.{AreClosed, journal_of, own_deeds, AreRising, AreMeant, AreAnswered, IsReplayed}
 use Rattle.order_book.specs.Closed.{IsShared}
 use Rattle.order_book.specs.declared.rule.Sizes.{Sizes}
@@ -120,7 +120,7 @@ all_sessions (ran ∷ all) each = (each.0, all_sessions all each.1)
 texts_are : (commands : List (List Command)) (journal : List (List Entry)) (n : ℕ) (all : List SessionRun)
     → ((k : ℕ) (run : Run) → slice_get (runs_in all) k ≡ Some run
     → wire_text commands journal (n + k) run.end.replies ≡ run_text run)
-    → texts_from commands journal n (map session_in all) ≡ texts_told (runs_in all)
+    → wire_texts_from commands journal n (map session_in all) ≡ texts_told (runs_in all)
 texts_are commands journal n [] each = refl
 texts_are commands journal n (ran ∷ all) each =
     let run = ran.run in
@@ -176,7 +176,7 @@ module _ (books : Sizes) (all : List SessionRun) (shards : List ShardList) (sess
 
   pub rising : AreRising sessions
   rising = subst AreRising (sym lists.told)
-      (lists_each (λ (s : SessionList). IsRising (entries_of (own_deeds s))) books.shards 0 runs
+      (lists_each (λ (s : SessionList). EntriesRise (entries_of (own_deeds s))) books.shards 0 runs
       (λ k run is. run_rising books.shards (0 + k) run))
 
   commands_at : (k : ℕ) (run : Run) → slice_get runs k ≡ Some run → slice_get commands k ≡ Some run.commands
@@ -228,7 +228,7 @@ module _ (books : Sizes) (all : List SessionRun) (shards : List ShardList) (sess
       (λ i. flat_map reply_text (replies_from answers k 0 (take (replies_are i) (commands_are k run is i))))
       ∙ ap (flat_map reply_text) told.replies
 
-  pub texts : texts_from commands (journal_of shards) 0 ran ≡ texts_told runs
+  pub texts : wire_texts_from commands (journal_of shards) 0 ran ≡ texts_told runs
   texts = texts_are commands (journal_of shards) 0 all (λ k run is.
       let e : 0 + k ≡ k = omega arith in
       ap (λ m. wire_text commands (journal_of shards) m run.end.replies) e ∙ wire_is k run is)

@@ -3,7 +3,7 @@ use Rattle.std.proofs.Common.{◌≡◌, ℕ, suc, ◌+◌, List, [], ◌∷◌,
 use Rattle.std.specs.List.{zip}
 use Rattle.std.proofs.lemmas.List.{append_assoc}
 use Rattle.flake_model.specs.Command.{Command, parts}
-use Rattle.call_model.specs.Outcomes.{Outcomes, Told, AreOutcomes, call_told, answers_told}
+use Rattle.call_model.specs.Outcomes.{Outcomes, SessionDeeds, AreOutcomes, call_told, answers_told}
 use Rattle.serve_model.specs.Runs.{calls_told, AreCalls, replies_told, parts_told}
 use Rattle.serve_model.specs.Steps.{CallsAdd, FirstCalls}
 
@@ -24,7 +24,7 @@ module _ (shards session : ℕ) where
       let rest = calls_told shards session (call + 1) given calls in
       let last = call_told shards session (call + 1 + length given) 0 (parts command) outcomes in
       let e : call + 1 + length given ≡ call + suc (length given) = omega arith in
-      ap (λ (told : Told). here ++ told) (calls_more (call + 1) given calls command outcomes (omega arith))
+      ap (λ (told : SessionDeeds). here ++ told) (calls_more (call + 1) given calls command outcomes (omega arith))
       ∙ sym (append_assoc here rest last)
       ∙ ap (λ n. (here ++ rest) ++ call_told shards session n 0 (parts command) outcomes) e
 
@@ -33,7 +33,7 @@ module _ (shards session : ℕ) where
   first_told call given rest [] long = refl
   first_told call [] rest (o ∷ calls) long = absurd (let no : ⊥ = omega arith in no)
   first_told call (c ∷ given) rest (o ∷ calls) long =
-      ap (λ (told : Told). call_told shards session call 0 (parts c) o ++ told)
+      ap (λ (told : SessionDeeds). call_told shards session call 0 (parts c) o ++ told)
       (first_told (call + 1) given rest calls (omega arith))
 
 calls_are_more : (given : List Command) (calls : List Outcomes) (command : Command) (outcomes : Outcomes)

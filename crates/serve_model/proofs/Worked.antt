@@ -28,7 +28,7 @@ use Rattle.call_model.specs.Stock.{AreParts, IsStock, fragments_left}
 use Rattle.serve_model.specs.Demand.{session_row}
 use Rattle.serve_model.specs.Handed.{SessionRun, session_in, runs_in, AreServed, IsLastSeat}
 use Rattle.serve_model.specs.Runs.{IsRun}
-use Rattle.serve_model.specs.Worked.{pool, books, key, bytes, place, setting, getting, setting_other, set_input}
+use Rattle.serve_model.specs.Worked.{pool, books, key_a, bytes, place, setting, getting, setting_other, set_input}
 use Rattle.serve_model.specs.Worked.{get_input, other_input, all, shard_pages, session_pages, shards, sessions, store}
 use Rattle.serve_model.specs.Worked.{seats, last, olds, news, WorkedRun}
 use Rattle.serve_model.proofs.Ran.{was_run}
@@ -72,16 +72,16 @@ closed = record {
 key_is : (q k : List ℕ) → eq_by_cmp (slice_cmp nat_cmp) q k ≡ true → q ≡ k
 key_is q k is = (bytes_decides q k).0 (texts_ties q k ∙ is)
 
-get_own : (v : List ℕ) → finite.get (finite.insert (finite.empty {R = slice_cmp nat_cmp}) key v) key ≡ Some v
-get_own v = finite.get-insert nat_list_cmp_total finite.empty key v key
+get_own : (v : List ℕ) → finite.get (finite.insert (finite.empty {R = slice_cmp nat_cmp}) key_a v) key_a ≡ Some v
+get_own v = finite.get-insert nat_list_cmp_total finite.empty key_a v key_a
 
 placed_at : (k : List ℕ)
-    → places_at (finite.insert finite.empty key place) k ≡ cond (eq_by_cmp (slice_cmp nat_cmp) k key) place []
+    → places_at (finite.insert finite.empty key_a place) k ≡ cond (eq_by_cmp (slice_cmp nat_cmp) k key_a) place []
 placed_at k =
     ap (λ (o : Option (List ℕ)). unwrap_or o [])
-    (finite.get-insert nat_list_cmp_total finite.empty key place k
-    ∙ ap (cond (eq_by_cmp (slice_cmp nat_cmp) k key) (Some place)) (finite.get-empty (slice_cmp nat_cmp) k))
-    ∙ choose (eq_by_cmp (slice_cmp nat_cmp) k key) where
+    (finite.get-insert nat_list_cmp_total finite.empty key_a place k
+    ∙ ap (cond (eq_by_cmp (slice_cmp nat_cmp) k key_a) (Some place)) (finite.get-empty (slice_cmp nat_cmp) k))
+    ∙ choose (eq_by_cmp (slice_cmp nat_cmp) k key_a) where
       choose : (here : Bool) → unwrap_or (cond here (Some place) None) [] ≡ cond here place []
       choose true = refl
       choose false = refl
@@ -90,17 +90,17 @@ single : (x n a : ℕ) → slice_get (x ∷ []) n ≡ Some a → n ≡ 0
 single x zero a is = refl
 single x (suc n) a is = absurd (let no : ⊥ = cc in no)
 
-apart : AreApart (finite.insert finite.empty key place)
+apart : AreApart (finite.insert finite.empty key_a place)
 apart k other n m address is there =
-    both (eq_by_cmp (slice_cmp nat_cmp) k key) (eq_by_cmp (slice_cmp nat_cmp) other key) refl refl
+    both (eq_by_cmp (slice_cmp nat_cmp) k key_a) (eq_by_cmp (slice_cmp nat_cmp) other key_a) refl refl
     (subst (λ l. slice_get l n ≡ Some address) (placed_at k) is)
     (subst (λ l. slice_get l m ≡ Some address) (placed_at other) there) where
-      both : (here elsewhere : Bool) → eq_by_cmp (slice_cmp nat_cmp) k key ≡ here
-          → eq_by_cmp (slice_cmp nat_cmp) other key ≡ elsewhere
+      both : (here elsewhere : Bool) → eq_by_cmp (slice_cmp nat_cmp) k key_a ≡ here
+          → eq_by_cmp (slice_cmp nat_cmp) other key_a ≡ elsewhere
           → slice_get (cond here place []) n ≡ Some address → slice_get (cond elsewhere place []) m ≡ Some address
           → (k ≡ other) × (n ≡ m)
       both true true k_is other_is is there = (
-        key_is k key k_is ∙ sym (key_is other key other_is),
+        key_is k key_a k_is ∙ sym (key_is other key_a other_is),
         single 1048576 n address is ∙ sym (single 1048576 m address there),
       )
       both true false k_is other_is is there = absurd (let no : ⊥ = cc in no)
@@ -112,7 +112,7 @@ legal = (
     record { answered = refl; found_is = refl; first_is = refl; stored_is = (refl, refl); apart = apart },
     (
       record {
-        answered = ap (λ (o : Option (List ℕ)). answer_on o (part.get key)) (sym (get_own bytes));
+        answered = ap (λ (o : Option (List ℕ)). answer_on o (part.get key_a)) (sym (get_own bytes));
         found_is = ap (λ (o : Option (List ℕ)). unwrap_or o []) (sym (get_own place));
         first_is = refl;
         stored_is = refl;
@@ -128,21 +128,21 @@ no_length : {A : Type 0} (xs : List A) → length xs ≡ 0 → xs ≡ []
 no_length [] e = refl
 no_length (x ∷ xs) e = absurd (let no : ⊥ = omega arith in no)
 
-one_entry : finite.entries (finite.insert (finite.empty {R = slice_cmp nat_cmp}) key bytes) ≡ (key, bytes) ∷ []
+one_entry : finite.entries (finite.insert (finite.empty {R = slice_cmp nat_cmp}) key_a bytes) ≡ (key_a, bytes) ∷ []
 one_entry =
     let none : finite.entries (finite.empty {X = List ℕ} {R = slice_cmp nat_cmp}) ≡ [] =
     no_length _ (sym (finite.len-entries finite.empty) ∙ finite.len-empty (slice_cmp nat_cmp) (List ℕ)) in
-    finite.entries-insert nat_list_cmp_total finite.empty key bytes
-    ∙ ap (finite.put (slice_cmp nat_cmp) key bytes) none
+    finite.entries-insert nat_list_cmp_total finite.empty key_a bytes
+    ∙ ap (finite.put (slice_cmp nat_cmp) key_a bytes) none
 
 one_fragment : fragments_left shards ≡ (1048576, 1) ∷ []
 one_fragment =
-    let places = finite.insert (finite.empty {R = slice_cmp nat_cmp}) key place in
+    let places = finite.insert (finite.empty {R = slice_cmp nat_cmp}) key_a place in
     ap
     (λ (es : List (List ℕ × List ℕ)).
     flat_map (λ (e : List ℕ × List ℕ). zip (places_at places e.0) (map length (fragments_of e.1))) es ++ [])
     one_entry
-    ∙ ap (λ (addresses : List ℕ). (zip addresses (1 ∷ []) ++ []) ++ []) (placed_at key)
+    ∙ ap (λ (addresses : List ℕ). (zip addresses (1 ∷ []) ++ []) ++ []) (placed_at key_a)
 
 stock : IsStock pool shards store
 stock = record {

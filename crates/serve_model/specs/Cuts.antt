@@ -4,4 +4,4 @@ use Rattle.frag_value.specs.Fragments as stored
 use Rattle.flake_model.specs.Fragments as judged
 
 abbrev pub CutsAgree : Type 0
-CutsAgree = (bytes : List ℕ) → stored.fragments_of bytes ≡ judged.fragments_of bytes
+CutsAgree = (bytes : List ℕ) → stored.stored_fragments bytes ≡ judged.fragments_of bytes

@@ -8,7 +8,7 @@ use Rattle.pinned_pool.specs.declared.view.View.{View}
 use Rattle.flake_model.specs.Command.{Command}
 use Rattle.flake_model.specs.Reply.{reply_text}
 use Rattle.call_model.specs.Demand.{long_in}
-use Rattle.call_model.specs.Outcomes.{Outcomes, Told, missed_in}
+use Rattle.call_model.specs.Outcomes.{Outcomes, SessionDeeds, missed_in}
 use Rattle.serve_model.specs.Demand.{commands_row}
 use Rattle.serve_model.specs.Runs.{Run, IsRun, AreCalls, calls_told, replies_told, parts_told, missed_by}
 use Rattle.serve_model.specs.Runs.{run_told, run_texts}
@@ -16,7 +16,7 @@ use Rattle.serve_model.specs.Runs.{run_told, run_texts}
 -- A session was opened with this seat and made the calls of these commands: the texts of their frames, and how many
 -- pinned holds they have.
 pub record IsGoing (z : Sizes) (shards session : ℕ) (given : List Command) (calls : List Outcomes)
-    (texts : List (List ℕ)) (pins : ℕ) (told : Told) (opened seat : View) : Type 0 where
+    (texts : List (List ℕ)) (pins : ℕ) (told : SessionDeeds) (opened seat : View) : Type 0 where
   pub as_many : length calls ≡ length given
   pub are : AreCalls given calls
   pub told_is : told ≡ calls_told shards session 0 given calls
@@ -25,8 +25,8 @@ pub record IsGoing (z : Sizes) (shards session : ℕ) (given : List Command) (ca
   pub pinned : total (λ part. long_in part.0 part.1) (parts_told given calls) ≤ pins
 
 -- A session makes no more calls: its run, the texts of all its frames, and their pinned holds.
-pub record HasEnded (z : Sizes) (shards session : ℕ) (run : Run) (texts : List (List ℕ)) (pins : ℕ)
-    (told : Told) (opened seat : View) : Type 0 where
+pub record CallsNoMore (z : Sizes) (shards session : ℕ) (run : Run) (texts : List (List ℕ)) (pins : ℕ)
+    (told : SessionDeeds) (opened seat : View) : Type 0 where
   pub is_run : IsRun run
   pub told_is : told ≡ run_told shards session run
   pub texts_are : texts ≡ run_texts run

@@ -15,7 +15,7 @@ use Rattle.serve_model.specs.Runs.{Run, IsRun, run_texts, texts_told, session_of
 use Rattle.serve_model.specs.Seats.{HasAll, IsSpare, IsSpentSeat, AreSpentSeats}
 
 -- One session ran: its end, its list, its seat, and the texts of its replies, which it sends.
-pub record HasRun (z : Sizes) (shards session : ℕ) (input left : Option (List ℕ)) (end : SessionEnd)
+pub record SessionHasRun (z : Sizes) (shards session : ℕ) (input left : Option (List ℕ)) (end : SessionEnd)
     (list : SessionList) (seat : View) (texts : List (List ℕ)) : Type 0 where
   pub run : Run
   pub is_run : IsRun run
@@ -40,7 +40,7 @@ pub record OneRun : Type 0 where
 abbrev pub AllRun : Sizes → ℕ → ℕ → List OneRun → Type 0
 AllRun z shards session [] = Unit {0}
 AllRun z shards session (one ∷ others) =
-    HasRun z shards session one.input one.left one.end one.list one.seat one.texts
+    SessionHasRun z shards session one.input one.left one.end one.list one.seat one.texts
     × Grew one.end.failed (flat_map (λ text. text) one.texts) one.old one.new × AllRun z shards (session + 1) others
 
 -- the run of one session, with its input and what it has left

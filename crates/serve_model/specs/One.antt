@@ -5,7 +5,7 @@ use Rattle.flake_base.specs.Growth.{Grew}
 use Rattle.flake_base.specs.declared.journal.Entry.{Entry}
 use Rattle.flake_base.specs.declared.session.SessionEnd.{SessionEnd}
 use Rattle.pin_core.specs.declared.sizes.Sizes as pool_sizes
-use Rattle.pinned_pool.specs.Ends.{end_of}
+use Rattle.pinned_pool.specs.Ends.{pool_end}
 use Rattle.pinned_pool.specs.declared.view.View.{View}
 use Rattle.flake_model.specs.Journal.{wire_text}
 use Rattle.flake_model.specs.Run.{all_commands}
@@ -13,7 +13,7 @@ use Rattle.order_book.specs.Closed.{AreClosed}
 use Rattle.order_book.specs.Pages.{ShardList, SessionList}
 use Rattle.order_book.specs.declared.rule.Sizes as book_sizes
 use Rattle.call_model.specs.Stock.{AreParts}
-use Rattle.serve_model.specs.Handed.{HasRun, IsLastSeat}
+use Rattle.serve_model.specs.Handed.{SessionHasRun, IsLastSeat}
 use Rattle.serve_model.specs.Shown.{WasRun}
 
 -- The only session of a book ran, and its wire grew by its replies' texts: so it is a whole run, in which the journal
@@ -24,8 +24,8 @@ OneRan = (books : book_sizes.Sizes) (z : pool_sizes.Sizes) (shards : List ShardL
     (texts : List (List ℕ)) (old new : Option (List ℕ)) (past : List (Option (List ℕ))) (spare : List View)
     (last : View)
     → AreClosed books shards (list ∷ []) → books.sessions ≡ 1 → AreParts z books.shards shards journal store
-    → HasRun z books.shards 0 input left end list seat texts
+    → SessionHasRun z books.shards 0 input left end list seat texts
     → Grew end.failed (flat_map (λ text. text) texts) old new
     → IsLastSeat store spare (seat ∷ []) last
-    → (run : WasRun z (input ∷ []) (left ∷ []) (end ∷ []) journal (old ∷ past) (new ∷ past) (end_of z last))
+    → (run : WasRun z (input ∷ []) (left ∷ []) (end ∷ []) journal (old ∷ past) (new ∷ past) (pool_end z last))
     × (flat_map (λ text. text) texts ≡ wire_text (all_commands run.served.sessions) journal 0 end.replies)

@@ -10,10 +10,10 @@ use Rattle.flake_model.specs.Deed.{Deed}
 use Rattle.flake_model.specs.Journal.{next_parts}
 use Rattle.flake_model.specs.Session.{Session, IsBegun}
 use Rattle.order_book.specs.Pages.{SessionList}
-use Rattle.call_model.specs.Outcomes.{Outcomes, Told, AreOutcomes, call_told, answers_told, missed_in}
+use Rattle.call_model.specs.Outcomes.{Outcomes, SessionDeeds, AreOutcomes, call_told, answers_told, missed_in}
 
 -- what a session is told of its first calls, from a call on
-abbrev pub calls_told : ℕ → ℕ → ℕ → List Command → List Outcomes → Told
+abbrev pub calls_told : ℕ → ℕ → ℕ → List Command → List Outcomes → SessionDeeds
 calls_told shards session call commands [] = []
 calls_told shards session call [] (outcomes ∷ calls) = []
 calls_told shards session call (command ∷ commands) (outcomes ∷ calls) =
@@ -55,7 +55,7 @@ pub record Run : Type 0 where
   pub end : SessionEnd
 
 -- what the session was told
-abbrev pub run_told : ℕ → ℕ → Run → Told
+abbrev pub run_told : ℕ → ℕ → Run → SessionDeeds
 run_told shards session run =
     let n = length run.calls in
     calls_told shards session 0 run.commands run.calls

@@ -4,7 +4,7 @@ use Rattle.view_sums.specs.Total.{total, SameItems}
 use Rattle.pin_core.specs.Holding.{Holding}
 use Rattle.pin_core.specs.declared.class.Class.{Class}
 use Rattle.pin_core.specs.declared.sizes.Sizes.{Sizes}
-use Rattle.pinned_pool.specs.Moves.{joined}
+use Rattle.pinned_pool.specs.Moves.{joined_views}
 use Rattle.pinned_pool.specs.Sought.{Sought}
 use Rattle.pinned_pool.specs.Views.{nobody, looked_at}
 use Rattle.pinned_pool.specs.declared.view.View.{View}
@@ -24,7 +24,7 @@ pub record HasAll (seats : List View) (all : View) : Type 0 where
 
 -- a join adds a seat
 abbrev pub JoinsAdd : Type 0
-JoinsAdd = (seats : List View) (all seat : View) → HasAll seats all → HasAll (seat ∷ seats) (joined all seat)
+JoinsAdd = (seats : List View) (all seat : View) → HasAll seats all → HasAll (seat ∷ seats) (joined_views all seat)
 
 -- a seat has what it has
 abbrev pub OneSeat : Type 0

@@ -11,10 +11,10 @@ use Rattle.flake_model.specs.Command.{Command, parts}
 use Rattle.flake_model.specs.Deed.{Deed}
 use Rattle.flake_model.specs.Session.{IsSession}
 use Rattle.call_model.specs.Calls.{IsExecuted, IsCutShort}
-use Rattle.call_model.specs.Outcomes.{Outcomes, Told, AreOutcomes, call_told, missed_in}
+use Rattle.call_model.specs.Outcomes.{Outcomes, SessionDeeds, AreOutcomes, call_told, missed_in}
 use Rattle.serve_model.specs.Demand.{stage_row, commands_row, session_row}
-use Rattle.serve_model.specs.Going.{IsGoing, HasEnded, IsFinished}
-use Rattle.serve_model.specs.Handed.{HasRun}
+use Rattle.serve_model.specs.Going.{IsGoing, CallsNoMore, IsFinished}
+use Rattle.serve_model.specs.Handed.{SessionHasRun}
 use Rattle.serve_model.specs.Runs.{Run, AreCalls, calls_told, replies_told, parts_told, missed_by, session_of}
 
 -- what is said of the first calls of a session, and of one call more
@@ -49,7 +49,7 @@ GoingStarts = (z : Sizes) (shards session : ℕ) (opened : View)
 -- frames that come back change neither claims nor looks
 abbrev pub GoingRests : Type 0
 GoingRests = (z : Sizes) (shards session : ℕ) (given : List Command) (calls : List Outcomes)
-    (texts : List (List ℕ)) (pins : ℕ) (told : Told) (opened seat after : View)
+    (texts : List (List ℕ)) (pins : ℕ) (told : SessionDeeds) (opened seat after : View)
     → after.claims ≡ seat.claims → after.looks ≡ seat.looks
     → IsGoing z shards session given calls texts pins told opened seat
     → IsGoing z shards session given calls texts pins told opened after
@@ -58,7 +58,7 @@ GoingRests = (z : Sizes) (shards session : ℕ) (given : List Command) (calls : 
 abbrev pub GoingOn : Type 0
 GoingOn = (z : Sizes) (shards session : ℕ) (given : List Command) (calls : List Outcomes)
     (texts : List (List ℕ)) (text : List ℕ) (pins more : ℕ) (command : Command) (outcomes : Outcomes)
-    (old new : Told) (opened seat after : View)
+    (old new : SessionDeeds) (opened seat after : View)
     → IsGoing z shards session given calls texts pins old opened seat
     → IsExecuted z shards session (length given) command outcomes text more old new seat after
     → IsGoing z shards session (given ++ command ∷ []) (calls ++ outcomes ∷ []) (texts ++ text ∷ []) (pins + more)
@@ -67,21 +67,21 @@ GoingOn = (z : Sizes) (shards session : ℕ) (given : List Command) (calls : Lis
 -- a session that stops between two calls, or behind its last
 abbrev pub GoingEnds : Type 0
 GoingEnds = (z : Sizes) (shards session : ℕ) (given rest : List Command) (calls : List Outcomes)
-    (texts : List (List ℕ)) (pins : ℕ) (told : Told) (opened seat : View) (looks : List (ℕ × List Deed))
+    (texts : List (List ℕ)) (pins : ℕ) (told : SessionDeeds) (opened seat : View) (looks : List (ℕ × List Deed))
     (end : SessionEnd) → IsGoing z shards session given calls texts pins told opened seat → end.replies ≡ length given
-    → HasEnded z shards session
+    → CallsNoMore z shards session
     (record { commands = given ++ rest; calls = calls; behind = []; looks = looks; end = end })
     texts pins told opened seat
 
 -- a session in one of whose calls memory was wanting
 abbrev pub GoingBreaks : Type 0
 GoingBreaks = (z : Sizes) (shards session : ℕ) (given rest : List Command) (calls : List Outcomes)
-    (texts : List (List ℕ)) (pins : ℕ) (command : Command) (outcomes : Outcomes) (old new : Told)
+    (texts : List (List ℕ)) (pins : ℕ) (command : Command) (outcomes : Outcomes) (old new : SessionDeeds)
     (opened seat after : View) (looks : List (ℕ × List Deed)) (end : SessionEnd)
     → IsGoing z shards session given calls texts pins old opened seat
     → IsCutShort z shards session (length given) command outcomes old new seat after
     → end.replies ≡ length given → end.end ≡ how.Memory
-    → HasEnded z shards session
+    → CallsNoMore z shards session
     (record { commands = given ++ command ∷ rest; calls = calls; behind = outcomes; looks = looks; end = end })
     texts pins new opened after
 
@@ -96,8 +96,9 @@ WithStage = (z : Sizes) (run : Run) (opened seat : View) → Sought z stage_row 
 -- So the session ran, where its input is told so, and sends the texts of its frames.
 abbrev pub SessionRan : Type 0
 SessionRan = (z : Sizes) (shards session : ℕ) (input left : Option (List ℕ)) (run : Run) (texts : List (List ℕ))
-    (pins : ℕ) (told : Told) (opened seat last : View) → Sought z stage_row 0 nobody opened
-    → HasEnded z shards session run texts pins told opened seat → IsFinished pins seat last
+    (pins : ℕ) (told : SessionDeeds) (opened seat last : View) → Sought z stage_row 0 nobody opened
+    → CallsNoMore z shards session run texts pins told opened seat → IsFinished pins seat last
     → IsSession (session_of input left run)
-    → HasRun z shards session input left run.end (record { number = session; told = told; looks = run.looks }) last
+    → SessionHasRun z shards session input left run.end (record { number = session; told = told; looks = run.looks })
+    last
     texts

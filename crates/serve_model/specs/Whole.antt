@@ -6,7 +6,7 @@ use Rattle.flake_base.specs.declared.session.SessionEnd.{SessionEnd}
 use Rattle.pin_core.specs.declared.class.Class.{Class}
 use Rattle.pin_core.specs.declared.sizes.Sizes as pool_sizes
 use Rattle.pinned_pool.specs.Claims.{count_of}
-use Rattle.pinned_pool.specs.Ends.{End, end_of}
+use Rattle.pinned_pool.specs.Ends.{End, pool_end}
 use Rattle.pinned_pool.specs.declared.view.View.{View}
 use Rattle.flake_model.specs.Run.{WasServed, all_commands, missing_writes, wire_texts}
 use Rattle.flake_model.specs.Session.{Session}
@@ -57,7 +57,7 @@ WholeRun = (books : book_sizes.Sizes) (z : pool_sizes.Sizes) (shards : List Shar
     → AreParts z books.shards shards journal store
     → (served : AreServed z books.shards inputs lefts ends sessions seats olds news)
     → IsLastSeat store spare seats last
-    → (run : WasRun z inputs lefts ends journal olds news (end_of z last))
+    → (run : WasRun z inputs lefts ends journal olds news (pool_end z last))
     × AreThose served.all run.served.sessions journal
 
 -- where the pool has the demand in both classes no write is missing

@@ -3,7 +3,7 @@
 use Rattle.std.specs.Prelude.{◌≡◌, ℕ, List, [], ◌∷◌, Option, Some, None, false, length, map, codes}
 use Rattle.flake_base.specs.declared.session.End.TheVariants.{Clean}
 use Rattle.pin_core.specs.declared.sizes.Sizes as pool_sizes
-use Rattle.pinned_pool.specs.Ends.{end_of}
+use Rattle.pinned_pool.specs.Ends.{pool_end}
 use Rattle.pinned_pool.specs.Views.{view}
 use Rattle.pinned_pool.specs.declared.view.View.{View}
 use Rattle.flake_model.specs.Command.{Command, set, get}
@@ -12,7 +12,7 @@ use Rattle.flake_model.specs.Store as part
 use Rattle.order_book.specs.Closed.{AreClosed, journal_of}
 use Rattle.order_book.specs.Pages.{Ranked, Page, page, ShardList, SessionList, shown_shard, shown_session}
 use Rattle.order_book.specs.declared.rule.Sizes as book_sizes
-use Rattle.call_model.specs.Outcomes.{Done, Outcomes, entry_at, deed_of}
+use Rattle.call_model.specs.Outcomes.{PartOutcome, Outcomes, entry_at, deed_of}
 use Rattle.call_model.specs.Stock.{AreParts}
 use Rattle.serve_model.specs.Handed.{SessionRun, AreServed, IsLastSeat}
 use Rattle.serve_model.specs.Shown.{WasRun}
@@ -23,8 +23,8 @@ pool = record { small = 1; large = 0; credits = 4 }
 abbrev pub books : book_sizes.Sizes
 books = record { shards = 1; sessions = 3 }
 
-abbrev pub key : List ℕ
-key = codes "a"
+abbrev pub key_a : List ℕ
+key_a = codes "a"
 
 abbrev pub bytes : List ℕ
 bytes = codes "x"
@@ -34,23 +34,23 @@ abbrev pub place : List ℕ
 place = 1048576 ∷ []
 
 abbrev pub setting : Command
-setting = set part.always false key bytes
+setting = set part.always false key_a bytes
 
 abbrev pub getting : Command
-getting = get key
+getting = get key_a
 
 abbrev pub setting_other : Command
 setting_other = set part.always false (codes "b") bytes
 
-abbrev pub was_set : Done
+abbrev pub was_set : PartOutcome
 was_set = record { answer = part.done; found = []; first = 0; stored = place }
 
-abbrev pub was_found : Done
+abbrev pub was_found : PartOutcome
 was_found = record { answer = part.value bytes; found = place; first = 0; stored = [] }
 
 -- a session that was asked one command, in so many bytes, and read its input to the end
-abbrev pub asked : List ℕ → ℕ → Command → Outcomes → SessionRun
-asked input taken command outcomes = record {
+abbrev pub served_one : List ℕ → ℕ → Command → Outcomes → SessionRun
+served_one input taken command outcomes = record {
   input = Some input;
   left = Some [];
   run = record {
@@ -73,23 +73,23 @@ other_input = codes "*3\r\n$3\r\nSET\r\n$1\r\nb\r\n$1\r\nx\r\n"
 
 abbrev pub all : List SessionRun
 all =
-    asked set_input 27 setting (Some was_set ∷ [])
-    ∷ asked get_input 20 getting (Some was_found ∷ [])
-    ∷ asked other_input 27 setting_other (None ∷ [])
+    served_one set_input 27 setting (Some was_set ∷ [])
+    ∷ served_one get_input 20 getting (Some was_found ∷ [])
+    ∷ served_one other_input 27 setting_other (None ∷ [])
     ∷ []
 
 -- the book: both deeds in the shard, in the order of their ranks
 abbrev pub set_deed : Ranked
 set_deed = record {
-  deed = deed_of (entry_at 0 0 0) (part.set part.always false key bytes) was_set;
-  shard = shard_of 1 key;
+  deed = deed_of (entry_at 0 0 0) (part.set part.always false key_a bytes) was_set;
+  shard = shard_of 1 key_a;
   rank = 1;
 }
 
 abbrev pub get_deed : Ranked
 get_deed = record {
-  deed = deed_of (entry_at 1 0 0) (part.get key) was_found;
-  shard = shard_of 1 key;
+  deed = deed_of (entry_at 1 0 0) (part.get key_a) was_found;
+  shard = shard_of 1 key_a;
   rank = 2;
 }
 
@@ -130,4 +130,4 @@ pub record WorkedRun : Type 0 where
       (map (λ (ran : SessionRun). ran.left) all) (map (λ (ran : SessionRun). ran.run.end) all) sessions seats olds news
   pub last_is : IsLastSeat store [] seats last
   pub run : WasRun pool (map (λ (ran : SessionRun). ran.input) all) (map (λ (ran : SessionRun). ran.left) all)
-      (map (λ (ran : SessionRun). ran.run.end) all) (journal_of shards) olds news (end_of pool last)
+      (map (λ (ran : SessionRun). ran.run.end) all) (journal_of shards) olds news (pool_end pool last)

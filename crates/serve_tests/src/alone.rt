@@ -1,6 +1,6 @@
-//! One session in a house that is opened and closed by hand.
+//! One session in a resources that is opened and closed by hand.
 ghost use Rattle.std.specs.Prelude.{◌≡◌, ◌+◌};
-ghost use Rattle.serve_house.specs.Opened.{IsSized, IsPool, IsBook};
+ghost use Rattle.run_resources.specs.Opened.{HasRunSizes, IsPool, IsBook};
 
 use super::common::{Watched, flush, put, source, tell, wires_of};
 use command_exec::Shop;
@@ -8,7 +8,7 @@ use command_pump::Pump;
 use flake_base::MemorySource;
 use order_book::{Book, BookBlank, BookName, SessionSeats};
 use pinned_pool::{Pool, PoolBlank, PoolName, PoolSeat};
-use serve_house::{House, SESSION_CREDITS, Sizes, close_all, open_house};
+use run_resources::{RunResources, SESSION_CREDITS, Sizes, close_all, open_resources};
 use session_pass::NoGate;
 use session_serve::{Account, Line, Room, serve_beside};
 use shard_store::Store;
@@ -60,19 +60,19 @@ fn serve_named<R: Threads + Wait + Sync, N: BookName, P: PoolName + Send + Sync>
     source: MemorySource,
     wire: Watched,
 ) -> Result<(String, u64), Fail>
-    requires sized { IsSized 1 sizes.now }
+    requires sized { HasRunSizes 1 sizes.now }
     requires pool { (P.table ≡ pool.table) × (P.sizes ≡ pool.sizes) × IsPool 1 sizes.now P.sizes }
     requires book { (N.table ≡ book.table) × (N.sizes ≡ book.sizes) × IsBook 1 sizes.now N.sizes }
 {
-    let House {
+    let RunResources {
         pool,
         book,
         store,
         main,
-        mut desks,
-    } = open_house::<N, P>(alloc, sizes, 1, pool, book)?;
-    let Some(desk) = desks.pop() else {
-        return Err(Fail::from("no desk"));
+        mut slots,
+    } = open_resources::<N, P>(alloc, sizes, 1, pool, book)?;
+    let Some(slot) = slots.pop() else {
+        return Err(Fail::from("no slot"));
     };
     let shop = Shop {
         pool: &pool,
@@ -80,16 +80,16 @@ fn serve_named<R: Threads + Wait + Sync, N: BookName, P: PoolName + Send + Sync>
         store: &store,
     };
     let line = Line {
-        session: desk.session,
+        session: slot.session,
         pump: Pump::new(alloc, source),
-        device: desk.device,
+        device: slot.device,
     };
     let room = Room::new(alloc)?;
     let (wire, account) = serve_beside(rt, alloc, &shop, line, room, &NoGate, wire, &put, &flush);
     close_one(alloc, pool, book, store, main, account, wire)
 }
 
-// What is asked in a house for one, over a wire on which a put fails, or none.
+// What is asked in a resources for one, over a wire on which a put fails, or none.
 fn served<R: Threads + Wait + Sync>(
     rt: &R,
     alloc: Global,

@@ -20,8 +20,8 @@ pub record Task : Type 0 where
   pub journal : Bool
 
 -- there are 1 to 16 files, and 128 small buffers for each
-abbrev pub fits : List (List ℕ) → Sizes → Bool
-fits files sizes = nat_le 1 (length files) && nat_le (length files) 16 && nat_le (128 * length files) sizes.small
+abbrev pub fits_files : List (List ℕ) → Sizes → Bool
+fits_files files sizes = nat_le 1 (length files) && nat_le (length files) 16 && nat_le (128 * length files) sizes.small
 
 abbrev pub workers_in : List (List ℕ) → List Row → Option ℕ
 workers_in files rows = size_in (codes "workers") (workers_limits (length files)) rows
@@ -36,7 +36,7 @@ task_by files rows sizes workers =
 
 abbrev pub task_for : List (List ℕ) → List Row → Sizes → Option Task
 task_for files rows sizes =
-    if fits files sizes then option_map (task_by files rows sizes) (workers_in files rows) else None
+    if fits_files files sizes then option_map (task_by files rows sizes) (workers_in files rows) else None
 
 abbrev pub files_in : List Row → List (List ℕ)
 files_in rows = unwrap_or (all_of (codes "file") rows) []
@@ -49,12 +49,12 @@ abbrev pub task_of : List (List ℕ) → Option Task
 task_of words =
     if begins_with (codes "serve") words then option_and_then task_in (rows_by serve_command words) else None
 
-abbrev pub texts_of : List (String Global) → List (List ℕ)
-texts_of words = map (λ word. string_bytes word) words
+abbrev pub word_texts : List (String Global) → List (List ℕ)
+word_texts words = map (λ word. string_bytes word) words
 
 -- the task, as the code holds it
-abbrev pub shown : ServeTask → Task
-shown task = record {
+abbrev pub task_shown : ServeTask → Task
+task_shown task = record {
   files = map (λ file. file.now) task.files.items;
   sizes = task.sizes;
   workers = task.workers;

@@ -1,6 +1,6 @@
 ghost use Rattle.std.specs.Prelude.{◌≡◌, ◌≤◌, ◌%◌, IfOk, IfSome, IsTrue, length, map, option_map};
 ghost use Rattle.serve_words.specs.Check.{are_pairs, check_of, file_at, files_from, shown_check};
-ghost use Rattle.serve_words.specs.Task.{texts_of};
+ghost use Rattle.serve_words.specs.Task.{word_texts};
 
 use crate::command::check_matches;
 use crate::named::begins_with;
@@ -18,7 +18,7 @@ pub struct CheckTask<'a> {
 /// The task that the words behind the program's name ask for, of which the first is `check`; none where they are bad
 /// words.
 pub fn check_task<'a>(alloc: Global, words: &'a [String]) -> Result<Option<CheckTask<'a>>, Memory>
-    ensures value { IfOk result (λ task. option_map shown_check task ≡ check_of (texts_of words.entry.now)) }
+    ensures value { IfOk result (λ task. option_map shown_check task ≡ check_of (word_texts words.entry.now)) }
     ensures some { IfOk result (λ task. IfSome task (λ t. 3 ≤ length t.files.items)) }
     ensures few { IfOk result (λ task. IfSome task (λ t. length t.files.items ≤ 33)) }
     ensures pairs { IfOk result (λ task. IfSome task (λ t. length t.files.items % 2 ≡ 1)) }

@@ -6,7 +6,7 @@ ghost use Rattle.clap.specs.Simple.{app_of, is_simple};
 ghost use Rattle.clap.specs.Walk.{rows_of, rule_of};
 ghost use Rattle.serve_words.specs.Command.{bare_command, check_command, drive_command, file_rule, flag_rule};
 ghost use Rattle.serve_words.specs.Command.{option_rule, rows_by, serve_command, sized_command};
-ghost use Rattle.serve_words.specs.Task.{texts_of};
+ghost use Rattle.serve_words.specs.Task.{word_texts};
 
 use clap::error::ErrorKind;
 use clap::{Arg, ArgAction, ArgMatches, Command};
@@ -19,7 +19,7 @@ pub(crate) fn serve_matches<'a>(
     words: &'a [String],
 ) -> Result<Option<ArgMatches<'a>>, Memory>
     ensures { IfOk result (λ matches. option_map (λ m. rows_of (found_of m)) matches
-        ≡ rows_by serve_command (texts_of words.entry.now)) }
+        ≡ rows_by serve_command (word_texts words.entry.now)) }
 {
     matches_by(serve_command(alloc)?, words)
 }
@@ -30,7 +30,7 @@ pub(crate) fn check_matches<'a>(
     words: &'a [String],
 ) -> Result<Option<ArgMatches<'a>>, Memory>
     ensures { IfOk result (λ matches. option_map (λ m. rows_of (found_of m)) matches
-        ≡ rows_by check_command (texts_of words.entry.now)) }
+        ≡ rows_by check_command (word_texts words.entry.now)) }
 {
     matches_by(check_command(alloc)?, words)
 }
@@ -41,7 +41,7 @@ pub(crate) fn drive_matches<'a>(
     words: &'a [String],
 ) -> Result<Option<ArgMatches<'a>>, Memory>
     ensures { IfOk result (λ matches. option_map (λ m. rows_of (found_of m)) matches
-        ≡ rows_by drive_command (texts_of words.entry.now)) }
+        ≡ rows_by drive_command (word_texts words.entry.now)) }
 {
     matches_by(drive_command(alloc)?, words)
 }
@@ -54,7 +54,7 @@ fn matches_by<'a>(
     requires simple { is_simple (app_of command) ≡ true }
     requires free { is_simple_and_free (app_of command) ≡ true }
     ensures { IfOk result (λ matches. option_map (λ m. rows_of (found_of m)) matches
-        ≡ rows_by (app_of command.entry) (texts_of words.entry.now)) }
+        ≡ rows_by (app_of command.entry) (word_texts words.entry.now)) }
 {
     match command.try_get_matches_from(words) {
         Ok(matches) => Ok(Some(matches)),

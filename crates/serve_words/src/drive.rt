@@ -2,7 +2,7 @@ ghost use Rattle.std.specs.Prelude.{◌≡◌, IfOk, IfSome, map, option_map};
 ghost use Rattle.clap.specs.Matches.{found_of};
 ghost use Rattle.clap.specs.Walk.{rows_of};
 ghost use Rattle.serve_words.specs.Drive.{IsDrivable, drive_in, drive_of, is_drive_of, shown_drive};
-ghost use Rattle.serve_words.specs.Task.{texts_of};
+ghost use Rattle.serve_words.specs.Task.{word_texts};
 
 use crate::command::drive_matches;
 use crate::named::begins_with;
@@ -23,7 +23,7 @@ pub struct DriveTask<'a> {
 /// The task that the words behind the program's name ask for, of which the first is `drive`; none where they are bad
 /// words.
 pub fn drive_task<'a>(alloc: Global, words: &'a [String]) -> Result<Option<DriveTask<'a>>, Memory>
-    ensures value { IfOk result (λ task. option_map shown_drive task ≡ drive_of (texts_of words.entry.now)) }
+    ensures value { IfOk result (λ task. option_map shown_drive task ≡ drive_of (word_texts words.entry.now)) }
     ensures allowed { IfOk result (λ task. IfSome task (λ t. IsDrivable (shown_drive t))) }
 {
     if !begins_with(words, "drive") {

@@ -1,6 +1,6 @@
 ghost use Rattle.std.specs.Prelude.{◌≡◌};
 ghost use Rattle.serve_words.specs.Named.{begins_with, name_of};
-ghost use Rattle.serve_words.specs.Task.{texts_of};
+ghost use Rattle.serve_words.specs.Task.{word_texts};
 
 /// What the first word of a command line asks for.
 #[derive(Clone, Copy, Debug, PartialEq, Eq)]
@@ -14,7 +14,7 @@ pub enum CommandName {
 
 /// The command that the words behind the program's name ask for.
 pub fn command_name(words: &[String]) -> CommandName
-    ensures { result ≡ name_of (texts_of words.now) }
+    ensures { result ≡ name_of (word_texts words.now) }
 {
     match words {
         [command, ..] if command.as_str() == "check" => CommandName::Check,
@@ -26,7 +26,7 @@ pub fn command_name(words: &[String]) -> CommandName
 
 /// Whether the first word is this one.
 pub(crate) fn begins_with(words: &[String], name: &str) -> bool
-    ensures { result ≡ begins_with name.now (texts_of words.now) }
+    ensures { result ≡ begins_with name.now (word_texts words.now) }
 {
     match words {
         [command, ..] => command.as_str() == name,

@@ -1,7 +1,7 @@
 ghost use Rattle.std.specs.Prelude.{◌≡◌, IfOk, IfSome, map, option_map};
 ghost use Rattle.clap.specs.Matches.{found_of};
 ghost use Rattle.clap.specs.Walk.{rows_of};
-ghost use Rattle.serve_words.specs.Task.{IsAllowed, files_in, fits, flag_in, shown, task_in};
+ghost use Rattle.serve_words.specs.Task.{IsAllowed, files_in, fits_files, flag_in, task_shown, task_in};
 
 use crate::sizes::{Sizes, sizes_in, workers_in};
 use clap::ArgMatches;
@@ -24,8 +24,8 @@ pub(crate) fn task_in<'a>(
     alloc: Global,
     matches: &ArgMatches<'a>,
 ) -> Result<Option<ServeTask<'a>>, Memory>
-    ensures value { IfOk result (λ task. option_map shown task ≡ task_in (rows_of (found_of matches.now))) }
-    ensures allowed { IfOk result (λ task. IfSome task (λ t. IsAllowed (shown t))) }
+    ensures value { IfOk result (λ task. option_map task_shown task ≡ task_in (rows_of (found_of matches.now))) }
+    ensures allowed { IfOk result (λ task. IfSome task (λ t. IsAllowed (task_shown t))) }
 {
     let Some(sizes) = sizes_in(matches) else {
         return Ok(None);
@@ -69,7 +69,7 @@ pub(crate) fn files_in<'a>(
 
 // There are 1 to 16 files, and 128 small buffers for each.
 fn fits(files: &[&str], sizes: &Sizes) -> bool
-    ensures { result ≡ fits (map (λ file. file.now) files.now) sizes.now }
+    ensures { result ≡ fits_files (map (λ file. file.now) files.now) sizes.now }
 {
     match files.len() {
         count @ 1..=16 => 128 * count <= sizes.small as usize,

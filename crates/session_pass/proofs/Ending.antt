@@ -1,5 +1,6 @@
 -- The end of a session.
-use Rattle.std.proofs.Common.{◌≡◌, ℕ, List, [], ◌∷◌, ◌++◌, length, Bool, true, sym, refl, ap, ◌∙◌, append-nil, length-append, arith}
+use Rattle.std.proofs.Common.{◌≡◌, ℕ, List, [], ◌∷◌, ◌++◌, length, Bool, true, sym, refl, ap, ◌∙◌, append-nil}
+use Rattle.std.proofs.Common.{length-append, arith}
 use Rattle.atomic_table.specs.Seated.{TableId}
 use Rattle.view_sums.specs.Total.{total}
 use Rattle.pin_core.specs.declared.sizes.Sizes.{Sizes}
@@ -15,10 +16,10 @@ use Rattle.tx_ring.specs.Shown.{closed_ring, closed_view}
 use Rattle.tx_ring.specs.declared.closed.ClosedDriver.{ClosedDriver}
 use Rattle.tx_ring.specs.declared.view.DriverView.{DriverView}
 use Rattle.command_exec.specs.Passes.{PassView, IsPass}
-use Rattle.session_pass.specs.Views.{SessionView, session_of}
+use Rattle.session_pass.specs.Views.{SessionView, whole_view}
 use Rattle.session_pass.specs.Waiting.{waiting}
-use Rattle.session_pass.specs.Kept.{IsSession, paid_in}
-use Rattle.session_pass.specs.Finished.{IsDone}
+use Rattle.session_pass.specs.Kept.{IsSessionSound, holds_paid}
+use Rattle.session_pass.specs.Finished.{IsSessionDone}
 use Rattle.session_pass.specs.Refused.{HasReaped}
 use Rattle.session_pass.specs.Ends.{Finishes}
 use Rattle.session_pass.specs.declared.finish.Finish.{Finish}
@@ -34,16 +35,17 @@ no_more xs (y ∷ ys) zs front same = absurd (omega (arith, ap length front, len
 
 module _ (z : Sizes) (pass : PassView) (opened : View) (ring : TableId) (d : DriverView Sent) (stopped : Bool)
     (seat : View) (mine : SessionList) (closed : ClosedDriver Sent) where
-  pub all_done : IsPass z pass → IsSeat z pass.seat → IsSession (session_of pass opened ring d stopped)
+  pub all_done : IsPass z pass → IsSeat z pass.seat → IsSessionSound (whole_view pass opened ring d stopped)
       → length d.posted ≡ length d.reaped → (closed_ring closed ≡ ring) × (closed_view closed ≡ closing d)
       → IsClosed pass.free pass.seat seat → mine ≡ pass.list
-      → IsDone (session_of pass opened ring d stopped) seat mine closed
+      → IsSessionDone (whole_view pass opened ring d stopped) seat mine closed
   all_done valid live is all shut given list =
-      let s = session_of pass opened ring d stopped in
+      let s = whole_view pass opened ring d stopped in
       let front : d.posted ≡ d.reaped ++ [] = no_more d.reaped (waiting s 0) d.posted is.front all in
       let reaped : d.reaped ≡ d.posted = sym (front ∙ append-nil d.reaped) in
       let now : With s [] = with_front s [] front is in
-      let free : pass.free ≡ pass.stage = now.free_is ∙ filter_all (λ b. true) pass.stage (each_all (λ b. true ≡ true) (λ b. refl) pass.stage) in
+      let free : pass.free ≡ pass.stage = now.free_is ∙ filter_all (λ b. true) pass.stage
+      (each_all (λ b. true ≡ true) (λ b. refl) pass.stage) in
       record {
         list = list;
         ring = shut.0;
@@ -54,7 +56,7 @@ module _ (z : Sizes) (pass : PassView) (opened : View) (ring : TableId) (d : Dri
         claims = given.claims;
         looks = given.looks;
         credits = omega (arith, given.credits, now.credits);
-        returns = omega (arith, given.returns, now.returns, ap paid_in reaped);
+        returns = omega (arith, given.returns, now.returns, ap holds_paid reaped);
         holds = λ weight.
             omega (
               arith,
@@ -67,7 +69,7 @@ module _ (z : Sizes) (pass : PassView) (opened : View) (ring : TableId) (d : Dri
 
 -- so a session ended that was reaped before
 pub done_behind : {n : ℕ} {old now : SessionView} (seat : View) (mine : SessionList) (closed : ClosedDriver Sent)
-    → HasReaped n old now → IsDone now seat mine closed → IsDone old seat mine closed
+    → HasReaped n old now → IsSessionDone now seat mine closed → IsSessionDone old seat mine closed
 done_behind {n} {old} {now} seat mine closed reaps done =
     let opened = reaps.keeps.rest.opened in
     let posted = reaps.keeps.posted in
@@ -81,7 +83,7 @@ done_behind {n} {old} {now} seat mine closed reaps done =
       claims = done.claims ∙ reaps.keeps.claims;
       looks = done.looks ∙ reaps.keeps.looks;
       credits = done.credits ∙ ap (λ (v : View). v.credits) opened;
-      returns = omega (arith, done.returns, ap (λ (v : View). v.returns) opened, ap paid_in posted);
+      returns = omega (arith, done.returns, ap (λ (v : View). v.returns) opened, ap holds_paid posted);
       holds = λ weight.
           omega (
             arith,
@@ -91,6 +93,7 @@ done_behind {n} {old} {now} seat mine closed reaps done =
           );
     }
 
-pub finishes_behind : {N P : Type 0} {n : ℕ} {old now : SessionView} (end : Finish N P) → HasReaped n old now → Finishes now end → Finishes old end
+pub finishes_behind : {N P : Type 0} {n : ℕ} {old now : SessionView} (end : Finish N P) → HasReaped n old now
+    → Finishes now end → Finishes old end
 finishes_behind (Done seat mine closed) reaps ends = done_behind seat mine closed reaps ends
 finishes_behind {old = old} (NotYet session) reaps ends = reaps_then reaps ends

@@ -1,5 +1,6 @@
 -- Parts of a rising list that tests pick out.
-use Rattle.std.proofs.Common.{◌≡◌, ℕ, zero, suc, ◌<◌, ◌⊎◌, inl, inr, ⊎_elim, List, [], ◌∷◌, take, drop, Bool, true, false, cond, ◌||◌, sym, refl, ap, ◌∙◌, arith}
+use Rattle.std.proofs.Common.{◌≡◌, ℕ, zero, suc, ◌<◌, ◌⊎◌, inl, inr, ⊎_elim, List, [], ◌∷◌, take, drop, Bool, true}
+use Rattle.std.proofs.Common.{false, cond, ◌||◌, sym, refl, ap, ◌∙◌, arith}
 use Rattle.std.specs.Prelude.{◌==◌}
 use Rattle.std.specs.List.{filter, list_any}
 use Rattle.view_sums.specs.Total.{Each}
@@ -93,7 +94,8 @@ drop_nil (suc m) = refl
 pub take-filter : (g : ℕ → Bool) (n : ℕ) (xs : List ℕ) → IsRising xs
     → take n (filter g xs) ≡ filter (has (take n (filter g xs))) xs
 take-filter g n [] rises = take_nil n
-take-filter g zero (x ∷ xs) rises = sym (filter_none (has []) (x ∷ xs) (each_all (λ y. has [] y ≡ false) (λ y. refl) (x ∷ xs)))
+take-filter g zero (x ∷ xs) rises =
+    sym (filter_none (has []) (x ∷ xs) (each_all (λ y. has [] y ≡ false) (λ y. refl) (x ∷ xs)))
 take-filter g (suc n) (x ∷ xs) rises =
     ⊎_elim
     (λ passes.
@@ -102,7 +104,8 @@ take-filter g (suc n) (x ∷ xs) rises =
     let whole : take (suc n) (filter g (x ∷ xs)) ≡ x ∷ t = ap (take (suc n)) (filter-yes g x xs passes) in
     let here : has (x ∷ t) x ≡ true = ap (λ b. b || has t x) (same-self x) in
     let others : Each (λ y. has t y ≡ has (x ∷ t) y) xs =
-    each-imp (λ y. x < y) (λ y. has t y ≡ has (x ∷ t) y) (λ y less. sym (ap (λ b. b || has t y) (not-same' x y less))) xs above in
+    each-imp (λ y. x < y) (λ y. has t y ≡ has (x ∷ t) y) (λ y less. sym (ap (λ b. b || has t y) (not-same' x y less)))
+    xs above in
     whole
     ∙ ap (λ l. x ∷ l) (take-filter g n xs (rising-rest x xs rises) ∙ filter_same (has t) (has (x ∷ t)) xs others)
     ∙ sym (filter-yes (has (x ∷ t)) x xs here)
@@ -111,8 +114,10 @@ take-filter g (suc n) (x ∷ xs) rises =
     let above = above-each x xs rises in
     let t = take (suc n) (filter g xs) in
     let whole : take (suc n) (filter g (x ∷ xs)) ≡ t = ap (take (suc n)) (filter-no g x xs fails) in
-    let absent : has t x ≡ false = has-none x t (each-take (λ y. x < y) (suc n) (filter g xs) (each-filter (λ y. x < y) g xs above)) in
-    whole ∙ take-filter g (suc n) xs (rising-rest x xs rises) ∙ sym (filter-no (has t) x xs absent) ∙ ap (λ l. filter (has l) (x ∷ xs)) (sym whole))
+    let absent : has t x ≡ false =
+    has-none x t (each-take (λ y. x < y) (suc n) (filter g xs) (each-filter (λ y. x < y) g xs above)) in
+    whole ∙ take-filter g (suc n) xs (rising-rest x xs rises) ∙ sym (filter-no (has t) x xs absent)
+    ∙ ap (λ l. filter (has l) (x ∷ xs)) (sym whole))
     (same_or_not (g x))
 
 either : (t s : Bool) → s ≡ false → cond t false s ≡ false
@@ -123,7 +128,8 @@ either false s fails = fails
 pub drop-filter : (g : ℕ → Bool) (n : ℕ) (xs : List ℕ) → IsRising xs
     → drop n (filter g xs) ≡ filter (λ x. cond (has (take n (filter g xs)) x) false (g x)) xs
 drop-filter g n [] rises = drop_nil n
-drop-filter g zero (x ∷ xs) rises = filter_same g (λ y. cond (has [] y) false (g y)) (x ∷ xs) (each_all (λ y. g y ≡ g y) (λ y. refl) (x ∷ xs))
+drop-filter g zero (x ∷ xs) rises = filter_same g (λ y. cond (has [] y) false (g y)) (x ∷ xs)
+    (each_all (λ y. g y ≡ g y) (λ y. refl) (x ∷ xs))
 drop-filter g (suc n) (x ∷ xs) rises =
     ⊎_elim
     (λ passes.
@@ -133,7 +139,8 @@ drop-filter g (suc n) (x ∷ xs) rises =
     let whole : filter g (x ∷ xs) ≡ x ∷ filter g xs = filter-yes g x xs passes in
     let here : rest (x ∷ t) x ≡ false = ap (λ b. cond (b || has t x) false (g x)) (same-self x) in
     let others : Each (λ y. rest t y ≡ rest (x ∷ t) y) xs =
-    each-imp (λ y. x < y) (λ y. rest t y ≡ rest (x ∷ t) y) (λ y less. sym (ap (λ b. cond (b || has t y) false (g y)) (not-same' x y less))) xs above in
+    each-imp (λ y. x < y) (λ y. rest t y ≡ rest (x ∷ t) y)
+    (λ y less. sym (ap (λ b. cond (b || has t y) false (g y)) (not-same' x y less))) xs above in
     ap (drop (suc n)) whole
     ∙ drop-filter g n xs (rising-rest x xs rises)
     ∙ filter_same (rest t) (rest (x ∷ t)) xs others
@@ -145,7 +152,8 @@ drop-filter g (suc n) (x ∷ xs) rises =
     let rest : List ℕ → ℕ → Bool = λ l y. cond (has l y) false (g y) in
     let whole : filter g (x ∷ xs) ≡ filter g xs = filter-no g x xs fails in
     let absent : rest t x ≡ false = either (has t x) (g x) fails in
-    ap (drop (suc n)) whole ∙ drop-filter g (suc n) xs (rising-rest x xs rises) ∙ sym (filter-no (rest t) x xs absent) ∙ ap (λ l. filter (rest (take (suc n) l)) (x ∷ xs)) (sym whole))
+    ap (drop (suc n)) whole ∙ drop-filter g (suc n) xs (rising-rest x xs rises) ∙ sym (filter-no (rest t) x xs absent)
+    ∙ ap (λ l. filter (rest (take (suc n) l)) (x ∷ xs)) (sym whole))
     (same_or_not (g x))
 
 -- what is less than all that come before stays in front
@@ -192,10 +200,12 @@ pub merged-filters : (a b c : ℕ → Bool) (xs : List ℕ) → IsRising xs
     → merged (filter a xs) (filter b xs) ≡ filter c xs
 merged-filters a b c [] rises apart splits = refl
 merged-filters a b c (x ∷ xs) rises apart splits =
-    merged_step a b c x xs (above-each x xs rises) apart splits.0 (merged-filters a b c xs (rising-rest x xs rises) apart splits.1)
+    merged_step a b c x xs (above-each x xs rises) apart splits.0
+    (merged-filters a b c xs (rising-rest x xs rises) apart splits.1)
 
 -- what a test picks out passes it
-passes_step : (g : ℕ → Bool) (t : Bool) (x : ℕ) (xs : List ℕ) → g x ≡ t → Each (λ y. g y ≡ true) xs → Each (λ y. g y ≡ true) (cond t (x ∷ xs) xs)
+passes_step : (g : ℕ → Bool) (t : Bool) (x : ℕ) (xs : List ℕ) → g x ≡ t → Each (λ y. g y ≡ true) xs
+    → Each (λ y. g y ≡ true) (cond t (x ∷ xs) xs)
 passes_step g true x xs e each = (e, each)
 passes_step g false x xs e each = each
 
@@ -206,7 +216,8 @@ each-passes g (x ∷ xs) = passes_step g (g x) x (filter g xs) refl (each-passes
 same_number : (y b : ℕ) → (y == b) ≡ true → y ≡ b
 same_number y b same = grind arith
 
-found_step : (g : ℕ → Bool) (t : Bool) (y b : ℕ) (s : Bool) → (y == b) ≡ t → g y ≡ true → (s ≡ true → g b ≡ true) → (t || s) ≡ true → g b ≡ true
+found_step : (g : ℕ → Bool) (t : Bool) (y b : ℕ) (s : Bool) → (y == b) ≡ t → g y ≡ true → (s ≡ true → g b ≡ true)
+    → (t || s) ≡ true → g b ≡ true
 found_step g true y b s same here others found = ap g (sym (same_number y b same)) ∙ here
 found_step g false y b s same here others found = others found
 

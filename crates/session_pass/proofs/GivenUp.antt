@@ -37,4 +37,5 @@ none_left (h ∷ hs) none = absurd (omega arith)
 pub ends_with_none : EndsWithNone
 ends_with_none z stage before opened after had none =
     none_left after.holds
-    (ends_as_it_began z stage before opened after had (λ _. 1) ∙ ap (λ (hs : List Holding). total (λ _. 1) (bare_all hs)) none)
+    (ends_as_it_began z stage before opened after had (λ _. 1)
+    ∙ ap (λ (hs : List Holding). total (λ _. 1) (bare_all hs)) none)

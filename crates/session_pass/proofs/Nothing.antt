@@ -7,7 +7,7 @@ use Rattle.flake_model.specs.Command.{Command, parts}
 use Rattle.flake_model.specs.Store.{Operation}
 use Rattle.call_model.specs.Calls.{IsCutShort}
 use Rattle.call_model.specs.Demand.{parts_row}
-use Rattle.call_model.specs.Outcomes.{AreOutcomes, Told}
+use Rattle.call_model.specs.Outcomes.{AreOutcomes, SessionDeeds}
 use Rattle.command_exec.specs.Passes.{PassView}
 use Rattle.command_exec.specs.Executed.{FallsShort}
 
@@ -15,7 +15,7 @@ pub no_outcomes : (operations : List Operation) → AreOutcomes operations []
 no_outcomes [] = tt
 no_outcomes (operation ∷ operations) = tt
 
-pub not_begun : (z : Sizes) (shards number call : ℕ) (command : Command) (told : Told) (seat : View)
+pub not_begun : (z : Sizes) (shards number call : ℕ) (command : Command) (told : SessionDeeds) (seat : View)
     → IsCutShort z shards number call command [] told told seat seat
 not_begun z shards number call command told seat = record {
   are = no_outcomes (parts command);
@@ -26,7 +26,8 @@ not_begun z shards number call command told seat = record {
       (sought_nothing z seat seat refl refl) (λ class. omega arith);
 }
 
-pub nothing_run : (z : Sizes) (shards call : ℕ) (command : Command) (p : PassView) → FallsShort z shards command call p p
+pub nothing_run : (z : Sizes) (shards call : ℕ) (command : Command) (p : PassView)
+    → FallsShort z shards command call p p
 nothing_run z shards call command p = record {
   outcomes = [];
   cut = not_begun z shards p.list.number call command p.list.told p.seat;

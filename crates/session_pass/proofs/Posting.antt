@@ -1,5 +1,7 @@
 -- A reply more is posted.
-use Rattle.std.proofs.Common.{◌≡◌, ℕ, ◌+◌, ◌-◌, ◌^◌, ◌<◌, ◌≤◌, ⊎_elim, List, [], ◌∷◌, ◌++◌, length, take, drop, Bool, true, false, not, cond, ◌||◌, sym, refl, ap, ◌∙◌, subst, append_assoc, append-nil, length-append, length-take, length-drop, arith}
+use Rattle.std.proofs.Common.{◌≡◌, ℕ, ◌+◌, ◌-◌, ◌^◌, ◌<◌, ◌≤◌, ⊎_elim, List, [], ◌∷◌, ◌++◌, length, take, drop, Bool}
+use Rattle.std.proofs.Common.{true, false, not, cond, ◌||◌, sym, refl, ap, ◌∙◌, subst, append_assoc, append-nil}
+use Rattle.std.proofs.Common.{length-append, length-take, length-drop, arith}
 use Rattle.std.specs.List.{filter, list_any}
 use Rattle.std.proofs.lemmas.List.{take-append-drop}
 use Rattle.std.proofs.lemmas.List.Folds.{list_any-append}
@@ -18,19 +20,21 @@ use Rattle.reply_layout.specs.Frames.{frame_from}
 use Rattle.reply_layout.specs.Need.{need_of}
 use Rattle.reply_planner.specs.Owned.{AreOwn}
 use Rattle.reply_planner.specs.Parcels.{Sent}
-use Rattle.reply_planner.specs.Places.{addresses_of}
+use Rattle.reply_planner.specs.Places.{buffer_addresses}
 use Rattle.reply_planner.specs.Stages.{IsRising}
 use Rattle.reply_planner.proofs.Owned.{own_front}
 use Rattle.tx_ring.specs.Changes.{IsPosted}
 use Rattle.tx_ring.specs.declared.view.DriverView.{DriverView}
 use Rattle.command_exec.specs.Passes.{PassView, IsPass}
 use Rattle.command_exec.specs.Executed.{Executes, FallsShort}
-use Rattle.session_pass.specs.Views.{SessionView, session_of}
-use Rattle.session_pass.specs.Waiting.{waiting, uses, free_of, Fits}
+use Rattle.session_pass.specs.Views.{SessionView, whole_view}
+use Rattle.session_pass.specs.Waiting.{waiting, is_staged_by, free_of, FitsBeside}
 use Rattle.session_pass.specs.Calls.{CallPosts, CallRefused}
-use Rattle.session_pass.specs.Kept.{IsSession, IsSessionOf, IsWaiting, users}
-use Rattle.session_pass.proofs.Filters.{has, filter_same, each_all, each-take, each-passes, has-passes, take-filter, drop-filter, same_or_not}
-use Rattle.session_pass.proofs.Sums.{credits_few, users_none, users_one, credits_one, staged_one, descriptors_one, weight_one}
+use Rattle.session_pass.specs.Kept.{IsSessionSound, IsSessionOf, IsWaiting, users}
+use Rattle.session_pass.proofs.Filters.{has, filter_same, each_all, each-take, each-passes, has-passes, take-filter}
+use Rattle.session_pass.proofs.Filters.{drop-filter, same_or_not}
+use Rattle.session_pass.proofs.Sums.{credits_few, users_none, users_one, credits_one, staged_one, descriptors_one}
+use Rattle.session_pass.proofs.Sums.{weight_one}
 use Rattle.session_pass.proofs.Weights.{own_gone}
 use Rattle.session_pass.proofs.With.{With, with_waits, session_with}
 
@@ -48,23 +52,25 @@ unused_true false e = refl
 module _ (stage : List ℕ) (waits : List Sent) (p : Sent) (rises : IsRising stage)
     (staged : p.staged ≡ take (length p.staged) (free_of stage waits)) where
   -- has them in order
-  pub staged_in_order : p.staged ≡ filter (λ b. uses b p) stage
+  pub staged_in_order : p.staged ≡ filter (λ b. is_staged_by b p) stage
   staged_in_order =
-      staged ∙ take-filter (λ b. not (list_any (uses b) waits)) (length p.staged) stage rises
+      staged ∙ take-filter (λ b. not (list_any (is_staged_by b) waits)) (length p.staged) stage rises
       ∙ ap (λ l. filter (has l) stage) (sym staged)
 
   -- leaves the others
   pub others_free : drop (length p.staged) (free_of stage waits) ≡ free_of stage (waits ++ p ∷ [])
   others_free =
-      drop-filter (λ b. not (list_any (uses b) waits)) (length p.staged) stage rises
-      ∙ ap (λ l. filter (λ b. cond (has l b) false (not (list_any (uses b) waits))) stage) (sym staged)
+      drop-filter (λ b. not (list_any (is_staged_by b) waits)) (length p.staged) stage rises
+      ∙ ap (λ l. filter (λ b. cond (has l b) false (not (list_any (is_staged_by b) waits))) stage) (sym staged)
       ∙ filter_same
-      (λ b. cond (uses b p) false (not (list_any (uses b) waits)))
-      (λ b. not (list_any (uses b) (waits ++ p ∷ [])))
+      (λ b. cond (is_staged_by b p) false (not (list_any (is_staged_by b) waits)))
+      (λ b. not (list_any (is_staged_by b) (waits ++ p ∷ [])))
       stage
       (each_all
-      (λ b. cond (uses b p) false (not (list_any (uses b) waits)) ≡ not (list_any (uses b) (waits ++ p ∷ [])))
-      (λ b. used_or_not (list_any (uses b) waits) (uses b p) ∙ ap not (sym (list_any-append (uses b) waits (p ∷ []))))
+      (λ b. cond (is_staged_by b p) false (not (list_any (is_staged_by b) waits))
+      ≡ not (list_any (is_staged_by b) (waits ++ p ∷ [])))
+      (λ b. used_or_not (list_any (is_staged_by b) waits) (is_staged_by b p)
+      ∙ ap not (sym (list_any-append (is_staged_by b) waits (p ∷ []))))
       stage)
 
   -- and uses none that another one uses
@@ -72,32 +78,32 @@ module _ (stage : List ℕ) (waits : List Sent) (p : Sent) (rises : IsRising sta
   used_once b once =
       ⊎_elim
       (λ used.
-      let was_free : not (list_any (uses b) waits) ≡ true =
-      has-passes (λ c. not (list_any (uses c) waits)) b (take (length p.staged) (free_of stage waits))
-      (each-take (λ c. not (list_any (uses c) waits) ≡ true) (length p.staged) (free_of stage waits)
-      (each-passes (λ c. not (list_any (uses c) waits)) stage))
+      let was_free : not (list_any (is_staged_by b) waits) ≡ true =
+      has-passes (λ c. not (list_any (is_staged_by c) waits)) b (take (length p.staged) (free_of stage waits))
+      (each-take (λ c. not (list_any (is_staged_by c) waits) ≡ true) (length p.staged) (free_of stage waits)
+      (each-passes (λ c. not (list_any (is_staged_by c) waits)) stage))
       (ap (λ l. has l b) (sym staged) ∙ used) in
       omega (
         arith,
         users_one b waits p,
-        users_none b waits (unused_true (list_any (uses b) waits) was_free),
+        users_none b waits (unused_true (list_any (is_staged_by b) waits) was_free),
         ap {B = ℕ} (λ (t : Bool). cond t 1 0) used,
       ))
       (λ unused. omega (arith, once, users_one b waits p, ap {B = ℕ} (λ (t : Bool). cond t 1 0) unused))
-      (same_or_not (uses b p))
+      (same_or_not (is_staged_by b p))
 
 module _ (z : Sizes) (shards call : ℕ) (command : Command) (pass pass' : PassView) (opened : View)
     (ring ring' : TableId) (d d' : DriverView Sent) (stopped : Bool) (p : Sent) where
   pub post_keeps : (before behind : List Seg) (calls number : ℕ) → IsPass z pass → IsSeat z pass.seat
       → Executes z shards command call pass pass' p before behind
       → ring' ≡ ring → IsPosted p d d'
-      → (let s = session_of pass opened ring d stopped in Fits ring pass.stage (waiting s 0) (need_of command))
+      → (let s = whole_view pass opened ring d stopped in FitsBeside ring pass.stage (waiting s 0) (need_of command))
       → length d.posted < 2 ^ 32 - 1
-      → IsSessionOf calls number (session_of pass opened ring d stopped)
-      → IsSessionOf (calls + 1) number (session_of pass' opened ring' d' stopped)
+      → IsSessionOf calls number (whole_view pass opened ring d stopped)
+      → IsSessionOf (calls + 1) number (whole_view pass' opened ring' d' stopped)
   post_keeps before behind calls number valid live ran same_ring posts room few is =
-      let s = session_of pass opened ring d stopped in
-      let s' = session_of pass' opened ring' d' stopped in
+      let s = whole_view pass opened ring d stopped in
+      let s' = whole_view pass' opened ring' d' stopped in
       let waits = waiting s 0 in
       let now : With s waits = with_waits s is.is in
       let n = length p.staged in
@@ -118,16 +124,37 @@ module _ (z : Sizes) (shards call : ℕ) (command : Command) (pass pass' : PassV
           front = posts.posted ∙ ap (λ l. l ++ p ∷ []) now.front ∙ append_assoc d.reaped waits (p ∷ [])
               ∙ ap (λ l. l ++ (waits ++ p ∷ [])) (sym posts.reaped);
           each = subst (λ l. Each (IsWaiting l) (waits ++ p ∷ [])) (sym ran.stage)
-              (each-append (IsWaiting pass.stage) waits (p ∷ []) now.each
-              (record { some = ran.some; staged = staged_in_order pass.stage waits p valid.rising staged; few = ran.few }, tt));
+              (each-append (IsWaiting pass.stage) waits (p ∷ []) now.each (
+                record {
+                  some = ran.some;
+                  staged = staged_in_order pass.stage waits p valid.rising staged;
+                  few = ran.few;
+                },
+                tt,
+              ));
           free_is = free ∙ ap (λ l. free_of l (waits ++ p ∷ [])) (sym ran.stage);
           all = omega (arith, now.all, staged_one waits p, ap length ran.free, length-drop n pass.free, enough);
           once = λ b. used_once pass.stage waits p valid.rising staged b (now.once b);
-          fits = omega (arith, now.least, now.fits, room.in_ring, ran.in_ring, descriptors_one waits p, ap (λ (r : TableId). r.slots) same_ring);
+          fits = omega (
+            arith,
+            now.least,
+            now.fits,
+            room.in_ring,
+            ran.in_ring,
+            descriptors_one waits p,
+            ap
+                (λ (r : TableId). r.slots) same_ring,
+          );
           rich = now.rich;
           count = omega (arith, few, ap length posts.posted, length-append d.posted (p ∷ []));
           credits = omega (arith, now.credits, ran.credits, credits_one waits p);
-          returns = omega (arith, now.returns, ran.returns, ap (λ (l : List Sent). total (λ (q : Sent). q.paid) l) posts.reaped);
+          returns = omega (
+            arith,
+            now.returns,
+            ran.returns,
+            ap (λ (l : List Sent). total (λ (q : Sent). q.paid) l)
+                posts.reaped,
+          );
           holds = λ weight.
               omega (
                 arith,
@@ -141,15 +168,17 @@ module _ (z : Sizes) (shards call : ℕ) (command : Command) (pass pass' : PassV
 
   pub call_posts : (sent stored : List Seg) → Executes z shards command call pass pass' p [] stored → sent ≡ p.segments
       → ring' ≡ ring → IsPosted p d d' → call ≡ length d.posted
-      → (let s = session_of pass opened ring d stopped in Fits ring pass.stage (waiting s 0) (need_of command))
-      → IsSession (session_of pass opened ring d stopped)
-      → CallPosts z shards command (session_of pass opened ring d stopped) (session_of pass' opened ring' d' stopped) call 0 sent stored
+      → (let s = whole_view pass opened ring d stopped in FitsBeside ring pass.stage (waiting s 0) (need_of command))
+      → IsSessionSound (whole_view pass opened ring d stopped)
+      → CallPosts z shards command (whole_view pass opened ring d stopped)
+      (whole_view pass' opened ring' d' stopped) call 0 sent stored
   call_posts sent stored ran told same_ring posts call_is room is =
-      let s = session_of pass opened ring d stopped in
+      let s = whole_view pass opened ring d stopped in
       record {
         outcomes = ran.outcomes;
         parcel = p;
-        executed = subst (λ (k : ℕ). IsExecuted z shards pass.list.number k command ran.outcomes p.text p.paid pass.list.told pass'.list.told pass.seat pass'.seat)
+        executed = subst (λ (k : ℕ). IsExecuted z shards pass.list.number k command ran.outcomes p.text p.paid
+            pass.list.told pass'.list.told pass.seat pass'.seat)
             call_is ran.executed;
         gone = [];
         freed_is = refl;
@@ -160,8 +189,10 @@ module _ (z : Sizes) (shards call : ℕ) (command : Command) (pass pass' : PassV
         call_is = call_is;
         numbered = ran.call_is;
         laid_out = ran.frame
-            ∙ ap (λ l. frame_from pass.threshold (addresses_of z l) command (call_deeds pass.list.number call 0 (parts command) ran.outcomes)) is.free_is
-            ∙ ap (λ (k : ℕ). frame_from pass.threshold (addresses_of z (free_of pass.stage (waiting s 0))) command (call_deeds pass.list.number k 0 (parts command) ran.outcomes)) call_is;
+            ∙ ap (λ l. frame_from pass.threshold (buffer_addresses z l) command
+            (call_deeds pass.list.number call 0 (parts command) ran.outcomes)) is.free_is
+            ∙ ap (λ (k : ℕ). frame_from pass.threshold (buffer_addresses z (free_of pass.stage (waiting s 0))) command
+            (call_deeds pass.list.number k 0 (parts command) ran.outcomes)) call_is;
         sent_is = told;
         stored_is = ran.stored;
         in_buffers = subst (Each (IsInBuffer z)) (sym ran.stored) ran.in_buffers;
@@ -182,10 +213,10 @@ module _ (z : Sizes) (shards call : ℕ) (command : Command) (pass pass' : PassV
 module _ (z : Sizes) (shards call : ℕ) (command : Command) (pass pass' : PassView) (opened : View)
     (ring : TableId) (d : DriverView Sent) (stopped : Bool) where
   pub refuse_keeps : (calls number : ℕ) → FallsShort z shards command call pass pass'
-      → IsSessionOf calls number (session_of pass opened ring d stopped)
-      → IsSessionOf calls number (session_of pass' opened ring d true)
+      → IsSessionOf calls number (whole_view pass opened ring d stopped)
+      → IsSessionOf calls number (whole_view pass' opened ring d true)
   refuse_keeps calls number short is =
-      let s = session_of pass opened ring d stopped in
+      let s = whole_view pass opened ring d stopped in
       let now = is.is in
       record {
         calls_are = is.calls_are;
@@ -208,10 +239,11 @@ module _ (z : Sizes) (shards call : ℕ) (command : Command) (pass pass' : PassV
       }
 
   pub call_refused : FallsShort z shards command call pass pass' → call ≡ length d.posted
-      → CallRefused z shards command (session_of pass opened ring d stopped) (session_of pass' opened ring d true)
+      → CallRefused z shards command (whole_view pass opened ring d stopped) (whole_view pass' opened ring d true)
   call_refused short call_is = record {
     outcomes = short.outcomes;
-    cut = subst (λ (k : ℕ). IsCutShort z shards pass.list.number k command short.outcomes pass.list.told pass'.list.told pass.seat pass'.seat)
+    cut = subst (λ (k : ℕ). IsCutShort z shards pass.list.number k command short.outcomes pass.list.told pass'.list.told
+        pass.seat pass'.seat)
         call_is short.cut;
     gone = [];
     reaped = sym (append-nil d.reaped);
@@ -231,8 +263,19 @@ module _ (z : Sizes) (shards call : ℕ) (command : Command) (pass pass' : PassV
   }
 
 -- whatever a command needs, the pass can pay for it
-pub credits_enough : (command : Command) (s : SessionView) → IsSession s
-    → Fits s.ring s.pass.stage (waiting s 0) (need_of command)
+pub credits_enough : (command : Command) (s : SessionView) → IsSessionSound s
+    → FitsBeside s.ring s.pass.stage (waiting s 0) (need_of command)
     → (need_of command).descriptors + 5 ≤ s.pass.seat.credits
 credits_enough command s is room =
-    omega (arith, is.least, is.greatest, is.rich, is.credits, is.all, is.fits, room.in_ring, credits_few s.pass.stage (waiting s 0) is.each)
+    omega (
+      arith,
+      is.least,
+      is.greatest,
+      is.rich,
+      is.credits,
+      is.all,
+      is.fits,
+      room.in_ring,
+      credits_few s.pass.stage
+          (waiting s 0) is.each,
+    )

@@ -1,17 +1,26 @@
 -- Room for the next reply, made by reaps.
-use Rattle.std.proofs.Common.{◌≡◌, ℕ, ◌+◌, ◌-◌, ◌^◌, ◌<◌, ⊎_elim, List, [], ◌∷◌, ◌++◌, length, drop, sym, refl, ap, ◌∙◌, subst, append-nil, append_assoc, length-append, arith}
+use Rattle.std.proofs.Common.{◌≡◌, ℕ, ◌+◌, ◌-◌, ◌^◌, ◌<◌, ⊎_elim, List, [], ◌∷◌, ◌++◌, length, drop, sym, refl, ap, ◌∙◌}
+use Rattle.std.proofs.Common.{subst, append-nil, append_assoc, length-append, arith}
 use Rattle.std.proofs.lemmas.Bool.{cases_lt}
 use Rattle.std.proofs.lemmas.Option.{slice_get_within}
 use Rattle.reply_planner.specs.Parcels.{Sent}
 use Rattle.reply_layout.specs.declared.need.Need.{Need}
 use Rattle.session_pass.specs.Views.{SessionView}
-use Rattle.session_pass.specs.Waiting.{waiting, room_left, free_of, Fits}
+use Rattle.session_pass.specs.Waiting.{waiting, room_left, free_of, FitsBeside}
 use Rattle.session_pass.specs.Calls.{KeepsRest, KeepsAll, ReapsOne, ReapsNone, CallReaps}
-use Rattle.session_pass.specs.Kept.{IsSession}
+use Rattle.session_pass.specs.Kept.{IsSessionSound}
 use Rattle.session_pass.specs.Refused.{HasReaped}
 
 pub rest_same : (s : SessionView) → KeepsRest s s
-rest_same s = record { number = refl; looks = refl; stage = refl; threshold = refl; opened = refl; ring = refl; told = refl }
+rest_same s = record {
+  number = refl;
+  looks = refl;
+  stage = refl;
+  threshold = refl;
+  opened = refl;
+  ring = refl;
+  told = refl;
+}
 
 pub rest_then : {s t u : SessionView} → KeepsRest s t → KeepsRest t u → KeepsRest s u
 rest_then first then = record {
@@ -43,12 +52,14 @@ reaped_none s = record {
   misses = refl;
 }
 
-pub reaped_more : {n call recycled : ℕ} {old now next : SessionView} → HasReaped n old now → ReapsOne now next call recycled
+pub reaped_more : {n call recycled : ℕ} {old now next : SessionView} → HasReaped n old now
+    → ReapsOne now next call recycled
     → HasReaped (n + 1) old next
 reaped_more {old = old} before one = record {
   gone = before.gone ++ one.parcel ∷ [];
   freed_is = omega (arith, before.freed_is, length-append before.gone (one.parcel ∷ []));
-  reaped = one.reaped ∙ ap (λ (l : List Sent). l ++ one.parcel ∷ []) before.reaped ∙ append_assoc old.reaped before.gone (one.parcel ∷ []);
+  reaped = one.reaped ∙ ap (λ (l : List Sent). l ++ one.parcel ∷ []) before.reaped ∙ append_assoc old.reaped before.gone
+      (one.parcel ∷ []);
   keeps = keeps_then before.keeps one.keeps;
   misses = one.misses ∙ before.misses;
 }
@@ -61,9 +72,16 @@ waits_behind {n} {old} {now} reaps =
     ap (drop (length now.reaped + 0)) reaps.keeps.posted ∙ ap (λ k. drop k old.posted) place
 
 pub fits_behind : {n : ℕ} {old now : SessionView} (needed : Need) → HasReaped n old now
-    → Fits old.ring old.pass.stage (waiting old n) needed → Fits now.ring now.pass.stage (waiting now 0) needed
+    → FitsBeside old.ring old.pass.stage (waiting old n) needed → FitsBeside now.ring now.pass.stage
+    (waiting now 0) needed
 fits_behind {n} {old} {now} needed reaps fits = record {
-  in_ring = omega (arith, fits.in_ring, ap (λ r. room_left r (waiting now 0)) reaps.keeps.rest.ring, ap (room_left old.ring) (waits_behind reaps));
+  in_ring = omega (
+    arith,
+    fits.in_ring,
+    ap (λ r. room_left r (waiting now 0)) reaps.keeps.rest.ring,
+    ap
+        (room_left old.ring) (waits_behind reaps),
+  );
   in_stage = omega (
     arith,
     fits.in_stage,
@@ -75,13 +93,13 @@ fits_behind {n} {old} {now} needed reaps fits = record {
 -- fewer reaps made no room
 pub record RoomSoFar (needed : Need) (freed : ℕ) (old now : SessionView) : Type 0 where
   pub reaps : HasReaped freed old now
-  pub least : (fewer : ℕ) → fewer < freed → Fits old.ring old.pass.stage (waiting old fewer) needed → ⊥
+  pub least : (fewer : ℕ) → fewer < freed → FitsBeside old.ring old.pass.stage (waiting old fewer) needed → ⊥
 
 pub room_none : (needed : Need) (s : SessionView) → RoomSoFar needed 0 s s
 room_none needed s = record { reaps = reaped_none s; least = λ fewer below fits. absurd (omega arith) }
 
 pub room_more : {n call recycled : ℕ} {old now next : SessionView} (needed : Need) → RoomSoFar needed n old now
-    → (Fits now.ring now.pass.stage (waiting now 0) needed → ⊥) → ReapsOne now next call recycled
+    → (FitsBeside now.ring now.pass.stage (waiting now 0) needed → ⊥) → ReapsOne now next call recycled
     → RoomSoFar needed (n + 1) old next
 room_more {n} {old = old} needed before short one = record {
   reaps = reaped_more before.reaps one;
@@ -90,13 +108,15 @@ room_more {n} {old = old} needed before short one = record {
       (λ less. before.least fewer less fits)
       (λ same.
       let e : fewer ≡ n = omega arith in
-      short (fits_behind needed before.reaps (subst (λ k. Fits old.ring old.pass.stage (waiting old k) needed) e fits)))
+      short (fits_behind needed before.reaps
+      (subst (λ k. FitsBeside old.ring old.pass.stage (waiting old k) needed) e fits)))
       (cases_lt fewer n);
 }
 
 -- a reply waits that is reaped, so the count of reaps is below that of calls
-pub reaps_few : {n call recycled : ℕ} {old now next : SessionView} → HasReaped n old now → ReapsOne now next call recycled
-    → IsSession now → n + 1 < 2 ^ 32
+pub reaps_few : {n call recycled : ℕ} {old now next : SessionView} → HasReaped n old now
+    → ReapsOne now next call recycled
+    → IsSessionSound now → n + 1 < 2 ^ 32
 reaps_few {old = old} {now} before one is =
     omega (
       arith,
@@ -148,14 +168,20 @@ reaps_stop {old = old} {now} {next} before none waits = record {
       (λ missed. missed.0 ∙ ap (λ (l : List ℕ). l ++ length now.reaped ∷ []) before.misses
       ∙ ap (λ k. old.misses ++ k ∷ []) (ap (λ (s : SessionView). length s.reaped) (sym none.new_is)))
       none.cause;
-  more = omega (arith, ap (λ (s : SessionView). length s.reaped) none.new_is, ap (λ (s : SessionView). length s.posted) none.new_is);
+  more = omega (
+    arith,
+    ap (λ (s : SessionView). length s.reaped) none.new_is,
+    ap (λ (s : SessionView). length s.posted)
+        none.new_is,
+  );
 }
 
 -- reaps before those of a call
 pub reaps_then : {n : ℕ} {old now next : SessionView} → HasReaped n old now → CallReaps now next → CallReaps old next
 reaps_then {old = old} {next = next} before more = record {
   gone = before.gone ++ more.gone;
-  reaped = more.reaped ∙ ap (λ (l : List Sent). l ++ more.gone) before.reaped ∙ append_assoc old.reaped before.gone more.gone;
+  reaped = more.reaped ∙ ap (λ (l : List Sent). l ++ more.gone) before.reaped
+      ∙ append_assoc old.reaped before.gone more.gone;
   keeps = keeps_then before.keeps more.keeps;
   told = omega (arith, more.told, before.keeps.rest.told);
   miss = more.miss ∙ ap (λ (l : List ℕ). l ++ length next.reaped ∷ []) before.misses;

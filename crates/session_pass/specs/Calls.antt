@@ -8,13 +8,13 @@ use Rattle.reply_layout.specs.Frames.{frame_from}
 use Rattle.reply_layout.specs.Need.{need_of}
 use Rattle.reply_planner.specs.Owned.{bare_all, fresh_all}
 use Rattle.reply_planner.specs.Parcels.{Sent}
-use Rattle.reply_planner.specs.Places.{addresses_of}
+use Rattle.reply_planner.specs.Places.{buffer_addresses}
 use Rattle.call_model.specs.Outcomes.{Outcomes, call_deeds}
 use Rattle.call_model.specs.Calls.{IsExecuted, IsCutShort}
 use Rattle.call_model.specs.Parts.{call_segs, IsInBuffer}
 use Rattle.command_exec.specs.Executed.{frame_shown}
 use Rattle.session_pass.specs.Views.{SessionView}
-use Rattle.session_pass.specs.Waiting.{waiting, room_left, free_of, Fits}
+use Rattle.session_pass.specs.Waiting.{waiting, room_left, free_of, FitsBeside}
 
 -- what no call changes
 pub record KeepsRest (old new : SessionView) : Type 0 where
@@ -46,15 +46,15 @@ pub record CallPosts (z : Sizes) (shards : ℕ) (command : Command) (old new : S
   pub gone : List Sent
   pub freed_is : length gone ≡ freed
   pub reaped : new.reaped ≡ old.reaped ++ gone
-  pub fits : Fits old.ring old.pass.stage (waiting old freed) (need_of command)
+  pub fits : FitsBeside old.ring old.pass.stage (waiting old freed) (need_of command)
   pub least : (fewer : ℕ) → fewer < freed
-      → Fits old.ring old.pass.stage (waiting old fewer) (need_of command) → ⊥
+      → FitsBeside old.ring old.pass.stage (waiting old fewer) (need_of command) → ⊥
   pub posted : new.posted ≡ old.posted ++ parcel ∷ []
   pub call_is : call ≡ length old.posted
   pub numbered : parcel.call ≡ call
   -- it is laid out over the addresses that the deeds found and the first free staging buffers
   pub laid_out : frame_shown z parcel
-      ≡ frame_from old.pass.threshold (addresses_of z (free_of old.pass.stage (waiting old freed))) command
+      ≡ frame_from old.pass.threshold (buffer_addresses z (free_of old.pass.stage (waiting old freed))) command
       (call_deeds old.pass.list.number (length old.posted) 0 (parts command) outcomes)
   pub sent_is : sent ≡ parcel.segments
   pub stored_is : stored ≡ call_segs (parts command) outcomes
@@ -96,7 +96,7 @@ pub record CallRefused (z : Sizes) (shards : ℕ) (command : Command) (old new :
   pub gone : List Sent
   pub reaped : new.reaped ≡ old.reaped ++ gone
   pub least : (fewer : ℕ) → fewer < length gone
-      → Fits old.ring old.pass.stage (waiting old fewer) (need_of command) → ⊥
+      → FitsBeside old.ring old.pass.stage (waiting old fewer) (need_of command) → ⊥
   pub posted : new.posted ≡ old.posted
   pub rest : KeepsRest old new
   pub misses : new.misses ≡ old.misses

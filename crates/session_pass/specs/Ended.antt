@@ -5,11 +5,11 @@ use Rattle.pin_core.specs.Holding.{Holding}
 use Rattle.pin_core.specs.declared.sizes.Sizes.{Sizes}
 use Rattle.pinned_pool.specs.declared.view.View.{View}
 use Rattle.reply_planner.specs.Owned.{bare_all, fresh_all}
-use Rattle.reply_planner.specs.Stages.{IsOpened}
+use Rattle.reply_planner.specs.Stages.{IsStageOpened}
 
 -- a stage was opened on the seat, and at the end the seat's holds are those of then without the stage's
 pub record HadStage (z : Sizes) (stage : List ℕ) (before opened after : View) : Type 0 where
-  pub is_opened : IsOpened z stage before opened
+  pub is_opened : IsStageOpened z stage before opened
   pub holds : (weight : Holding → ℕ) → total weight (bare_all after.holds) + total weight (fresh_all stage)
       ≡ total weight (bare_all opened.holds)
 

@@ -7,14 +7,14 @@ use Rattle.reply_layout.specs.Need.{need_of}
 use Rattle.reply_layout.specs.declared.need.Need.{Need}
 use Rattle.reply_planner.specs.Parcels.{Sent}
 use Rattle.session_pass.specs.Views.{SessionView}
-use Rattle.session_pass.specs.Waiting.{waiting, Fits}
+use Rattle.session_pass.specs.Waiting.{waiting, FitsBeside}
 use Rattle.session_pass.specs.Calls.{KeepsAll, FindsRingFull, FindsStageFull, CallRefused}
 use Rattle.session_pass.specs.declared.error.CallError.{CallError}
 
-abbrev pub WhyRefused : Sizes → ℕ → Command → SessionView → SessionView → CallError → Type 0
-WhyRefused z shards command old new (CallError.RingFull need room) = FindsRingFull command old new need room
-WhyRefused z shards command old new (CallError.StageFull need free) = FindsStageFull command old new need free
-WhyRefused z shards command old new CallError.Memory = CallRefused z shards command old new
+abbrev pub WhyCallRefused : Sizes → ℕ → Command → SessionView → SessionView → CallError → Type 0
+WhyCallRefused z shards command old new (CallError.RingFull need room) = FindsRingFull command old new need room
+WhyCallRefused z shards command old new (CallError.StageFull need free) = FindsStageFull command old new need free
+WhyCallRefused z shards command old new CallError.Memory = CallRefused z shards command old new
 
 -- a call that found no room leaves a list that it tells in
 abbrev pub TellsNothing : CallError → List Seg → List Seg → Type 0
@@ -23,8 +23,8 @@ TellsNothing (CallError.StageFull need free) old new = new ≡ old
 TellsNothing CallError.Memory old new = Unit {0}
 
 -- which of ring and stage has less than is needed
-abbrev pub full_of : Need → Need → CallError
-full_of need left =
+abbrev pub full_error : Need → Need → CallError
+full_error need left =
     if nat_lt left.descriptors need.descriptors then CallError.RingFull need.descriptors left.descriptors
     else CallError.StageFull need.stage left.stage
 
@@ -39,5 +39,5 @@ pub record HasReaped (freed : ℕ) (old new : SessionView) : Type 0 where
 -- so many of them make room, and fewer don't
 pub record MakesRoom (command : Command) (freed : ℕ) (old new : SessionView) : Type 0 where
   pub reaps : HasReaped freed old new
-  pub fits : Fits new.ring new.pass.stage (waiting new 0) (need_of command)
-  pub least : (fewer : ℕ) → fewer < freed → Fits old.ring old.pass.stage (waiting old fewer) (need_of command) → ⊥
+  pub fits : FitsBeside new.ring new.pass.stage (waiting new 0) (need_of command)
+  pub least : (fewer : ℕ) → fewer < freed → FitsBeside old.ring old.pass.stage (waiting old fewer) (need_of command) → ⊥

@@ -7,7 +7,7 @@ use Rattle.reply_planner.specs.Parcels.{Sent}
 use Rattle.command_exec.specs.Passes.{PassView}
 use Rattle.command_exec.specs.Executed.{Executes}
 
-pub record Runs (z : Sizes) (shards : ℕ) (command : Command) (call : ℕ) (old new : PassView) (parcel : Sent)
+pub record RunsCommand (z : Sizes) (shards : ℕ) (command : Command) (call : ℕ) (old new : PassView) (parcel : Sent)
     (sent stored : List Seg) : Type 0 where
   pub executes : Executes z shards command call old new parcel [] stored
   pub sent_is : sent ≡ parcel.segments

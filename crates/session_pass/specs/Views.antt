@@ -22,8 +22,8 @@ pub record SessionView : Type 0 where
   pub stopped : Bool
 
 -- a session as its parts show it
-abbrev pub session_of : PassView → View → TableId → DriverView Sent → Bool → SessionView
-session_of pass opened ring driver stopped = record {
+abbrev pub whole_view : PassView → View → TableId → DriverView Sent → Bool → SessionView
+whole_view pass opened ring driver stopped = record {
   pass = pass;
   opened = opened;
   ring = ring;

@@ -21,14 +21,14 @@ abbrev pub room_left : TableId → List Sent → ℕ
 room_left ring waits = ring_size ring - 1 - descriptors_of waits
 
 -- the buffer is one of the reply's staging buffers
-abbrev pub uses : ℕ → Sent → Bool
-uses buffer reply = list_any (λ staged. staged == buffer) reply.staged
+abbrev pub is_staged_by : ℕ → Sent → Bool
+is_staged_by buffer reply = list_any (λ staged. staged == buffer) reply.staged
 
 -- the buffers of a stage that no waiting reply uses, in order
 abbrev pub free_of : List ℕ → List Sent → List ℕ
-free_of stage waits = filter (λ buffer. not (list_any (uses buffer) waits)) stage
+free_of stage waits = filter (λ buffer. not (list_any (is_staged_by buffer) waits)) stage
 
 -- beside the replies that wait, ring and stage have what is needed
-pub record Fits (ring : TableId) (stage : List ℕ) (waits : List Sent) (need : Need) : Type 0 where
+pub record FitsBeside (ring : TableId) (stage : List ℕ) (waits : List Sent) (need : Need) : Type 0 where
   pub in_ring : need.descriptors ≤ room_left ring waits
   pub in_stage : need.stage ≤ length (free_of stage waits)

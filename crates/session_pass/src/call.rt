@@ -2,8 +2,8 @@
 ghost use Rattle.std.specs.Prelude.{◌≡◌, ◌-◌, ◌^◌, ◌<◌, true, length, Err, IfOk, IfErr, OnErr};
 ghost use Rattle.reply_layout.specs.Need.{need_of};
 ghost use Rattle.session_pass.specs.Calls.{CallPosts, CallRefused};
-ghost use Rattle.session_pass.specs.Refused.{TellsNothing, WhyRefused};
-ghost use Rattle.session_pass.specs.Waiting.{waiting, Fits};
+ghost use Rattle.session_pass.specs.Refused.{TellsNothing, WhyCallRefused};
+ghost use Rattle.session_pass.specs.Waiting.{waiting, FitsBeside};
 
 use crate::error::CallError;
 use crate::run::run;
@@ -40,7 +40,7 @@ impl<N: BookName, P: PoolName + Send> Session<N, P> {
         ensures posted { IfOk result (λ posted. CallPosts P.sizes N.sizes.shards command.now self.old self.new
             posted.call posted.reaped sent.new.items stored.new.items) }
         ensures refused { IfErr result (λ error.
-            WhyRefused P.sizes N.sizes.shards command.now self.old self.new error) }
+            WhyCallRefused P.sizes N.sizes.shards command.now self.old self.new error) }
         ensures sent { IfErr result (λ error. TellsNothing error sent.old.items sent.new.items) }
         ensures stored { IfErr result (λ error. TellsNothing error stored.old.items stored.new.items) }
         ensures stopped { self.old.stopped ≡ true → (result ≡ Err CallError.Memory) × (self.new ≡ self.old) }
@@ -65,7 +65,7 @@ impl<N: BookName, P: PoolName + Send> Session<N, P> {
         stored: &mut Vec<Seg>,
     ) -> Result<u32, ExecError>
         requires few { length self.old.posted < 2 ^ 32 - 1 }
-        requires fits { Fits self.old.ring self.old.pass.stage (waiting self.old 0) (need_of command.now) }
+        requires fits { FitsBeside self.old.ring self.old.pass.stage (waiting self.old 0) (need_of command.now) }
         ensures posted { IfOk result (λ call. CallPosts P.sizes N.sizes.shards command.now self.old self.new call 0
             sent.new.items stored.new.items) }
         ensures refused { OnErr result (CallRefused P.sizes N.sizes.shards command.now self.old self.new) }

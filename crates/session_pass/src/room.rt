@@ -2,7 +2,7 @@
 ghost use Rattle.std.specs.Prelude.{◌≡◌, length, IfOk, IfErr};
 ghost use Rattle.reply_layout.specs.Need.{need};
 ghost use Rattle.session_pass.specs.Waiting.{waiting, room_left, free_of};
-ghost use Rattle.session_pass.specs.Refused.{MakesRoom, WhyRefused, full_of};
+ghost use Rattle.session_pass.specs.Refused.{MakesRoom, WhyCallRefused, full_error};
 
 use crate::error::CallError;
 use crate::session::Session;
@@ -32,7 +32,7 @@ impl<N: BookName, P: PoolName + Send> Session<N, P> {
     ) -> Result<u32, CallError>
         ensures room { IfOk result (λ freed. MakesRoom command.now freed self.old self.new) }
         ensures full { IfErr result (λ error.
-            WhyRefused P.sizes N.sizes.shards command.now self.old self.new error) }
+            WhyCallRefused P.sizes N.sizes.shards command.now self.old self.new error) }
     {
         let need = command.need();
         let mut freed = 0;
@@ -52,7 +52,7 @@ impl<N: BookName, P: PoolName + Send> Session<N, P> {
 
 // Which of ring and stage has less than is needed.
 fn full(need: Need, left: Need) -> CallError
-    ensures { result ≡ full_of need left }
+    ensures { result ≡ full_error need left }
 {
     if left.descriptors < need.descriptors {
         CallError::RingFull {

@@ -2,7 +2,7 @@
 ghost use Rattle.std.specs.Prelude.{◌≡◌, ◌+◌, ◌≤◌, [], length, vec_capacity, IfOk, OnErr};
 ghost use Rattle.reply_layout.specs.Need.{need_of};
 ghost use Rattle.command_exec.specs.Executed.{FallsShort};
-ghost use Rattle.session_pass.specs.Running.{Runs};
+ghost use Rattle.session_pass.specs.Running.{RunsCommand};
 
 use crate::ready::Ready;
 use command_exec::{ExecError, Pass, Shop, execute};
@@ -29,7 +29,7 @@ pub(crate) fn run<R: Wait, N: BookName, P: PoolName>(
     requires stage { (need_of command.now).stage ≤ length pass.old.free }
     requires credits { (need_of command.now).descriptors + 5 ≤ pass.old.seat.credits }
     requires session { session ≡ pass.old.list.number }
-    ensures reply { IfOk result (λ parcel. Runs P.sizes N.sizes.shards command.now call pass.old pass.new parcel
+    ensures reply { IfOk result (λ parcel. RunsCommand P.sizes N.sizes.shards command.now call pass.old pass.new parcel
         sent.new.items stored.new.items) }
     ensures memory { OnErr result (FallsShort P.sizes N.sizes.shards command.now call pass.old pass.new) }
 {

@@ -2,8 +2,8 @@
 ghost use Rattle.std.specs.Prelude.{◌≡◌, ◌≤◌, [], false, length};
 ghost use Rattle.reply_planner.specs.Stages.{stage_size};
 ghost use Rattle.tx_ring.specs.Shown.{ring_size, driver_ring, driver_view};
-ghost use Rattle.session_pass.specs.Kept.{IsSession, least_ring, greatest_ring, least_credits};
-ghost use Rattle.session_pass.specs.Views.{session_of};
+ghost use Rattle.session_pass.specs.Kept.{IsSessionSound, least_ring, greatest_ring, least_credits};
+ghost use Rattle.session_pass.specs.Views.{whole_view};
 
 use crate::ready::Ready;
 use command_exec::Pass;
@@ -38,15 +38,15 @@ where
     Parcel<P>: Framed,
 {
     ghost use Rattle.tx_ring.specs.Shown.{driver_ring, driver_view};
-    ghost use Rattle.session_pass.specs.Views.{SessionView, session_of};
+    ghost use Rattle.session_pass.specs.Views.{SessionView, whole_view};
     ghost use Rattle.session_pass.specs.Kept.{IsSessionOf};
 
     ghost Value = { SessionView };
 
-    ghost view = { λ s. session_of s.pass s.opened.value.seat (driver_ring s.driver) (driver_view s.driver) s.stopped };
+    ghost view = { λ s. whole_view s.pass s.opened.value.seat (driver_ring s.driver) (driver_view s.driver) s.stopped };
 
     ghost invariant = { λ s. IsSessionOf s.calls s.number
-        (session_of s.pass s.opened.value.seat (driver_ring s.driver) (driver_view s.driver) s.stopped) };
+        (whole_view s.pass s.opened.value.seat (driver_ring s.driver) (driver_view s.driver) s.stopped) };
 }
 
 impl<N: BookName, P: PoolName + Send> Session<N, P> {
@@ -58,7 +58,7 @@ impl<N: BookName, P: PoolName + Send> Session<N, P> {
         requires ring { (least_ring ≤ ring_size (driver_ring driver))
             × (ring_size (driver_ring driver) ≤ greatest_ring) }
         requires none { (driver_view driver).posted ≡ [] }
-        ensures { result ≡ session_of pass pass.seat (driver_ring driver) (driver_view driver) false }
+        ensures { result ≡ whole_view pass pass.seat (driver_ring driver) (driver_view driver) false }
     {
         pass.is_pass();
         let _ = driver.room();
@@ -90,7 +90,7 @@ impl<N: BookName, P: PoolName + Send> Session<N, P> {
 
     /// Does nothing, and tells a proof what is true of every session.
     pub fn is_session(&self)
-        ensures { IsSession self.now }
+        ensures { IsSessionSound self.now }
     {
         let _ = &self.calls;
     }

@@ -1,5 +1,6 @@
 -- A session that is served goes on, and ends.
-use Rattle.std.proofs.Common.{◌≡◌, ℕ, ◌+◌, ◌<◌, ◌≤◌, ◌⊎◌, List, [], ◌∷◌, ◌++◌, Option, length, refl, ap, sym, ◌∙◌, subst, append_assoc, append-nil, arith, length-append}
+use Rattle.std.proofs.Common.{◌≡◌, ℕ, ◌+◌, ◌<◌, ◌≤◌, ◌⊎◌, List, [], ◌∷◌, ◌++◌, Option, length, refl, ap, sym, ◌∙◌}
+use Rattle.std.proofs.Common.{subst, append_assoc, append-nil, arith, length-append}
 use Rattle.std.proofs.lemmas.List.{map-append}
 use Rattle.view_sums.proofs.Sums.{total-append}
 use Rattle.pin_core.specs.declared.sizes.Sizes.{Sizes}
@@ -14,12 +15,12 @@ use Rattle.command_pump.specs.Pump.{PumpState, IsPump, HasEnded, ended_at, sessi
 use Rattle.command_pump.proofs.Pumped.{meant, stopped_at, bounded}
 use Rattle.reply_planner.specs.Parcels.{Sent}
 use Rattle.drive_model.specs.Matches.{texts_in}
-use Rattle.call_model.specs.Outcomes.{Outcomes, Told}
+use Rattle.call_model.specs.Outcomes.{Outcomes, SessionDeeds}
 use Rattle.call_model.specs.Calls.{IsExecuted, IsCutShort}
 use Rattle.serve_model.specs.Going as model
 use Rattle.serve_model.proofs.Going.{going_starts, going_on, going_ends, going_breaks}
 use Rattle.session_pass.specs.Calls.{CallPosts, CallRefused}
-use Rattle.session_pass.specs.Kept.{paid_in}
+use Rattle.session_pass.specs.Kept.{holds_paid}
 use Rattle.session_pass.specs.Views.{SessionView}
 use Rattle.session_serve.specs.Working.{IsFresh, IsWorking, CallsMore, HasStopped, run_of}
 
@@ -38,15 +39,19 @@ work-starts z shards first pump fresh =
     record {
       pump_is = fresh.unread;
       count = ap length fresh.none_posted;
-      going = subst (λ (posted : List Sent). model.IsGoing z shards n [] [] (texts_in posted) (paid_in posted) first.pass.list.told seat seat)
+      going = subst (λ (posted : List Sent). model.IsGoing z shards n [] [] (texts_in posted)
+          (holds_paid posted) first.pass.list.told seat seat)
           (sym fresh.none_posted)
-          (subst (λ (told : Told). model.IsGoing z shards n [] [] [] 0 told seat seat) (sym fresh.none_told) (going_starts z shards n seat));
+          (subst (λ (told : SessionDeeds). model.IsGoing z shards n [] [] [] 0 told seat seat) (sym fresh.none_told)
+          (going_starts z shards n seat));
       same = record { number = refl; looks = refl; stage = refl; opened = refl };
     }
 
 -- what the session knows of its device doesn't matter
-pub work-told : (z : Sizes) (shards : ℕ) (first : SessionView) (input : Option (List ℕ)) (before : ℕ) (given : List Command)
-    (calls : List Outcomes) (session : SessionView) (told : ℕ) (pump : PumpState) → IsWorking z shards first input before given calls session pump
+pub work-told : (z : Sizes) (shards : ℕ) (first : SessionView) (input : Option (List ℕ)) (before : ℕ)
+    (given : List Command)
+    (calls : List Outcomes) (session : SessionView) (told : ℕ) (pump : PumpState)
+    → IsWorking z shards first input before given calls session pump
     → IsWorking z shards first input before given calls (record session { told = told }) pump
 work-told z shards first input before given calls session told pump w = record {
   pump_is = w.pump_is;
@@ -56,7 +61,8 @@ work-told z shards first input before given calls session told pump w = record {
 }
 
 -- no command more was given
-pub work-ends : (z : Sizes) (shards : ℕ) (first : SessionView) (input : Option (List ℕ)) (before : ℕ) (given : List Command)
+pub work-ends : (z : Sizes) (shards : ℕ) (first : SessionView) (input : Option (List ℕ)) (before : ℕ)
+    (given : List Command)
     (calls : List Outcomes) (how : End) (session : SessionView) (old new : PumpState)
     → IsWorking z shards first input before given calls session old → HasEnded input before given how new
     → HasStopped z shards first input before how session new
@@ -66,26 +72,37 @@ work-ends z shards first input before given calls how session old new w e = reco
   commands = given ++ e.more;
   calls = calls;
   behind = [];
-  ended = λ failed. going_ends z shards first.pass.list.number given e.more calls (texts_in session.posted) (paid_in session.posted)
-      session.pass.list.told first.pass.seat session.pass.seat session.pass.list.looks (ended_at how new.taken (length session.posted) failed) w.going w.count;
-  is_session = λ failed. subst (λ (n : ℕ). IsSession (session_at input new.left (given ++ e.more) (ended_at how new.taken n failed) 0)) (sym w.count) (e.session failed);
+  ended = λ failed. going_ends z shards first.pass.list.number given e.more calls (texts_in session.posted)
+      (holds_paid session.posted)
+      session.pass.list.told first.pass.seat session.pass.seat session.pass.list.looks
+      (ended_at how new.taken (length session.posted) failed) w.going w.count;
+  is_session = λ failed. subst
+      (λ (n : ℕ). IsSession (session_at input new.left (given ++ e.more) (ended_at how new.taken n failed) 0))
+      (sym w.count) (e.session failed);
   same = w.same;
 }
 
 -- memory was wanting in a call
-pub work-breaks : (z : Sizes) (shards : ℕ) (first : SessionView) (input : Option (List ℕ)) (before : ℕ) (given : List Command)
+pub work-breaks : (z : Sizes) (shards : ℕ) (first : SessionView) (input : Option (List ℕ)) (before : ℕ)
+    (given : List Command)
     (calls : List Outcomes) (command : Command) (old new : SessionView) (pump after : PumpState)
-    → IsWorking z shards first input before given calls old pump → IsPump input before (given ++ command ∷ []) after × (after.faults ≡ before)
+    → IsWorking z shards first input before given calls old pump → IsPump input before (given ++ command ∷ []) after
+    × (after.faults ≡ before)
     → CallRefused z shards command old new → HasStopped z shards first input before Memory new after
 work-breaks z shards first input before given calls command old new pump after w p r =
     let n = first.pass.list.number in
     let m = meant input before (given ++ command ∷ []) after p.0 in
-    let split : (given ++ command ∷ []) ++ m.more ≡ given ++ command ∷ m.more = append_assoc given (command ∷ []) m.more in
-    let next : next_parts (length given) ((given ++ command ∷ []) ++ m.more) ≡ parts command = ap (next_parts (length given)) split ∙ next_is given command m.more in
+    let split : (given ++ command ∷ []) ++ m.more ≡ given ++ command ∷ m.more =
+    append_assoc given (command ∷ []) m.more in
+    let next : next_parts (length given) ((given ++ command ∷ []) ++ m.more) ≡ parts command =
+    ap (next_parts (length given)) split ∙ next_is given command m.more in
     let posted : length new.posted ≡ length given = ap length r.posted ∙ w.count in
-    let cut : IsCutShort z shards n (length given) command r.outcomes old.pass.list.told new.pass.list.told old.pass.seat new.pass.seat =
-    subst (λ (k : ℕ). IsCutShort z shards k (length given) command r.outcomes old.pass.list.told new.pass.list.told old.pass.seat new.pass.seat) w.same.number
-    (subst (λ (k : ℕ). IsCutShort z shards old.pass.list.number k command r.outcomes old.pass.list.told new.pass.list.told old.pass.seat new.pass.seat) w.count r.cut) in
+    let cut : IsCutShort z shards n (length given) command r.outcomes old.pass.list.told new.pass.list.told
+    old.pass.seat new.pass.seat =
+    subst (λ (k : ℕ). IsCutShort z shards k (length given) command r.outcomes old.pass.list.told new.pass.list.told
+    old.pass.seat new.pass.seat) w.same.number
+    (subst (λ (k : ℕ). IsCutShort z shards old.pass.list.number k command r.outcomes old.pass.list.told
+    new.pass.list.told old.pass.seat new.pass.seat) w.count r.cut) in
     record {
       faults_are = p.1;
       to_the_end = λ is. cc is;
@@ -93,13 +110,23 @@ work-breaks z shards first input before given calls command old new pump after w
       calls = calls;
       behind = r.outcomes;
       ended = λ failed. subst
-          (λ (ps : List Sent). model.HasEnded z shards n (run_of (given ++ command ∷ m.more) calls r.outcomes new.pass.list.looks Memory after.taken (length ps) failed)
-          (texts_in ps) (paid_in ps) new.pass.list.told first.pass.seat new.pass.seat) (sym r.posted)
-          (going_breaks z shards n given m.more calls (texts_in old.posted) (paid_in old.posted) command r.outcomes old.pass.list.told new.pass.list.told first.pass.seat
-          old.pass.seat new.pass.seat new.pass.list.looks (ended_at Memory after.taken (length old.posted) failed) w.going cut w.count refl);
-      is_session = λ failed. subst (λ (cs : List Command). IsSession (session_at input after.left cs (ended_at Memory after.taken (length new.posted) failed) (length r.outcomes))) split
-          (subst (λ (k : ℕ). IsSession (session_at input after.left ((given ++ command ∷ []) ++ m.more) (ended_at Memory after.taken k failed) (length r.outcomes))) (sym posted)
-          (stopped_at input after.left (given ++ command ∷ []) after.taken (length given) (length r.outcomes) failed m (omega (arith, length-append given (command ∷ [])))
+          (λ (ps : List Sent). model.CallsNoMore z shards n
+          (run_of (given ++ command ∷ m.more) calls r.outcomes new.pass.list.looks Memory after.taken
+          (length ps) failed)
+          (texts_in ps) (holds_paid ps) new.pass.list.told first.pass.seat new.pass.seat) (sym r.posted)
+          (going_breaks z shards n given m.more calls (texts_in old.posted) (holds_paid old.posted) command r.outcomes
+          old.pass.list.told new.pass.list.told first.pass.seat
+          old.pass.seat new.pass.seat new.pass.list.looks (ended_at Memory after.taken (length old.posted) failed)
+          w.going cut w.count refl);
+      is_session = λ failed. subst
+          (λ (cs : List Command). IsSession
+          (session_at input after.left cs (ended_at Memory after.taken (length new.posted) failed) (length r.outcomes)))
+          split
+          (subst (λ (k : ℕ). IsSession
+          (session_at input after.left ((given ++ command ∷ []) ++ m.more) (ended_at Memory after.taken k failed)
+          (length r.outcomes))) (sym posted)
+          (stopped_at input after.left (given ++ command ∷ []) after.taken (length given) (length r.outcomes) failed m
+          (omega (arith, length-append given (command ∷ [])))
           (subst (λ ps. (length r.outcomes ≡ 0) ⊎ (length r.outcomes < length ps)) (sym next) r.cut.short)));
       same = record {
         number = r.rest.number ∙ w.same.number;
@@ -112,21 +139,28 @@ work-breaks z shards first input before given calls command old new pump after w
 texts-more : (posted : List Sent) (reply : Sent) → texts_in (posted ++ reply ∷ []) ≡ texts_in posted ++ reply.text ∷ []
 texts-more posted reply = map-append (λ (p : Sent). p.text) posted (reply ∷ [])
 
-paid-more : (posted : List Sent) (reply : Sent) → paid_in (posted ++ reply ∷ []) ≡ paid_in posted + reply.paid
+paid-more : (posted : List Sent) (reply : Sent) → holds_paid (posted ++ reply ∷ []) ≡ holds_paid posted + reply.paid
 paid-more posted reply = omega (arith, total-append (λ (p : Sent). p.paid) posted (reply ∷ []))
 
 -- a call more
-pub work-goes-on : (z : Sizes) (shards : ℕ) (first : SessionView) (input : Option (List ℕ)) (before : ℕ) (given : List Command)
-    (calls : List Outcomes) (command : Command) (old new : SessionView) (pump after : PumpState) (call freed : ℕ) (sent stored : List Seg)
+pub work-goes-on : (z : Sizes) (shards : ℕ) (first : SessionView) (input : Option (List ℕ)) (before : ℕ)
+    (given : List Command)
+    (calls : List Outcomes) (command : Command) (old new : SessionView) (pump after : PumpState) (call freed : ℕ)
+    (sent stored : List Seg)
     → IsWorking z shards first input before given calls old pump → IsPump input before (given ++ command ∷ []) after
-    → CallPosts z shards command old new call freed sent stored → CallsMore z shards first input before given calls new after
+    → CallPosts z shards command old new call freed sent stored
+    → CallsMore z shards first input before given calls new after
 work-goes-on z shards first input before given calls command old new pump after call freed sent stored w p posts =
     let n = first.pass.list.number in
     let reply = posts.parcel in
-    let executed : IsExecuted z shards n (length given) command posts.outcomes reply.text reply.paid old.pass.list.told new.pass.list.told old.pass.seat new.pass.seat =
-    subst (λ (k : ℕ). IsExecuted z shards k (length given) command posts.outcomes reply.text reply.paid old.pass.list.told new.pass.list.told old.pass.seat new.pass.seat) w.same.number
-    (subst (λ (k : ℕ). IsExecuted z shards old.pass.list.number k command posts.outcomes reply.text reply.paid old.pass.list.told new.pass.list.told old.pass.seat new.pass.seat) w.count posts.executed) in
-    let going = going_on z shards n given calls (texts_in old.posted) reply.text (paid_in old.posted) reply.paid command posts.outcomes old.pass.list.told new.pass.list.told
+    let executed : IsExecuted z shards n (length given) command posts.outcomes reply.text reply.paid old.pass.list.told
+    new.pass.list.told old.pass.seat new.pass.seat =
+    subst (λ (k : ℕ). IsExecuted z shards k (length given) command posts.outcomes reply.text reply.paid
+    old.pass.list.told new.pass.list.told old.pass.seat new.pass.seat) w.same.number
+    (subst (λ (k : ℕ). IsExecuted z shards old.pass.list.number k command posts.outcomes reply.text reply.paid
+    old.pass.list.told new.pass.list.told old.pass.seat new.pass.seat) w.count posts.executed) in
+    let going = going_on z shards n given calls (texts_in old.posted) reply.text (holds_paid old.posted) reply.paid
+    command posts.outcomes old.pass.list.told new.pass.list.told
     first.pass.seat old.pass.seat new.pass.seat w.going executed in
     let more = old.posted ++ reply ∷ [] in
     record {
@@ -134,13 +168,23 @@ work-goes-on z shards first input before given calls command old new pump after 
       outcomes = posts.outcomes;
       working = record {
         pump_is = p;
-        count = omega (arith, ap length posts.posted, w.count, length-append old.posted (reply ∷ []), length-append given (command ∷ []));
+        count = omega (
+          arith,
+          ap length posts.posted,
+          w.count,
+          length-append old.posted (reply ∷ []),
+          length-append
+              given (command ∷ []),
+        );
         going = subst
-            (λ (ps : List Sent). model.IsGoing z shards n (given ++ command ∷ []) (calls ++ posts.outcomes ∷ []) (texts_in ps) (paid_in ps) new.pass.list.told first.pass.seat new.pass.seat)
+            (λ (ps : List Sent). model.IsGoing z shards n (given ++ command ∷ []) (calls ++ posts.outcomes ∷ [])
+            (texts_in ps) (holds_paid ps) new.pass.list.told first.pass.seat new.pass.seat)
             (sym posts.posted)
-            (subst (λ (t : List (List ℕ)). model.IsGoing z shards n (given ++ command ∷ []) (calls ++ posts.outcomes ∷ []) t (paid_in more) new.pass.list.told first.pass.seat new.pass.seat)
+            (subst (λ (t : List (List ℕ)). model.IsGoing z shards n (given ++ command ∷ [])
+            (calls ++ posts.outcomes ∷ []) t (holds_paid more) new.pass.list.told first.pass.seat new.pass.seat)
             (sym (texts-more old.posted reply))
-            (subst (λ (k : ℕ). model.IsGoing z shards n (given ++ command ∷ []) (calls ++ posts.outcomes ∷ []) (texts_in old.posted ++ reply.text ∷ []) k new.pass.list.told first.pass.seat new.pass.seat)
+            (subst (λ (k : ℕ). model.IsGoing z shards n (given ++ command ∷ []) (calls ++ posts.outcomes ∷ [])
+            (texts_in old.posted ++ reply.text ∷ []) k new.pass.list.told first.pass.seat new.pass.seat)
             (sym (paid-more old.posted reply)) going));
         same = record {
           number = posts.rest.number ∙ w.same.number;
@@ -152,26 +196,38 @@ work-goes-on z shards first input before given calls command old new pump after 
     }
 
 -- what the session knows of its device doesn't matter
-pub more-told : (z : Sizes) (shards : ℕ) (first : SessionView) (input : Option (List ℕ)) (before : ℕ) (given : List Command)
-    (calls : List Outcomes) (old new : SessionView) (told : ℕ) (pump after : PumpState) → new ≡ record old { told = told } → after ≡ pump
-    → CallsMore z shards first input before given calls old pump → CallsMore z shards first input before given calls new after
+pub more-told : (z : Sizes) (shards : ℕ) (first : SessionView) (input : Option (List ℕ)) (before : ℕ)
+    (given : List Command)
+    (calls : List Outcomes) (old new : SessionView) (told : ℕ) (pump after : PumpState)
+    → new ≡ record old { told = told } → after ≡ pump
+    → CallsMore z shards first input before given calls old pump
+    → CallsMore z shards first input before given calls new after
 more-told z shards first input before given calls old new told pump after is same c = record {
   command = c.command;
   outcomes = c.outcomes;
-  working = subst (IsWorking z shards first input before (given ++ c.command ∷ []) (calls ++ c.outcomes ∷ []) new) (sym same)
-      (subst (λ (s : SessionView). IsWorking z shards first input before (given ++ c.command ∷ []) (calls ++ c.outcomes ∷ []) s pump) (sym is)
-      (work-told z shards first input before (given ++ c.command ∷ []) (calls ++ c.outcomes ∷ []) old told pump c.working));
+  working = subst (IsWorking z shards first input before (given ++ c.command ∷ []) (calls ++ c.outcomes ∷ []) new)
+      (sym same)
+      (subst (λ (s : SessionView). IsWorking z shards first input before (given ++ c.command ∷ [])
+      (calls ++ c.outcomes ∷ []) s pump) (sym is)
+      (work-told z shards first input before (given ++ c.command ∷ []) (calls ++ c.outcomes ∷ []) old told pump
+      c.working));
 }
 
 -- there are no more calls than bytes that are judged, and one for an error
-pub work-bounded : (z : Sizes) (shards : ℕ) (first : SessionView) (input : Option (List ℕ)) (before : ℕ) (given : List Command)
-    (calls : List Outcomes) (session : SessionView) (pump : PumpState) → IsWorking z shards first input before given calls session pump
+pub work-bounded : (z : Sizes) (shards : ℕ) (first : SessionView) (input : Option (List ℕ)) (before : ℕ)
+    (given : List Command)
+    (calls : List Outcomes) (session : SessionView) (pump : PumpState)
+    → IsWorking z shards first input before given calls session pump
     → length session.posted ≤ judged_bytes + 1
-work-bounded z shards first input before given calls session pump w = omega (arith, w.count, bounded input before given pump w.pump_is)
+work-bounded z shards first input before given calls session pump w =
+    omega (arith, w.count, bounded input before given pump w.pump_is)
 
-pub work-longer : (z : Sizes) (shards : ℕ) (first : SessionView) (input : Option (List ℕ)) (before : ℕ) (given : List Command)
-    (calls : List Outcomes) (old new : SessionView) (pump after : PumpState) → IsWorking z shards first input before given calls old pump
-    → CallsMore z shards first input before given calls new after → (length new.posted ≡ length old.posted + 1) × (length new.posted ≤ judged_bytes + 1)
+pub work-longer : (z : Sizes) (shards : ℕ) (first : SessionView) (input : Option (List ℕ)) (before : ℕ)
+    (given : List Command)
+    (calls : List Outcomes) (old new : SessionView) (pump after : PumpState)
+    → IsWorking z shards first input before given calls old pump
+    → CallsMore z shards first input before given calls new after → (length new.posted ≡ length old.posted + 1)
+    × (length new.posted ≤ judged_bytes + 1)
 work-longer z shards first input before given calls old new pump after w c = (
   omega (arith, w.count, c.working.count, length-append given (c.command ∷ [])),
   work-bounded z shards first input before (given ++ c.command ∷ []) (calls ++ c.outcomes ∷ []) new after c.working,

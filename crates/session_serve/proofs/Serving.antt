@@ -1,5 +1,6 @@
 -- What a served session hands up.
-use Rattle.std.proofs.Common.{◌≡◌, ℕ, Bool, true, false, List, [], ◌∷◌, ◌++◌, Option, length, refl, ap, sym, ◌∙◌, subst, append-nil, arith}
+use Rattle.std.proofs.Common.{◌≡◌, ℕ, Bool, true, false, List, [], ◌∷◌, ◌++◌, Option, length, refl, ap, sym, ◌∙◌, subst}
+use Rattle.std.proofs.Common.{append-nil, arith}
 use Rattle.std.specs.Borrow.{Bor}
 use Rattle.std.proofs.lemmas.List.Folds.{flat_map-map}
 use Rattle.view_sums.specs.Total.{total}
@@ -14,14 +15,14 @@ use Rattle.any_wire.specs.Sends.{Sends, Flushes}
 use Rattle.any_wire.proofs.Sending.{sends-none, sends-on, sends-same, sends-flush}
 use Rattle.reply_planner.specs.Owned.{bare_all, fresh_all}
 use Rattle.reply_planner.specs.Parcels.{Sent}
-use Rattle.device_model.specs.Devices.{texts_of, Forwards}
+use Rattle.device_model.specs.Devices.{sent_texts, Forwards}
 use Rattle.transcript_model.specs.Sessions.{joined}
 use Rattle.drive_model.specs.Matches.{texts_in}
-use Rattle.call_model.specs.Outcomes.{Told}
-use Rattle.serve_model.specs.Going.{HasEnded}
-use Rattle.serve_model.specs.Handed.{HasRun}
+use Rattle.call_model.specs.Outcomes.{SessionDeeds}
+use Rattle.serve_model.specs.Going.{CallsNoMore}
+use Rattle.serve_model.specs.Handed.{SessionHasRun}
 use Rattle.serve_model.proofs.Going.{session_ran}
-use Rattle.session_pass.specs.Kept.{paid_in}
+use Rattle.session_pass.specs.Kept.{holds_paid}
 use Rattle.session_pass.specs.Views.{SessionView}
 use Rattle.session_serve.specs.Served.{IsServed}
 use Rattle.session_serve.specs.Whole.{SentWhole}
@@ -33,7 +34,8 @@ none-held [] none = refl
 none-held (h ∷ holds) none = absurd (omega (arith, none))
 
 -- its seat has no hold left
-holds-none : (z : Sizes) (first session : SessionView) (pump : PumpState) (seat : View) (mine : SessionList) → IsFresh z first pump
+holds-none : (z : Sizes) (first session : SessionView) (pump : PumpState) (seat : View) (mine : SessionList)
+    → IsFresh z first pump
     → session.pass.stage ≡ first.pass.stage → session.opened ≡ first.opened → IsLeft session seat mine → seat.holds ≡ []
 holds-none z first session pump seat mine fresh stage opened left =
     let one : Holding → ℕ = λ h. 1 in
@@ -49,23 +51,24 @@ holds-none z first session pump seat mine fresh stage opened left =
 ran-so : (z : Sizes) (shards : ℕ) (first session : SessionView) (unread pump : PumpState) (how : End) (failed : Bool)
     (seat : View) (mine : SessionList) → IsFresh z first unread
     → HasStopped z shards first unread.left unread.faults how session pump → IsLeft session seat mine
-    → HasRun z shards first.pass.list.number unread.left pump.left
+    → SessionHasRun z shards first.pass.list.number unread.left pump.left
     (ended_at how pump.taken (length session.posted) failed) mine seat (texts_in session.posted)
 ran-so z shards first session unread pump how failed seat mine fresh s left =
     let n = first.pass.list.number in
     let last = session.pass.seat in
-    let run = run_of s.commands s.calls s.behind session.pass.list.looks how pump.taken (length session.posted) failed in
+    let run = run_of s.commands s.calls s.behind session.pass.list.looks how pump.taken (length session.posted) failed
+    in
     let texts = texts_in session.posted in
-    let pins = paid_in session.posted in
+    let pins = holds_paid session.posted in
     let number : mine.number ≡ n = ap (λ (l : SessionList). l.number) left.list ∙ s.same.number in
     let looks : mine.looks ≡ run.looks = ap (λ (l : SessionList). l.looks) left.list in
     let told : session.pass.list.told ≡ mine.told = ap (λ (l : SessionList). l.told) (sym left.list) in
     let list : record { number = n; told = mine.told; looks = run.looks } ≡ mine =
     λ i. record { number = sym number i; told = mine.told; looks = sym looks i } in
-    subst (λ (l : SessionList). HasRun z shards n unread.left pump.left run.end l seat texts) list
+    subst (λ (l : SessionList). SessionHasRun z shards n unread.left pump.left run.end l seat texts) list
     (session_ran z shards n unread.left pump.left run texts pins mine.told first.opened last seat fresh.claimed
-    (subst (λ (v : View). HasEnded z shards n run texts pins mine.told v last) (sym fresh.opened)
-    (subst (λ (t : Told). HasEnded z shards n run texts pins t first.pass.seat last) told (s.ended failed)))
+    (subst (λ (v : View). CallsNoMore z shards n run texts pins mine.told v last) (sym fresh.opened)
+    (subst (λ (t : SessionDeeds). CallsNoMore z shards n run texts pins t first.pass.seat last) told (s.ended failed)))
     (record {
       holds = holds-none z first session unread seat mine fresh s.same.stage s.same.opened left;
       claims = left.claims;
@@ -75,20 +78,23 @@ ran-so z shards first session unread pump how failed seat mine fresh s left =
     (s.is_session failed))
 
 -- the texts of all replies, joined
-texts_joined : (posted : List Sent) → texts_of posted ≡ joined (texts_in posted)
+texts_joined : (posted : List Sent) → sent_texts posted ≡ joined (texts_in posted)
 texts_joined posted = sym (flat_map-map (λ (text : List ℕ). text) (λ (p : Sent). p.text) posted)
 
 module _ {W : Type 0} (put_may : W → Bor (List ℕ) → (W × Bool) → Type 0) (flush_may : W → (W × Bool) → Type 0) where
   -- nothing was posted more
-  pub forwards-nothing : (failed : Bool) (before after : List Sent) (wire : W) → after ≡ before → Forwards put_may flush_may failed failed before after wire wire
+  pub forwards-nothing : (failed : Bool) (before after : List Sent) (wire : W) → after ≡ before
+      → Forwards put_may flush_may failed failed before after wire wire
   forwards-nothing failed before after wire same = record {
     taken = [];
     in_order = same ∙ sym (append-nil before);
     sends = sends-none put_may flush_may failed wire;
   }
 
-  pub forwards-as : (failed other now then : Bool) (before front after whole : List Sent) (old new : W) → failed ≡ other → now ≡ then → before ≡ front → after ≡ whole
-      → Forwards put_may flush_may failed now before after old new → Forwards put_may flush_may other then front whole old new
+  pub forwards-as : (failed other now then : Bool) (before front after whole : List Sent) (old new : W) → failed ≡ other
+      → now ≡ then → before ≡ front → after ≡ whole
+      → Forwards put_may flush_may failed now before after old new → Forwards put_may flush_may other then
+      front whole old new
   forwards-as failed other now then before front after whole old new f n b a forwards =
       subst (λ (x : Bool). Forwards put_may flush_may x then front whole old new) f
       (subst (λ (x : Bool). Forwards put_may flush_may failed x front whole old new) n
@@ -96,40 +102,53 @@ module _ {W : Type 0} (put_may : W → Bor (List ℕ) → (W × Bool) → Type 0
       (subst (λ (xs : List Sent). Forwards put_may flush_may failed now before xs old new) a forwards)))
 
   -- all that was forwarded is all that was posted
-  pub forwards-all : (failed now : Bool) (posted : List Sent) (old new : W) → Forwards put_may flush_may failed now [] posted old new
-      → Sends put_may flush_may failed now (texts_of posted) old new
-  forwards-all failed now posted old new f = sends-same put_may flush_may failed now (texts_of f.taken) (texts_of posted) old new (ap texts_of (sym f.in_order)) f.sends
+  pub forwards-all : (failed now : Bool) (posted : List Sent) (old new : W)
+      → Forwards put_may flush_may failed now [] posted old new
+      → Sends put_may flush_may failed now (sent_texts posted) old new
+  forwards-all failed now posted old new f = sends-same put_may flush_may failed now (sent_texts f.taken)
+      (sent_texts posted) old new (ap sent_texts (sym f.in_order)) f.sends
 
-  pub sends-out : (failed now : Bool) (text : List ℕ) (old new : W) → SendsOut put_may flush_may failed now text old new → Sends put_may flush_may failed now text old new
-  sends-out failed now text old new s = sends-same put_may flush_may failed now (text ++ []) text old new (append-nil text)
-      (sends-on put_may flush_may failed s.between now text [] old s.middle new s.sends (sends-flush put_may flush_may s.between now s.middle new s.flushed))
+  pub sends-out : (failed now : Bool) (text : List ℕ) (old new : W) → SendsOut put_may flush_may failed now text old new
+      → Sends put_may flush_may failed now text old new
+  sends-out failed now text old new s = sends-same put_may flush_may failed now (text ++ []) text old new
+      (append-nil text)
+      (sends-on put_may flush_may failed s.between now text [] old s.middle new s.sends
+      (sends-flush put_may flush_may s.between now s.middle new s.flushed))
 
-  flushed-so : (between now : Bool) (old middle new : W) → Flushes flush_may between now middle new → now ≡ false → WasFlushed put_may flush_may old new
+  flushed-so : (between now : Bool) (old middle new : W) → Flushes flush_may between now middle new → now ≡ false
+      → WasFlushed put_may flush_may old new
   flushed-so true now old middle new flush none = cc (flush.1)
-  flushed-so false now old middle new flush none = record { middle = middle; flushed = subst (λ (b : Bool). flush_may middle (new, b)) none flush }
+  flushed-so false now old middle new flush none =
+      record { middle = middle; flushed = subst (λ (b : Bool). flush_may middle (new, b)) none flush }
 
-  pub flushed-last : (failed now : Bool) (text : List ℕ) (old new : W) → SendsOut put_may flush_may failed now text old new → now ≡ false → WasFlushed put_may flush_may old new
+  pub flushed-last : (failed now : Bool) (text : List ℕ) (old new : W)
+      → SendsOut put_may flush_may failed now text old new → now ≡ false → WasFlushed put_may flush_may old new
   flushed-last failed now text old new s none = flushed-so s.between now old s.middle new s.flushed none
 
-  pub served-so : (z : Sizes) (shards : ℕ) (first session : SessionView) (unread pump : PumpState) (how : End) (end : SessionEnd) (bytes : ℕ) (between : Bool)
+  pub served-so : (z : Sizes) (shards : ℕ) (first session : SessionView) (unread pump : PumpState) (how : End)
+      (end : SessionEnd) (bytes : ℕ) (between : Bool)
       (seat : View) (mine : SessionList) (left : Option (List ℕ)) (old middle new : W) → IsFresh z first unread
       → HasStopped z shards first unread.left unread.faults how session pump → IsLeft session seat mine
       → end ≡ ended_at how pump.taken (length session.posted) end.failed → left ≡ pump.left
-      → Forwards put_may flush_may false between [] session.posted old middle → Flushes flush_may between end.failed middle new
+      → Forwards put_may flush_may false between [] session.posted old middle
+      → Flushes flush_may between end.failed middle new
       → SentWhole put_may flush_may end.failed (texts_in session.posted) bytes old new
       → IsServed put_may flush_may z shards first unread.left left end bytes mine seat old new
-  served-so z shards first session unread pump how end bytes between seat mine left old middle new fresh stopped is_left end_is left_is forwards flushed whole =
+  served-so z shards first session unread pump how end bytes between seat mine left old middle new fresh stopped is_left
+      end_is left_is forwards flushed whole =
       let n = first.pass.list.number in
       let texts = texts_in session.posted in
       record {
         texts = texts;
-        ran = subst (λ (e : SessionEnd). HasRun z shards n unread.left left e mine seat texts) (sym end_is)
-            (subst (λ (l : Option (List ℕ)). HasRun z shards n unread.left l (ended_at how pump.taken (length session.posted) end.failed) mine seat texts) (sym left_is)
+        ran = subst (λ (e : SessionEnd). SessionHasRun z shards n unread.left left e mine seat texts) (sym end_is)
+            (subst (λ (l : Option (List ℕ)). SessionHasRun z shards n unread.left l
+            (ended_at how pump.taken (length session.posted) end.failed) mine seat texts) (sym left_is)
             (ran-so z shards first session unread pump how end.failed seat mine fresh stopped is_left));
         sends = record {
           between = between;
           middle = middle;
-          sends = sends-same put_may flush_may false between (texts_of session.posted) (joined texts) old middle (texts_joined session.posted)
+          sends = sends-same put_may flush_may false between (sent_texts session.posted) (joined texts) old middle
+              (texts_joined session.posted)
               (forwards-all false between session.posted old middle forwards);
           flushed = flushed;
         };

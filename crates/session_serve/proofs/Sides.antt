@@ -1,5 +1,6 @@
 -- A session and its device that run beside each other.
-use Rattle.std.proofs.Common.{◌≡◌, ℕ, ◌+◌, ◌≤◌, Bool, false, List, [], ◌∷◌, ◌++◌, Option, length, refl, ap, sym, ◌∙◌, subst, append_assoc, append-nil, arith}
+use Rattle.std.proofs.Common.{◌≡◌, ℕ, ◌+◌, ◌≤◌, Bool, false, List, [], ◌∷◌, ◌++◌, Option, length, refl, ap, sym, ◌∙◌}
+use Rattle.std.proofs.Common.{subst, append_assoc, append-nil, arith}
 use Rattle.std.specs.Borrow.{Bor}
 use Rattle.view_sums.specs.Total.{total}
 use Rattle.pin_core.specs.declared.sizes.Sizes.{Sizes}
@@ -21,8 +22,8 @@ use Rattle.call_model.specs.Outcomes.{Outcomes}
 use Rattle.serve_model.specs.Going as model
 use Rattle.serve_model.proofs.Going.{going_rests}
 use Rattle.session_pass.specs.Calls.{CallReaps}
-use Rattle.session_pass.specs.Finished.{IsDone}
-use Rattle.session_pass.specs.Kept.{paid_in}
+use Rattle.session_pass.specs.Finished.{IsSessionDone}
+use Rattle.session_pass.specs.Kept.{holds_paid}
 use Rattle.session_pass.specs.Views.{SessionView}
 use Rattle.session_serve.specs.Working.{IsFresh, IsWorking, CallsMore, HasStopped, IsLeft}
 use Rattle.session_serve.specs.Beside.{HasWaited, CallsAtLast, BreaksAtLast, RanToTheEnd, ForwardsOut}
@@ -37,7 +38,15 @@ waits-none s = record {
   gone = [];
   reaped = sym (append-nil s.reaped);
   keeps = record {
-    rest = record { number = refl; looks = refl; stage = refl; threshold = refl; opened = refl; ring = refl; told = refl };
+    rest = record {
+      number = refl;
+      looks = refl;
+      stage = refl;
+      threshold = refl;
+      opened = refl;
+      ring = refl;
+      told = refl;
+    };
     list = refl;
     claims = refl;
     looks = refl;
@@ -70,8 +79,10 @@ waits-on old middle new w c = record {
 }
 
 -- replies that were given back don't matter
-pub work-rests : (z : Sizes) (shards : ℕ) (first : SessionView) (input : Option (List ℕ)) (before : ℕ) (given : List Command)
-    (calls : List Outcomes) (old new : SessionView) (pump : PumpState) → HasWaited old new → IsWorking z shards first input before given calls old pump
+pub work-rests : (z : Sizes) (shards : ℕ) (first : SessionView) (input : Option (List ℕ)) (before : ℕ)
+    (given : List Command)
+    (calls : List Outcomes) (old new : SessionView) (pump : PumpState) → HasWaited old new
+    → IsWorking z shards first input before given calls old pump
     → IsWorking z shards first input before given calls new pump
 work-rests z shards first input before given calls old new pump waited w =
     let k = waited.keeps in
@@ -79,9 +90,12 @@ work-rests z shards first input before given calls old new pump waited w =
     record {
       pump_is = w.pump_is;
       count = ap length k.posted ∙ w.count;
-      going = subst (λ (ps : List Sent). model.IsGoing z shards n given calls (texts_in ps) (paid_in ps) new.pass.list.told first.pass.seat new.pass.seat) (sym k.posted)
-          (subst (λ (l : SessionList). model.IsGoing z shards n given calls (texts_in old.posted) (paid_in old.posted) l.told first.pass.seat new.pass.seat) (sym k.list)
-          (going_rests z shards n given calls (texts_in old.posted) (paid_in old.posted) old.pass.list.told first.pass.seat old.pass.seat new.pass.seat k.claims k.looks w.going));
+      going = subst (λ (ps : List Sent). model.IsGoing z shards n given calls (texts_in ps)
+          (holds_paid ps) new.pass.list.told first.pass.seat new.pass.seat) (sym k.posted)
+          (subst (λ (l : SessionList). model.IsGoing z shards n given calls (texts_in old.posted)
+          (holds_paid old.posted) l.told first.pass.seat new.pass.seat) (sym k.list)
+          (going_rests z shards n given calls (texts_in old.posted) (holds_paid old.posted) old.pass.list.told
+          first.pass.seat old.pass.seat new.pass.seat k.claims k.looks w.going));
       same = record {
         number = k.rest.number ∙ w.same.number;
         looks = k.rest.looks ∙ w.same.looks;
@@ -90,7 +104,8 @@ work-rests z shards first input before given calls old new pump waited w =
       };
     }
 
-pub calls-on : (z : Sizes) (shards : ℕ) (first : SessionView) (input : Option (List ℕ)) (before : ℕ) (given : List Command)
+pub calls-on : (z : Sizes) (shards : ℕ) (first : SessionView) (input : Option (List ℕ)) (before : ℕ)
+    (given : List Command)
     (calls : List Outcomes) (command : Command) (old new : SessionView) (pump after : PumpState)
     → IsWorking z shards first input before given calls old pump → IsPump input before (given ++ command ∷ []) after
     → CallsAtLast z shards command old new → CallsMore z shards first input before given calls new after
@@ -98,16 +113,19 @@ calls-on z shards first input before given calls command old new pump after w p 
     work-goes-on z shards first input before given calls command c.rested new pump after c.call c.freed c.sent c.stored
     (work-rests z shards first input before given calls old c.rested pump c.waited w) p c.posts
 
-pub breaks-off : (z : Sizes) (shards : ℕ) (first : SessionView) (input : Option (List ℕ)) (before : ℕ) (given : List Command)
+pub breaks-off : (z : Sizes) (shards : ℕ) (first : SessionView) (input : Option (List ℕ)) (before : ℕ)
+    (given : List Command)
     (calls : List Outcomes) (command : Command) (old new : SessionView) (pump after : PumpState)
-    → IsWorking z shards first input before given calls old pump → IsPump input before (given ++ command ∷ []) after × (after.faults ≡ before)
+    → IsWorking z shards first input before given calls old pump → IsPump input before (given ++ command ∷ []) after
+    × (after.faults ≡ before)
     → BreaksAtLast z shards command old new → HasStopped z shards first input before Memory new after
 breaks-off z shards first input before given calls command old new pump after w p b =
     work-breaks z shards first input before given calls command b.rested new pump after
     (work-rests z shards first input before given calls old b.rested pump b.waited w) p b.refused
 
 -- what the session knows of its device doesn't matter
-pub fresh-told : (z : Sizes) (first : SessionView) (told : ℕ) (pump : PumpState) → IsFresh z first pump → IsFresh z (record first { told = told }) pump
+pub fresh-told : (z : Sizes) (first : SessionView) (told : ℕ) (pump : PumpState) → IsFresh z first pump
+    → IsFresh z (record first { told = told }) pump
 fresh-told z first told pump f = record {
   none_posted = f.none_posted;
   none_told = f.none_told;
@@ -119,7 +137,8 @@ fresh-told z first told pump f = record {
 }
 
 -- what is left when replies were given back before is what is left
-pub left-then : (old new : SessionView) (seat : View) (mine : SessionList) → HasWaited old new → IsLeft new seat mine → IsLeft old seat mine
+pub left-then : (old new : SessionView) (seat : View) (mine : SessionList) → HasWaited old new → IsLeft new seat mine
+    → IsLeft old seat mine
 left-then old new seat mine waited l =
     let k = waited.keeps in
     record {
@@ -127,13 +146,16 @@ left-then old new seat mine waited l =
       claims = l.claims ∙ k.claims;
       looks = l.looks ∙ k.looks;
       credits = l.credits ∙ ap (λ v. v.credits) k.rest.opened;
-      returns = subst (λ ps. paid_in ps ≤ seat.returns) k.posted l.returns;
-      holds = λ weight. subst (λ v. total weight (bare_all seat.holds) + total weight (fresh_all old.pass.stage) ≡ total weight (bare_all v.holds)) k.rest.opened
-          (subst (λ st. total weight (bare_all seat.holds) + total weight (fresh_all st) ≡ total weight (bare_all new.opened.holds)) k.rest.stage (l.holds weight));
+      returns = subst (λ ps. holds_paid ps ≤ seat.returns) k.posted l.returns;
+      holds = λ weight. subst (λ v. total weight (bare_all seat.holds) + total weight (fresh_all old.pass.stage)
+          ≡ total weight (bare_all v.holds)) k.rest.opened
+          (subst (λ st. total weight (bare_all seat.holds) + total weight (fresh_all st)
+          ≡ total weight (bare_all new.opened.holds)) k.rest.stage (l.holds weight));
     }
 
 -- and what the end gave
-pub left-done : (s : SessionView) (seat : View) (mine : SessionList) (closed : ClosedDriver Sent) → IsDone s seat mine closed → IsLeft s seat mine
+pub left-done : (s : SessionView) (seat : View) (mine : SessionList) (closed : ClosedDriver Sent)
+    → IsSessionDone s seat mine closed → IsLeft s seat mine
 left-done s seat mine closed d = record {
   list = d.list;
   claims = d.claims;
@@ -144,7 +166,8 @@ left-done s seat mine closed d = record {
 }
 
 module _ {W : Type 0} (put_may : W → Bor (List ℕ) → (W × Bool) → Type 0) (flush_may : W → (W × Bool) → Type 0) where
-  pub told-or-not : (z : Sizes) (shards : ℕ) (first : SessionView) (told : ℕ) (pump : PumpState) (old : W) (end : SessionEnd) (bytes : ℕ)
+  pub told-or-not : (z : Sizes) (shards : ℕ) (first : SessionView) (told : ℕ) (pump : PumpState) (old : W)
+      (end : SessionEnd) (bytes : ℕ)
       (mine : SessionList) (seat : View) (left : PumpState) (new : W)
       → HasServed put_may flush_may z shards (record first { told = told }) pump old end bytes mine seat left new
       → HasServed put_may flush_may z shards first pump old end bytes mine seat left new
@@ -156,8 +179,10 @@ module _ {W : Type 0} (put_may : W → Bor (List ℕ) → (W × Bool) → Type 0
     looks = h.looks;
   }
 
-  pub served-as : (z : Sizes) (shards : ℕ) (first then : SessionView) (pump unread : PumpState) (old start : W) (end : SessionEnd) (bytes : ℕ) (mine : SessionList) (seat : View)
-      (left : PumpState) (new : W) → first ≡ then → pump ≡ unread → old ≡ start → HasServed put_may flush_may z shards first pump old end bytes mine seat left new
+  pub served-as : (z : Sizes) (shards : ℕ) (first then : SessionView) (pump unread : PumpState) (old start : W)
+      (end : SessionEnd) (bytes : ℕ) (mine : SessionList) (seat : View)
+      (left : PumpState) (new : W) → first ≡ then → pump ≡ unread → old ≡ start
+      → HasServed put_may flush_may z shards first pump old end bytes mine seat left new
       → HasServed put_may flush_may z shards then unread start end bytes mine seat left new
   served-as z shards first then pump unread old start end bytes mine seat left new s p o h =
       subst (λ (x : SessionView). HasServed put_may flush_may z shards x unread start end bytes mine seat left new) s
@@ -165,31 +190,49 @@ module _ {W : Type 0} (put_may : W → Bor (List ℕ) → (W × Bool) → Type 0
       (subst (λ (x : W). HasServed put_may flush_may z shards first pump x end bytes mine seat left new) o h))
 
   -- the session ended and its device found the ring closed
-  pub served-beside : (z : Sizes) (shards : ℕ) (first : SessionView) (unread : PumpState) (how : End) (replies : ℕ) (over : View) (list : SessionList) (left : PumpState)
-      (closed : ClosedDriver Sent) (end : SessionEnd) (bytes : ℕ) (mine : SessionList) (seat : View) (pump : PumpState) (flag failed : Bool) (before after : List Sent) (none counted : ℕ) (old new last : W) → IsFresh z first unread
+  pub served-beside : (z : Sizes) (shards : ℕ) (first : SessionView) (unread : PumpState) (how : End) (replies : ℕ)
+      (over : View) (list : SessionList) (left : PumpState)
+      (closed : ClosedDriver Sent) (end : SessionEnd) (bytes : ℕ) (mine : SessionList) (seat : View) (pump : PumpState)
+      (flag failed : Bool) (before after : List Sent) (none counted : ℕ) (old new last : W) → IsFresh z first unread
       → RanToTheEnd z shards first unread how replies over list left closed → flag ≡ false → (before ≡ []) × (none ≡ 0)
-      → ForwardsOut put_may flush_may flag failed before after none counted old new → after ≡ (closed_view closed).posted
-      → end ≡ ended_at how left.taken replies failed → bytes ≡ counted → seat ≡ over → mine ≡ list → pump ≡ left → last ≡ new
+      → ForwardsOut put_may flush_may flag failed before after none counted old new
+      → after ≡ (closed_view closed).posted
+      → end ≡ ended_at how left.taken replies failed → bytes ≡ counted → seat ≡ over → mine ≡ list → pump ≡ left
+      → last ≡ new
       → HasServed put_may flush_may z shards first unread old end bytes mine seat pump last
-  served-beside z shards first unread how replies over list left closed end bytes mine seat pump flag failed before after none counted old new last fresh r unfailed idle out all end_is bytes_is seat_is mine_is pump_is last_is =
+  served-beside z shards first unread how replies over list left closed end bytes mine seat pump flag failed before
+      after none counted old new last fresh r unfailed idle out all end_is bytes_is seat_is mine_is pump_is last_is =
       let whole : after ≡ r.session.posted = all ∙ r.posted in
-      let so : end ≡ ended_at how left.taken (length r.session.posted) failed = end_is ∙ ap (λ n. ended_at how left.taken n failed) r.replies_are in
-      let forwards : Forwards put_may flush_may false out.between [] r.session.posted old out.middle = forwards-as put_may flush_may flag false out.between out.between before [] after r.session.posted old out.middle unfailed refl idle.0 whole out.forwards in
+      let so : end ≡ ended_at how left.taken (length r.session.posted) failed = end_is
+      ∙ ap (λ n. ended_at how left.taken n failed) r.replies_are in
+      let forwards : Forwards put_may flush_may false out.between [] r.session.posted old out.middle =
+      forwards-as put_may flush_may flag false out.between out.between before [] after r.session.posted old
+      out.middle unfailed refl idle.0 whole out.forwards in
       let failed_is : failed ≡ end.failed = ap (λ e. e.failed) (sym so) in
-      let same : end ≡ ended_at how left.taken (length r.session.posted) end.failed = so ∙ ap (ended_at how left.taken (length r.session.posted)) failed_is in
-      let start : SentWhole put_may flush_may flag (texts_in before) none old old = whole-start put_may flush_may flag before none old unfailed idle.0 idle.1 in
-      let sent : SentWhole put_may flush_may end.failed (texts_in r.session.posted) bytes old new = subst (λ (b : Bool). SentWhole put_may flush_may b (texts_in r.session.posted) bytes old new) failed_is
+      let same : end ≡ ended_at how left.taken (length r.session.posted) end.failed = so
+      ∙ ap (ended_at how left.taken (length r.session.posted)) failed_is in
+      let start : SentWhole put_may flush_may flag (texts_in before) none old old =
+      whole-start put_may flush_may flag before none old unfailed idle.0 idle.1 in
+      let sent : SentWhole put_may flush_may end.failed (texts_in r.session.posted) bytes old new =
+      subst (λ (b : Bool). SentWhole put_may flush_may b (texts_in r.session.posted) bytes old new) failed_is
       (subst (λ (xs : List Sent). SentWhole put_may flush_may failed (texts_in xs) bytes old new) whole
-      (subst (λ n. SentWhole put_may flush_may failed (texts_in after) n old new) (sym bytes_is) (out.whole old start))) in
+      (subst (λ n. SentWhole put_may flush_may failed (texts_in after) n old new) (sym bytes_is) (out.whole old start)))
+      in
       let served : IsServed put_may flush_may z shards first unread.left left.left end bytes list over old new =
-      served-so put_may flush_may z shards first r.session unread left how end bytes out.between over list left.left old out.middle new fresh r.stopped r.left same refl forwards
+      served-so put_may flush_may z shards first r.session unread left how end bytes out.between over list left.left old
+      out.middle new fresh r.stopped r.left same refl forwards
       (subst (λ b. Flushes flush_may out.between b out.middle new) failed_is out.flushed) sent in
       record {
-        served = subst (λ p. IsServed put_may flush_may z shards first unread.left p.left end bytes mine seat old last) (sym pump_is)
-            (subst (λ m. IsServed put_may flush_may z shards first unread.left left.left end bytes m seat old last) (sym mine_is)
-            (subst (λ v. IsServed put_may flush_may z shards first unread.left left.left end bytes list v old last) (sym seat_is)
-            (subst (λ w. IsServed put_may flush_may z shards first unread.left left.left end bytes list over old w) (sym last_is) served)));
-        reads = subst (λ (e : SessionEnd). EndFaults e.end unread.faults pump.faults) (sym end_is) (subst (λ p. EndFaults how unread.faults p.faults) (sym pump_is) r.stopped.faults_are);
+        served = subst (λ p. IsServed put_may flush_may z shards first unread.left p.left end bytes mine seat old last)
+            (sym pump_is)
+            (subst (λ m. IsServed put_may flush_may z shards first unread.left left.left end bytes m seat old last)
+            (sym mine_is)
+            (subst (λ v. IsServed put_may flush_may z shards first unread.left left.left end bytes list v old last)
+            (sym seat_is)
+            (subst (λ w. IsServed put_may flush_may z shards first unread.left left.left end bytes list over old w)
+            (sym last_is) served)));
+        reads = subst (λ (e : SessionEnd). EndFaults e.end unread.faults pump.faults) (sym end_is)
+            (subst (λ p. EndFaults how unread.faults p.faults) (sym pump_is) r.stopped.faults_are);
         to_the_end = λ is. r.stopped.to_the_end (ap (λ (e : SessionEnd). e.end) (sym end_is) ∙ is);
         credits = ap (λ v. v.credits) seat_is ∙ r.left.credits ∙ ap (λ v. v.credits) r.stopped.same.opened;
         looks = ap (λ l. l.looks) mine_is ∙ ap (λ l. l.looks) r.left.list ∙ r.stopped.same.looks;

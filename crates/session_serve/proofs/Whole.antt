@@ -1,18 +1,20 @@
 -- How many replies a wire was sent whole, reply by reply.
-use Rattle.std.proofs.Common.{◌≡◌, ℕ, ◌+◌, ◌≤◌, Bool, true, false, List, [], ◌∷◌, ◌++◌, length, take, slice_get, Some, refl, ap, sym, ◌∙◌, subst, arith, length-append, append-nil}
+use Rattle.std.proofs.Common.{◌≡◌, ℕ, ◌+◌, ◌≤◌, Bool, true, false, List, [], ◌∷◌, ◌++◌, length, take, slice_get, Some}
+use Rattle.std.proofs.Common.{refl, ap, sym, ◌∙◌, subst, arith, length-append, append-nil}
 use Rattle.std.specs.Borrow.{Bor}
 use Rattle.std.proofs.Math.Seq.{take-append-add, take-length}
 use Rattle.std.proofs.lemmas.List.{map-append, take-append-le, append_cancel_left}
 use Rattle.std.proofs.lemmas.Grind.{flat_map-append}
 use Rattle.view_sums.specs.Total.{Each}
 use Rattle.flake_base.specs.Told.{raised}
-use Rattle.any_wire.specs.Sends.{Step, puts, flushes, joined as steps_joined, IsShort, Chain, Sends, Flushes}
+use Rattle.any_wire.specs.Sends.{WireStep, puts, flushes, steps_bytes as steps_joined, IsShortPut, Chain, Sends}
+use Rattle.any_wire.specs.Sends.{Flushes}
 use Rattle.any_wire.proofs.Sending.{sends-none, sends-on, sends-same, sends-flush}
 use Rattle.tx_descriptor.specs.declared.framed.Framed.{Ghosts}
 use Rattle.tx_ring.specs.Shown.{completed}
 use Rattle.tx_ring.specs.declared.device.DeviceEnd.{DeviceEnd}
 use Rattle.reply_planner.specs.Parcels.{Sent}
-use Rattle.device_model.specs.Devices.{texts_of, PutsTexts, IsFound, IfTaken, IfIdle}
+use Rattle.device_model.specs.Devices.{sent_texts, PutsTexts, IsFound, IfTaken, IfIdle}
 use Rattle.device_model.specs.declared.gathered.Gathered.{Gathered}
 use Rattle.device_model.specs.declared.gathered.Gathered.TheVariants as found
 use Rattle.device_model.proofs.Puts.{sends-loosened}
@@ -23,7 +25,7 @@ use Rattle.drive_model.proofs.Wires.{wire_fresh, wire_longer, wire_sent, wire_cu
 use Rattle.session_serve.specs.Whole.{SentWhole, KeepsWhole, SendsMore, whole_bytes_of}
 
 -- a put for each byte
-bytewise : List ℕ → List Step
+bytewise : List ℕ → List WireStep
 bytewise [] = []
 bytewise (byte ∷ bytes) = puts (byte ∷ []) ∷ bytewise bytes
 
@@ -32,7 +34,7 @@ unfolding bytewise
 all_bytes [] = refl
 all_bytes (byte ∷ bytes) = ap (λ rest. byte ∷ rest) (all_bytes bytes)
 
-all_short : (bytes : List ℕ) → Each IsShort (bytewise bytes)
+all_short : (bytes : List ℕ) → Each IsShortPut (bytewise bytes)
 unfolding bytewise
 all_short [] = tt
 all_short (byte ∷ bytes) = ((omega arith, omega arith), all_short bytes)
@@ -42,10 +44,12 @@ last_at : (texts : List (List ℕ)) (text : List ℕ) → slice_get (texts ++ te
 last_at [] text = refl
 last_at (first ∷ texts) text = last_at texts text
 
-take_all_more : (texts : List (List ℕ)) (text : List ℕ) → take (length texts + 1) (texts ++ text ∷ []) ≡ texts ++ text ∷ []
+take_all_more : (texts : List (List ℕ)) (text : List ℕ) → take (length texts + 1) (texts ++ text ∷ []) ≡ texts ++ text
+    ∷ []
 take_all_more texts text = take-append-add texts (text ∷ []) 1
 
-joined_more : (texts : List (List ℕ)) (text : List ℕ) → length (joined (texts ++ text ∷ [])) ≡ length (joined texts) + length text
+joined_more : (texts : List (List ℕ)) (text : List ℕ) → length (joined (texts ++ text ∷ [])) ≡ length (joined texts)
+    + length text
 joined_more texts text =
     omega (
       arith,
@@ -72,10 +76,16 @@ module _ {W : Type 0} (put_may : W → Bor (List ℕ) → (W × Bool) → Type 0
 
   -- nothing more is put behind a failure
   nothing_more : (bytes : List ℕ) (wire : W) → Sends put_may flush_may true true bytes wire wire
-  nothing_more bytes wire = record { steps = bytewise bytes; whole = all_bytes bytes; short = all_short bytes; chain = none_done bytes wire }
+  nothing_more bytes wire = record {
+    steps = bytewise bytes;
+    whole = all_bytes bytes;
+    short = all_short bytes;
+    chain = none_done bytes wire;
+  }
 
   -- and so the wire is as it was
-  chain_stays : (steps : List Step) (now : Bool) (wire end : W) → Chain put_may flush_may steps true now wire end → (end ≡ wire) × (now ≡ true)
+  chain_stays : (steps : List WireStep) (now : Bool) (wire end : W) → Chain put_may flush_may steps true now wire end
+      → (end ≡ wire) × (now ≡ true)
   chain_stays [] now wire end chain = chain
   chain_stays (puts piece ∷ steps) now wire end chain = chain_stays steps now wire end chain
   chain_stays (flushes ∷ steps) now wire end chain = chain_stays steps now wire end chain
@@ -83,15 +93,23 @@ module _ {W : Type 0} (put_may : W → Bor (List ℕ) → (W × Bool) → Type 0
   is_sending : IsSending sends
   is_sending = record {
     nothing = λ wire. sends-none put_may flush_may false wire;
-    joins = λ failed text more old middle new first next. sends-on put_may flush_may false false failed text more old middle new first next;
-    longer = λ text more old new first. sends-on put_may flush_may false true true text more old new new first (nothing_more more new);
+    joins = λ failed text more old middle new first next. sends-on put_may flush_may false false failed text more old
+        middle new first next;
+    longer = λ text more old new first. sends-on put_may flush_may false true true text more old new new first
+        (nothing_more more new);
   }
 
   whole-none : (wire : W) → SentWhole put_may flush_may false [] 0 wire wire
-  whole-none wire = record { whole = 0; are_whole = refl; grew = wire_fresh sends is_sending [] wire; bytes_are = omega arith }
+  whole-none wire = record {
+    whole = 0;
+    are_whole = refl;
+    grew = wire_fresh sends is_sending [] wire;
+    bytes_are = omega arith;
+  }
 
   -- one text more, behind which something has failed or not
-  pub whole-one : (failed now : Bool) (texts : List (List ℕ)) (text : List ℕ) (bytes more : ℕ) (start old new : W) → (now ≡ false → more ≡ length text) → (now ≡ true → more ≡ 0)
+  pub whole-one : (failed now : Bool) (texts : List (List ℕ)) (text : List ℕ) (bytes more : ℕ) (start old new : W)
+      → (now ≡ false → more ≡ length text) → (now ≡ true → more ≡ 0)
       → SentWhole put_may flush_may failed texts bytes start old → Sends put_may flush_may failed now text old new
       → SentWhole put_may flush_may now (texts ++ text ∷ []) (raised bytes more) start new
   whole-one true now texts text bytes more start old new all none was put =
@@ -100,40 +118,52 @@ module _ {W : Type 0} (put_may : W → Bor (List ℕ) → (W × Bool) → Type 0
       let here : SentWhole put_may flush_may true (texts ++ text ∷ []) (raised bytes more) start old = record {
         whole = was.whole;
         are_whole = omega (arith, few, length-append texts (text ∷ []));
-        grew = wire_longer sends is_sending true was.whole (length texts) texts text start old few (omega arith) was.grew;
+        grew = wire_longer sends is_sending true was.whole (length texts) texts text start old few
+            (omega arith) was.grew;
         bytes_are = ap (raised bytes) (none stays.1) ∙ raised_none bytes _ was.bytes_are ∙ was.bytes_are
-            ∙ ap (λ (ts : List (List ℕ)). raised 0 (length (joined ts))) (sym (take-append-le was.whole texts (text ∷ []) few));
+            ∙ ap (λ (ts : List (List ℕ)). raised 0 (length (joined ts)))
+            (sym (take-append-le was.whole texts (text ∷ []) few));
       } in
       subst (λ (w : W). SentWhole put_may flush_may now (texts ++ text ∷ []) (raised bytes more) start w) (sym stays.0)
-      (subst (λ (b : Bool). SentWhole put_may flush_may b (texts ++ text ∷ []) (raised bytes more) start old) (sym stays.1) here)
+      (subst (λ (b : Bool). SentWhole put_may flush_may b (texts ++ text ∷ []) (raised bytes more) start old)
+      (sym stays.1) here)
   whole-one false true texts text bytes more start old new all none was put =
       let is : was.whole ≡ length texts = was.are_whole in
-      let longer = wire_longer sends is_sending false was.whole (length texts) texts text start old is (omega arith) was.grew in
-      let at : slice_get (texts ++ text ∷ []) was.whole ≡ Some text = subst (λ n. slice_get (texts ++ text ∷ []) n ≡ Some text) (sym is) (last_at texts text) in
+      let longer = wire_longer sends is_sending false was.whole (length texts) texts text start old is
+      (omega arith) was.grew in
+      let at : slice_get (texts ++ text ∷ []) was.whole ≡ Some text =
+      subst (λ n. slice_get (texts ++ text ∷ []) n ≡ Some text) (sym is) (last_at texts text) in
       record {
         whole = was.whole;
         are_whole = omega (arith, is, length-append texts (text ∷ []));
         grew = wire_cut sends is_sending was.whole (texts ++ text ∷ []) text start old new at longer put;
         bytes_are = ap (raised bytes) (none refl) ∙ raised_none bytes _ was.bytes_are ∙ was.bytes_are
-            ∙ ap (λ (ts : List (List ℕ)). raised 0 (length (joined ts))) (sym (take-append-le was.whole texts (text ∷ []) (omega (arith, is))));
+            ∙ ap (λ (ts : List (List ℕ)). raised 0 (length (joined ts)))
+            (sym (take-append-le was.whole texts (text ∷ []) (omega (arith, is))));
       }
   whole-one false false texts text bytes more start old new all none was put =
       let is : was.whole ≡ length texts = was.are_whole in
-      let longer = wire_longer sends is_sending false was.whole (length texts) texts text start old is (omega arith) was.grew in
-      let at : slice_get (texts ++ text ∷ []) was.whole ≡ Some text = subst (λ n. slice_get (texts ++ text ∷ []) n ≡ Some text) (sym is) (last_at texts text) in
+      let longer = wire_longer sends is_sending false was.whole (length texts) texts text start old is
+      (omega arith) was.grew in
+      let at : slice_get (texts ++ text ∷ []) was.whole ≡ Some text =
+      subst (λ n. slice_get (texts ++ text ∷ []) n ≡ Some text) (sym is) (last_at texts text) in
       let front : take was.whole texts ≡ texts = ap (λ n. take n texts) is ∙ take-length texts in
-      let taken : take (was.whole + 1) (texts ++ text ∷ []) ≡ texts ++ text ∷ [] = ap (λ n. take (n + 1) (texts ++ text ∷ [])) is ∙ take_all_more texts text in
-      let count : bytes ≡ raised 0 (length (joined texts)) = was.bytes_are ∙ ap (λ (ts : List (List ℕ)). raised 0 (length (joined ts))) front in
+      let taken : take (was.whole + 1) (texts ++ text ∷ []) ≡ texts ++ text ∷ [] =
+      ap (λ n. take (n + 1) (texts ++ text ∷ [])) is ∙ take_all_more texts text in
+      let count : bytes ≡ raised 0 (length (joined texts)) = was.bytes_are
+      ∙ ap (λ (ts : List (List ℕ)). raised 0 (length (joined ts))) front in
       record {
         whole = was.whole + 1;
         are_whole = omega (arith, is, length-append texts (text ∷ []));
         grew = wire_sent sends is_sending was.whole (texts ++ text ∷ []) text start old new at longer put;
         bytes_are = ap (raised bytes) (all refl) ∙ raised_more bytes (length (joined texts)) (length text) count
-            ∙ ap (raised 0) (sym (joined_more texts text)) ∙ ap (λ (ts : List (List ℕ)). raised 0 (length (joined ts))) (sym taken);
+            ∙ ap (raised 0) (sym (joined_more texts text)) ∙ ap (λ (ts : List (List ℕ)). raised 0 (length (joined ts)))
+            (sym taken);
       }
 
   -- the wire was flushed
-  pub whole-flush : (failed now : Bool) (texts : List (List ℕ)) (bytes : ℕ) (start old new : W) → SentWhole put_may flush_may failed texts bytes start old
+  pub whole-flush : (failed now : Bool) (texts : List (List ℕ)) (bytes : ℕ) (start old new : W)
+      → SentWhole put_may flush_may failed texts bytes start old
       → Flushes flush_may failed now old new → SentWhole put_may flush_may now texts bytes start new
   whole-flush true now texts bytes start old new was flush =
       subst (λ (w : W). SentWhole put_may flush_may now texts bytes start w) (sym flush.0)
@@ -141,54 +171,73 @@ module _ {W : Type 0} (put_may : W → Bor (List ℕ) → (W × Bool) → Type 0
   whole-flush false true texts bytes start old new was flush = record {
     whole = was.whole;
     are_whole = omega (arith, was.are_whole);
-    grew = wire_idle sends is_sending true was.whole texts start old new was.grew (sends-flush put_may flush_may false true old new flush);
+    grew = wire_idle sends is_sending true was.whole texts start old new was.grew
+        (sends-flush put_may flush_may false true old new flush);
     bytes_are = was.bytes_are;
   }
   whole-flush false false texts bytes start old new was flush = record {
     whole = was.whole;
     are_whole = was.are_whole;
-    grew = wire_idle sends is_sending false was.whole texts start old new was.grew (sends-flush put_may flush_may false false old new flush);
+    grew = wire_idle sends is_sending false was.whole texts start old new was.grew
+        (sends-flush put_may flush_may false false old new flush);
     bytes_are = was.bytes_are;
   }
 
-  pub whole-start : (failed : Bool) (posted : List Sent) (bytes : ℕ) (wire : W) → failed ≡ false → posted ≡ [] → bytes ≡ 0 → SentWhole put_may flush_may failed (texts_in posted) bytes wire wire
+  pub whole-start : (failed : Bool) (posted : List Sent) (bytes : ℕ) (wire : W) → failed ≡ false → posted ≡ []
+      → bytes ≡ 0 → SentWhole put_may flush_may failed (texts_in posted) bytes wire wire
   whole-start failed posted bytes wire flag none zero =
       subst (λ (b : Bool). SentWhole put_may flush_may b (texts_in posted) bytes wire wire) (sym flag)
       (subst (λ (xs : List Sent). SentWhole put_may flush_may false (texts_in xs) bytes wire wire) (sym none)
       (subst (λ n. SentWhole put_may flush_may false [] n wire wire) (sym zero) (whole-none wire)))
 
-  pub whole-more : (failed now : Bool) (before after : List Sent) (bytes more sum : ℕ) (start old new : W) → SentWhole put_may flush_may failed (texts_in before) bytes start old
-      → SendsMore put_may flush_may failed now before after more old new → sum ≡ raised bytes more → SentWhole put_may flush_may now (texts_in after) sum start new
-  whole-more failed now before after bytes more sum start old new was sends is = subst (λ n. SentWhole put_may flush_may now (texts_in after) n start new) (sym is) (sends bytes start was)
+  pub whole-more : (failed now : Bool) (before after : List Sent) (bytes more sum : ℕ) (start old new : W)
+      → SentWhole put_may flush_may failed (texts_in before) bytes start old
+      → SendsMore put_may flush_may failed now before after more old new → sum ≡ raised bytes more
+      → SentWhole put_may flush_may now (texts_in after) sum start new
+  whole-more failed now before after bytes more sum start old new was sends is =
+      subst (λ n. SentWhole put_may flush_may now (texts_in after) n start new) (sym is) (sends bytes start was)
 
   -- nothing more was sent, and last the wire was flushed
-  pub whole-closed : (failed between now : Bool) (before after : List Sent) (bytes shown : ℕ) (start old mid new : W) → SentWhole put_may flush_may failed (texts_in before) bytes start old
-      → SendsMore put_may flush_may failed between before after 0 old mid → Flushes flush_may between now mid new → shown ≡ bytes → SentWhole put_may flush_may now (texts_in after) shown start new
+  pub whole-closed : (failed between now : Bool) (before after : List Sent) (bytes shown : ℕ) (start old mid new : W)
+      → SentWhole put_may flush_may failed (texts_in before) bytes start old
+      → SendsMore put_may flush_may failed between before after 0 old mid → Flushes flush_may between now mid new
+      → shown ≡ bytes → SentWhole put_may flush_may now (texts_in after) shown start new
   whole-closed failed between now before after bytes shown start old mid new was none flush is =
       subst (λ n. SentWhole put_may flush_may now (texts_in after) n start new) (sym is)
       (whole-flush between now (texts_in after) bytes start mid new
-      (subst (λ n. SentWhole put_may flush_may between (texts_in after) n start mid) (raised_none bytes _ was.bytes_are) (none bytes start was)) flush)
+      (subst (λ n. SentWhole put_may flush_may between (texts_in after) n start mid) (raised_none bytes _ was.bytes_are)
+      (none bytes start was)) flush)
 
   -- more is counted on top of what was kept
-  pub keeps-on : (failed between now : Bool) (before middle after : List Sent) (bytes counted more shown sum : ℕ) (old mid new : W) → KeepsWhole put_may flush_may failed between before middle bytes counted old mid
-      → SendsMore put_may flush_may between now middle after more mid new → shown ≡ more → sum ≡ raised counted shown → KeepsWhole put_may flush_may failed now before after bytes sum old new
-  keeps-on failed between now before middle after bytes counted more shown sum old mid new first then is sum_is start was =
-      subst (λ n. SentWhole put_may flush_may now (texts_in after) n start new) (sym (sum_is ∙ ap (raised counted) is)) (then counted start (first start was))
+  pub keeps-on : (failed between now : Bool) (before middle after : List Sent) (bytes counted more shown sum : ℕ)
+      (old mid new : W) → KeepsWhole put_may flush_may failed between before middle bytes counted old mid
+      → SendsMore put_may flush_may between now middle after more mid new → shown ≡ more → sum ≡ raised counted shown
+      → KeepsWhole put_may flush_may failed now before after bytes sum old new
+  keeps-on failed between now before middle after bytes counted more shown sum old mid new first then
+      is sum_is start was =
+      subst (λ n. SentWhole put_may flush_may now (texts_in after) n start new) (sym (sum_is ∙ ap (raised counted) is))
+      (then counted start (first start was))
 
   -- one reply more was taken
-  reply-more : (failed now : Bool) (before after : List Sent) (reply : Sent) (more : ℕ) (old new : W) → after ≡ before ++ reply ∷ [] → (now ≡ false → more ≡ length reply.text) → (now ≡ true → more ≡ 0)
-      → PutsTexts put_may failed now before after old new → SendsMore put_may flush_may failed now before after more old new
+  reply-more : (failed now : Bool) (before after : List Sent) (reply : Sent) (more : ℕ) (old new : W) → after ≡ before
+      ++ reply ∷ [] → (now ≡ false → more ≡ length reply.text) → (now ≡ true → more ≡ 0)
+      → PutsTexts put_may failed now before after old new → SendsMore put_may flush_may failed now before after more old
+      new
   reply-more failed now before after reply more old new is all none put bytes start was =
       let one : put.taken ≡ reply ∷ [] = append_cancel_left before put.taken (reply ∷ []) (sym put.in_order ∙ is) in
-      let text : texts_of put.taken ≡ reply.text = ap texts_of one ∙ append-nil reply.text in
+      let text : sent_texts put.taken ≡ reply.text = ap sent_texts one ∙ append-nil reply.text in
       let sent : Sends put_may flush_may failed now reply.text old new =
-      sends-same put_may flush_may failed now (texts_of put.taken) reply.text old new text (sends-loosened put_may flush_may failed now (texts_of put.taken) old new put.sends) in
-      let texts : texts_in before ++ reply.text ∷ [] ≡ texts_in after = sym (map-append (λ (parcel : Sent). parcel.text) before (reply ∷ [])) ∙ ap texts_in (sym is) in
+      sends-same put_may flush_may failed now (sent_texts put.taken) reply.text old new text
+      (sends-loosened put_may flush_may failed now (sent_texts put.taken) old new put.sends) in
+      let texts : texts_in before ++ reply.text ∷ [] ≡ texts_in after =
+      sym (map-append (λ (parcel : Sent). parcel.text) before (reply ∷ [])) ∙ ap texts_in (sym is) in
       subst (λ (ts : List (List ℕ)). SentWhole put_may flush_may now ts (raised bytes more) start new) texts
       (whole-one failed now (texts_in before) reply.text bytes more start old new all none was sent)
 
-  pub more-as : (failed other now then : Bool) (before front after all : List Sent) (more shown : ℕ) (old new : W) → failed ≡ other → now ≡ then → before ≡ front → after ≡ all → more ≡ shown
-      → SendsMore put_may flush_may failed now before after more old new → SendsMore put_may flush_may other then front all shown old new
+  pub more-as : (failed other now then : Bool) (before front after all : List Sent) (more shown : ℕ) (old new : W)
+      → failed ≡ other → now ≡ then → before ≡ front → after ≡ all → more ≡ shown
+      → SendsMore put_may flush_may failed now before after more old new → SendsMore put_may flush_may other then
+      front all shown old new
   more-as failed other now then before front after all more shown old new f n b a m sends =
       subst (λ (x : Bool). SendsMore put_may flush_may x then front all shown old new) f
       (subst (λ (x : Bool). SendsMore put_may flush_may failed x front all shown old new) n
@@ -197,27 +246,38 @@ module _ {W : Type 0} (put_may : W → Bor (List ℕ) → (W × Bool) → Type 0
       (subst (λ k. SendsMore put_may flush_may failed now before after k old new) m sends))))
 
   -- none was
-  pub none-more : (before after : List Sent) (failed now : Bool) (old new : W) → after ≡ before → now ≡ failed → new ≡ old → SendsMore put_may flush_may failed now before after 0 old new
+  pub none-more : (before after : List Sent) (failed now : Bool) (old new : W) → after ≡ before → now ≡ failed
+      → new ≡ old → SendsMore put_may flush_may failed now before after 0 old new
   none-more before after failed now old new replies flag wire bytes start was =
       subst (λ (w : W). SentWhole put_may flush_may now (texts_in after) (raised bytes 0) start w) (sym wire)
       (subst (λ (b : Bool). SentWhole put_may flush_may b (texts_in after) (raised bytes 0) start old) (sym flag)
-      (subst (λ (xs : List Sent). SentWhole put_may flush_may failed (texts_in xs) (raised bytes 0) start old) (sym replies)
-      (subst (λ n. SentWhole put_may flush_may failed (texts_in before) n start old) (sym (raised_none bytes _ was.bytes_are)) was)))
+      (subst (λ (xs : List Sent). SentWhole put_may flush_may failed (texts_in xs) (raised bytes 0) start old)
+      (sym replies)
+      (subst (λ n. SentWhole put_may flush_may failed (texts_in before) n start old)
+      (sym (raised_none bytes _ was.bytes_are)) was)))
 
-  flush-more : (failed now : Bool) (before after : List Sent) (old new : W) → after ≡ before → Flushes flush_may failed now old new → SendsMore put_may flush_may failed now before after 0 old new
+  flush-more : (failed now : Bool) (before after : List Sent) (old new : W) → after ≡ before
+      → Flushes flush_may failed now old new → SendsMore put_may flush_may failed now before after 0 old new
   flush-more failed now before after old new same flush bytes start was =
       subst (λ (xs : List Sent). SentWhole put_may flush_may now (texts_in xs) (raised bytes 0) start new) (sym same)
-      (subst (λ n. SentWhole put_may flush_may now (texts_in before) n start new) (sym (raised_none bytes _ was.bytes_are))
+      (subst (λ n. SentWhole put_may flush_may now (texts_in before) n start new)
+      (sym (raised_none bytes _ was.bytes_are))
       (whole-flush failed now (texts_in before) bytes start old new was flush))
 
   module _ {g : Ghosts Sent} where
     -- what one call of a device did
-    pub gathered-more : (what : Gathered) (failed now : Bool) (old new : DeviceEnd Sent g) (wire after : W) → IsFound what now old new
-        → IfTaken what (PutsTexts put_may failed now (completed old) (completed new) wire after) → IfIdle what (Flushes flush_may failed now wire after)
+    pub gathered-more : (what : Gathered) (failed now : Bool) (old new : DeviceEnd Sent g) (wire after : W)
+        → IsFound what now old new
+        → IfTaken what (PutsTexts put_may failed now (completed old) (completed new) wire after)
+        → IfIdle what (Flushes flush_may failed now wire after)
         → SendsMore put_may flush_may failed now (completed old) (completed new) (whole_bytes_of what) wire after
     gathered-more (found.Sent call bytes) failed now old new wire after is put flush =
-        reply-more failed now (completed old) (completed new) is.1.reply bytes wire after is.1.completed_is (λ no. is.1.bytes_is) (λ yes. let never : true ≡ false = sym yes ∙ is.0 in absurd (cc)) put
+        reply-more failed now (completed old) (completed new) is.1.reply bytes wire after is.1.completed_is
+        (λ no. is.1.bytes_is) (λ yes. let never : true ≡ false = sym yes ∙ is.0 in absurd (cc)) put
     gathered-more (found.Dropped call bytes) failed now old new wire after is put flush =
-        reply-more failed now (completed old) (completed new) is.1.reply 0 wire after is.1.completed_is (λ no. let never : true ≡ false = sym is.0 ∙ no in absurd (cc)) (λ yes. refl) put
-    gathered-more found.Empty failed now old new wire after is put flush = flush-more failed now (completed old) (completed new) wire after (ap (λ m. m.completed) is.1.view) flush
-    gathered-more found.Closed failed now old new wire after is put flush = flush-more failed now (completed old) (completed new) wire after (ap (λ m. m.completed) is.view) flush
+        reply-more failed now (completed old) (completed new) is.1.reply 0 wire after is.1.completed_is
+        (λ no. let never : true ≡ false = sym is.0 ∙ no in absurd (cc)) (λ yes. refl) put
+    gathered-more found.Empty failed now old new wire after is put flush = flush-more failed now (completed old)
+        (completed new) wire after (ap (λ m. m.completed) is.1.view) flush
+    gathered-more found.Closed failed now old new wire after is put flush = flush-more failed now (completed old)
+        (completed new) wire after (ap (λ m. m.completed) is.view) flush

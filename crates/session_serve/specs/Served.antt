@@ -7,7 +7,7 @@ use Rattle.command_pump.specs.Pump.{PumpState, EndFaults}
 use Rattle.pin_core.specs.declared.sizes.Sizes.{Sizes}
 use Rattle.pinned_pool.specs.declared.view.View.{View}
 use Rattle.order_book.specs.Pages.{SessionList}
-use Rattle.serve_model.specs.Handed.{HasRun}
+use Rattle.serve_model.specs.Handed.{SessionHasRun}
 use Rattle.transcript_model.specs.Sessions.{joined}
 use Rattle.session_serve.specs.Whole.{SentWhole}
 use Rattle.session_serve.specs.Wires.{SendsOut}
@@ -18,7 +18,7 @@ module _ {W : Type 0} (put_may : W → Bor (List ℕ) → (W × Bool) → Type 0
   pub record IsServed (z : Sizes) (shards : ℕ) (session : SessionView) (input left : Option (List ℕ)) (end : SessionEnd)
       (bytes : ℕ) (list : SessionList) (last : View) (old new : W) : Type 0 where
     pub texts : List (List ℕ)
-    pub ran : HasRun z shards session.pass.list.number input left end list last texts
+    pub ran : SessionHasRun z shards session.pass.list.number input left end list last texts
     pub sends : SendsOut put_may flush_may false end.failed (joined texts) old new
     pub whole : SentWhole put_may flush_may end.failed texts bytes old new
 

@@ -24,7 +24,7 @@ use Rattle.call_model.specs.Outcomes.{Outcomes}
 use Rattle.serve_model.specs.Demand.{stage_row}
 use Rattle.serve_model.specs.Going as model
 use Rattle.serve_model.specs.Runs.{Run, session_of}
-use Rattle.session_pass.specs.Kept.{paid_in}
+use Rattle.session_pass.specs.Kept.{holds_paid}
 use Rattle.session_pass.specs.Views.{SessionView}
 
 -- The session has made no call, its seat claimed and holds its stage alone, and its source wasn't read.
@@ -69,7 +69,7 @@ pub record IsWorking (z : Sizes) (shards : ℕ) (first : SessionView) (input : O
   pub pump_is : IsPump input before given pump
   pub count : length session.posted ≡ length given
   pub going : model.IsGoing z shards first.pass.list.number given calls (texts_in session.posted)
-      (paid_in session.posted) session.pass.list.told first.pass.seat session.pass.seat
+      (holds_paid session.posted) session.pass.list.told first.pass.seat session.pass.seat
   pub same : IsSame first session
 
 -- one command more
@@ -97,9 +97,9 @@ pub record HasStopped (z : Sizes) (shards : ℕ) (first : SessionView) (input : 
   pub commands : List Command
   pub calls : List Outcomes
   pub behind : Outcomes
-  pub ended : (failed : Bool) → model.HasEnded z shards first.pass.list.number
+  pub ended : (failed : Bool) → model.CallsNoMore z shards first.pass.list.number
       (run_of commands calls behind session.pass.list.looks how pump.taken (length session.posted) failed)
-      (texts_in session.posted) (paid_in session.posted) session.pass.list.told first.pass.seat session.pass.seat
+      (texts_in session.posted) (holds_paid session.posted) session.pass.list.told first.pass.seat session.pass.seat
   pub is_session : (failed : Bool) → IsSession (session_of input pump.left
       (run_of commands calls behind session.pass.list.looks how pump.taken (length session.posted) failed))
   pub same : IsSame first session
@@ -110,7 +110,7 @@ pub record IsLeft (session : SessionView) (seat : View) (mine : SessionList) : T
   pub claims : seat.claims ≡ session.pass.seat.claims
   pub looks : seat.looks ≡ session.pass.seat.looks
   pub credits : seat.credits ≡ session.opened.credits
-  pub returns : paid_in session.posted ≤ seat.returns
+  pub returns : holds_paid session.posted ≤ seat.returns
   pub holds : (weight : Holding → ℕ)
       → total weight (bare_all seat.holds) + total weight (fresh_all session.pass.stage)
       ≡ total weight (bare_all session.opened.holds)

@@ -6,18 +6,18 @@ ghost use Rattle.session_serve.specs.Beside.{ForwardsOut, RanToTheEnd};
 ghost use Rattle.session_serve.specs.Served.{IsServed, HasServed};
 ghost use Rattle.session_serve.specs.Working.{IsFresh};
 
-use crate::inlet::{Ended, Inlet};
-use crate::lending::{OutletPlace, Start};
+use crate::device_side::DeviceSide;
+use crate::lending::{DeviceSlot, Start};
 use crate::line::{Account, Line};
-use crate::meeting::Meeting;
-use crate::outlet::Outlet;
 use crate::room::Room;
 use crate::serve::serve_in_turns;
+use crate::session_side::{Ended, SessionSide};
+use crate::start_barrier::StartBarrier;
 use crate::waiting::Remains;
 use crate::wiring::{Calls, Wiring};
 use command_exec::Shop;
 use flake_base::{End, SessionEnd, Source};
-use lent_place::Place;
+use handover_slot::HandoverSlot;
 use order_book::BookName;
 use pinned_pool::PoolName;
 use session_pass::{Gate, laws};
@@ -69,18 +69,18 @@ pub fn serve_beside<
         pump,
         device,
     } = line;
-    let inlet = Inlet {
+    let session_side = SessionSide {
         session,
         pump,
         room,
     };
-    let outlet = Outlet {
+    let device_side = DeviceSide {
         device,
         wire,
         sent: 0,
         helped: false,
     };
-    serve_sides(rt, alloc, shop, inlet, gate, outlet, put, flush)
+    serve_sides(rt, alloc, shop, session_side, gate, device_side, put, flush)
 }
 
 // The two sides run beside each other, or where that can't be they take turns.
@@ -97,43 +97,44 @@ fn serve_sides<
     rt: &R,
     alloc: Global,
     shop: &Shop<'_, N, P>,
-    inlet: Inlet<N, P, S>,
+    session_side: SessionSide<N, P, S>,
     gate: &G,
-    outlet: Outlet<P, W>,
+    device_side: DeviceSide<P, W>,
     put: &PUT,
     flush: &FLUSH,
 ) -> (W, Account<N, P, S>)
     requires calls { PUT.IsAlwaysCallable put.now × FLUSH.IsAlwaysCallable flush.now }
-    requires fresh { IsFresh P.sizes inlet.session inlet.pump }
-    requires ring { device_ring outlet.device.end ≡ inlet.session.ring }
-    requires unfailed { outlet.device.failed ≡ false }
-    requires none { (completed outlet.device.end ≡ []) × (outlet.sent ≡ 0) }
+    requires fresh { IsFresh P.sizes session_side.session session_side.pump }
+    requires ring { device_ring device_side.device.end ≡ session_side.session.ring }
+    requires unfailed { device_side.device.failed ≡ false }
+    requires none { (completed device_side.device.end ≡ []) × (device_side.sent ≡ 0) }
     ensures { HasServed (λ w p r. PUT.post put.now w p r) (λ w r. FLUSH.post flush.now w r) P.sizes N.sizes.shards
-        inlet.session inlet.pump outlet.wire result.1.end result.1.sent result.1.mine result.1.seat
+        session_side.session session_side.pump device_side.wire result.1.end result.1.sent result.1.mine result.1.seat
         result.1.pump result.0 }
 {
     let calls = Calls { put, flush };
-    let ((went, came), _) = both_sides(rt, alloc, shop, inlet, gate, outlet, calls);
+    let ((went, came), _) = both_sides(rt, alloc, shop, session_side, gate, device_side, calls);
     match came {
         Ok(ended) => match went {
-            Ok(outlet) => settled(ended, outlet),
-            Err(outlet) => {
-                let outlet = outlet.forward_all(rt, shop.pool, &Calls { put, flush });
-                settled(ended, outlet)
+            Ok(device_side) => settled(ended, device_side),
+            Err(device_side) => {
+                let device_side = device_side.forward_all(rt, shop.pool, &Calls { put, flush });
+                settled(ended, device_side)
             }
         },
-        Err(mut inlet) => match went {
-            Ok(mut outlet) => {
+        Err(mut session_side) => match went {
+            Ok(mut device_side) => {
                 // The device has found the ring closed, so this can't be.
-                laws::both_ends(&mut inlet.session, &mut outlet.device);
+                laws::both_ends(&mut session_side.session, &mut device_side.device);
                 unreachable!()
             }
-            Err(outlet) => take_turns(rt, shop, inlet, gate, outlet, put, flush),
+            Err(device_side) => take_turns(rt, shop, session_side, gate, device_side, put, flush),
         },
     }
 }
 
-// Both run until the session has ended and its device has found the ring closed; or neither begins. The outlet lies
+// Both run until the session has ended and its device has found the ring closed; or neither begins. The device's side
+// lies
 // between them, for either to take.
 fn both_sides<
     R: Threads + Wait + Sync,
@@ -147,45 +148,53 @@ fn both_sides<
     rt: &R,
     alloc: Global,
     shop: &Shop<'_, N, P>,
-    inlet: Inlet<N, P, S>,
+    session_side: SessionSide<N, P, S>,
     gate: &G,
-    outlet: Outlet<P, W>,
+    device_side: DeviceSide<P, W>,
     wiring: Q,
 ) -> (
     (
-        Result<Outlet<P, W>, Outlet<P, W>>,
-        Result<Ended<N, P, S>, Inlet<N, P, S>>,
+        Result<DeviceSide<P, W>, DeviceSide<P, W>>,
+        Result<Ended<N, P, S>, SessionSide<N, P, S>>,
     ),
     Q,
 )
     requires ready { Q.ready wiring }
-    requires fresh { IsFresh P.sizes inlet.session inlet.pump }
-    ensures out { IfOk result.0.0 (λ o. (device_ring o.device.end ≡ device_ring outlet.device.end)
-        × (ended o.device.end ≡ true) × ForwardsOut (Q.put_may wiring) (Q.flush_may wiring) outlet.device.failed
-        o.device.failed (completed outlet.device.end) (completed o.device.end) outlet.sent o.sent outlet.wire o.wire) }
-    ensures idle { IfErr result.0.0 (λ o. o ≡ outlet) }
-    ensures ran { IfOk result.0.1 (λ e. RanToTheEnd P.sizes N.sizes.shards inlet.session inlet.pump e.end e.replies
+    requires fresh { IsFresh P.sizes session_side.session session_side.pump }
+    ensures out { IfOk result.0.0 (λ o. (device_ring o.device.end ≡ device_ring device_side.device.end)
+        × (ended o.device.end ≡ true) × ForwardsOut (Q.put_may wiring) (Q.flush_may wiring) device_side.device.failed
+        o.device.failed (completed device_side.device.end) (completed o.device.end) device_side.sent o.sent
+        device_side.wire o.wire) }
+    ensures idle { IfErr result.0.0 (λ o. o ≡ device_side) }
+    ensures ran { IfOk result.0.1
+        (λ e. RanToTheEnd P.sizes N.sizes.shards session_side.session session_side.pump e.end e.replies
         e.remains.seat e.remains.mine e.pump e.remains.closed) }
-    ensures back { IfErr result.0.1 (λ i. i ≡ inlet) }
+    ensures back { IfErr result.0.1 (λ i. i ≡ session_side) }
 {
-    let start = Start { outlet, wiring };
-    let made: Result<OutletPlace<P, W, Q>, AllocError> = Place::new(alloc, &start);
-    let Start { outlet, wiring } = start;
+    let start = Start {
+        device_side,
+        wiring,
+    };
+    let made: Result<DeviceSlot<P, W, Q>, AllocError> = HandoverSlot::new(alloc, &start);
+    let Start {
+        device_side,
+        wiring,
+    } = start;
     match made {
         Ok(place) => {
             let sides = together(
                 rt,
                 shop,
-                inlet,
+                session_side,
                 gate,
-                outlet,
+                device_side,
                 &place,
                 &wiring,
-                &Meeting::new(),
+                &StartBarrier::new(),
             );
             (sides, wiring)
         }
-        Err(AllocError) => ((Err(outlet), Err(inlet)), wiring),
+        Err(AllocError) => ((Err(device_side), Err(session_side)), wiring),
     }
 }
 
@@ -201,44 +210,49 @@ fn together<
 >(
     rt: &R,
     shop: &Shop<'_, N, P>,
-    inlet: Inlet<N, P, S>,
+    session_side: SessionSide<N, P, S>,
     gate: &G,
-    outlet: Outlet<P, W>,
-    place: &OutletPlace<P, W, Q>,
+    device_side: DeviceSide<P, W>,
+    place: &DeviceSlot<P, W, Q>,
     wiring: &Q,
-    meeting: &Meeting,
+    start_barrier: &StartBarrier,
 ) -> (
-    Result<Outlet<P, W>, Outlet<P, W>>,
-    Result<Ended<N, P, S>, Inlet<N, P, S>>,
+    Result<DeviceSide<P, W>, DeviceSide<P, W>>,
+    Result<Ended<N, P, S>, SessionSide<N, P, S>>,
 )
     requires ready { Q.ready wiring.now }
-    requires fresh { IsFresh P.sizes inlet.session inlet.pump }
-    requires start { (place.now.outlet ≡ outlet) × (place.now.wiring ≡ wiring.now) }
-    ensures out { IfOk result.0 (λ o. (device_ring o.device.end ≡ device_ring outlet.device.end)
+    requires fresh { IsFresh P.sizes session_side.session session_side.pump }
+    requires start { (place.now.device_side ≡ device_side) × (place.now.wiring ≡ wiring.now) }
+    ensures out { IfOk result.0 (λ o. (device_ring o.device.end ≡ device_ring device_side.device.end)
         × (ended o.device.end ≡ true) × ForwardsOut (Q.put_may wiring.now) (Q.flush_may wiring.now)
-        outlet.device.failed o.device.failed (completed outlet.device.end) (completed o.device.end) outlet.sent o.sent
-        outlet.wire o.wire) }
-    ensures idle { IfErr result.0 (λ o. o ≡ outlet) }
-    ensures ran { IfOk result.1 (λ e. RanToTheEnd P.sizes N.sizes.shards inlet.session inlet.pump e.end e.replies
+        device_side.device.failed o.device.failed (completed device_side.device.end) (completed o.device.end)
+        device_side.sent o.sent
+        device_side.wire o.wire) }
+    ensures idle { IfErr result.0 (λ o. o ≡ device_side) }
+    ensures ran { IfOk result.1
+        (λ e. RanToTheEnd P.sizes N.sizes.shards session_side.session session_side.pump e.end e.replies
         e.remains.seat e.remains.mine e.pump e.remains.closed) }
-    ensures back { IfErr result.1 (λ i. i ≡ inlet) }
+    ensures back { IfErr result.1 (λ i. i ≡ session_side) }
 {
     let pool = shop.pool;
     thread::join(
         rt,
-        move || -> Result<Outlet<P, W>, Outlet<P, W>>
-            requires { Q.ready wiring.now × (place.now.outlet ≡ outlet) × (place.now.wiring ≡ wiring.now) }
-            ensures { IfOk result (λ o. (device_ring o.device.end ≡ device_ring outlet.device.end)
+        move || -> Result<DeviceSide<P, W>, DeviceSide<P, W>>
+            requires { Q.ready wiring.now × (place.now.device_side ≡ device_side) × (place.now.wiring ≡ wiring.now) }
+            ensures { IfOk result (λ o. (device_ring o.device.end ≡ device_ring device_side.device.end)
                 × (ended o.device.end ≡ true) × ForwardsOut (Q.put_may wiring.entry.now)
-                (Q.flush_may wiring.entry.now) outlet.device.failed o.device.failed (completed outlet.device.end)
-                (completed o.device.end) outlet.sent o.sent outlet.wire o.wire) × IfErr result (λ o. o ≡ outlet) }
-        { outlet.beside(rt, pool, place, wiring, meeting) },
-        move || -> Result<Ended<N, P, S>, Inlet<N, P, S>>
-            requires { IsFresh P.sizes inlet.session inlet.pump × Q.ready wiring.now
+                (Q.flush_may wiring.entry.now) device_side.device.failed o.device.failed
+                (completed device_side.device.end)
+                (completed o.device.end) device_side.sent o.sent device_side.wire o.wire)
+                × IfErr result (λ o. o ≡ device_side) }
+        { device_side.beside(rt, pool, place, wiring, start_barrier) },
+        move || -> Result<Ended<N, P, S>, SessionSide<N, P, S>>
+            requires { IsFresh P.sizes session_side.session session_side.pump × Q.ready wiring.now
                 × (place.now.wiring ≡ wiring.now) }
-            ensures { IfOk result (λ e. RanToTheEnd P.sizes N.sizes.shards inlet.session inlet.pump e.end e.replies
-                e.remains.seat e.remains.mine e.pump e.remains.closed) × IfErr result (λ i. i ≡ inlet) }
-        { inlet.within_reach(rt, shop, gate, place, wiring, meeting) },
+            ensures { IfOk result
+                (λ e. RanToTheEnd P.sizes N.sizes.shards session_side.session session_side.pump e.end e.replies
+                e.remains.seat e.remains.mine e.pump e.remains.closed) × IfErr result (λ i. i ≡ session_side) }
+        { session_side.within_reach(rt, shop, gate, place, wiring, start_barrier) },
     )
 }
 
@@ -255,31 +269,31 @@ fn take_turns<
 >(
     rt: &R,
     shop: &Shop<'_, N, P>,
-    inlet: Inlet<N, P, S>,
+    session_side: SessionSide<N, P, S>,
     gate: &G,
-    outlet: Outlet<P, W>,
+    device_side: DeviceSide<P, W>,
     put: &PUT,
     flush: &FLUSH,
 ) -> (W, Account<N, P, S>)
     requires calls { PUT.IsAlwaysCallable put.now × FLUSH.IsAlwaysCallable flush.now }
-    requires fresh { IsFresh P.sizes inlet.session inlet.pump }
-    requires ring { device_ring outlet.device.end ≡ inlet.session.ring }
-    requires unfailed { outlet.device.failed ≡ false }
+    requires fresh { IsFresh P.sizes session_side.session session_side.pump }
+    requires ring { device_ring device_side.device.end ≡ session_side.session.ring }
+    requires unfailed { device_side.device.failed ≡ false }
     ensures { HasServed (λ w p r. PUT.post put.now w p r) (λ w r. FLUSH.post flush.now w r) P.sizes N.sizes.shards
-        inlet.session inlet.pump outlet.wire result.1.end result.1.sent result.1.mine result.1.seat
+        session_side.session session_side.pump device_side.wire result.1.end result.1.sent result.1.mine result.1.seat
         result.1.pump result.0 }
 {
-    let Inlet {
+    let SessionSide {
         session,
         pump,
         room,
-    } = inlet;
-    let Outlet {
+    } = session_side;
+    let DeviceSide {
         device,
         wire,
         sent: _,
         helped: _,
-    } = outlet;
+    } = device_side;
     let line = Line {
         session,
         pump,
@@ -291,16 +305,16 @@ fn take_turns<
 // With both ends of the ring at hand.
 fn settled<N: BookName, P: PoolName + Send, S: Source, W: Drop>(
     ended: Ended<N, P, S>,
-    outlet: Outlet<P, W>,
+    device_side: DeviceSide<P, W>,
 ) -> (W, Account<N, P, S>)
-    requires { device_ring outlet.device.end ≡ closed_ring ended.remains.closed }
-    ensures all { completed outlet.device.end ≡ (closed_view ended.remains.closed).posted }
-    ensures end { result.1.end ≡ ended_at ended.end ended.pump.taken ended.replies outlet.device.failed }
+    requires { device_ring device_side.device.end ≡ closed_ring ended.remains.closed }
+    ensures all { completed device_side.device.end ≡ (closed_view ended.remains.closed).posted }
+    ensures end { result.1.end ≡ ended_at ended.end ended.pump.taken ended.replies device_side.device.failed }
     ensures seat { result.1.seat ≡ ended.remains.seat }
     ensures mine { result.1.mine ≡ ended.remains.mine }
-    ensures sent { result.1.sent ≡ outlet.sent }
+    ensures sent { result.1.sent ≡ device_side.sent }
     ensures pump { result.1.pump ≡ ended.pump }
-    ensures wire { result.0 ≡ outlet.wire }
+    ensures wire { result.0 ≡ device_side.wire }
 {
     let Ended {
         end,
@@ -313,12 +327,12 @@ fn settled<N: BookName, P: PoolName + Send, S: Source, W: Drop>(
         mine,
         mut closed,
     } = remains;
-    let Outlet {
+    let DeviceSide {
         mut device,
         wire,
         sent,
         helped: _,
-    } = outlet;
+    } = device_side;
     device.settle(&mut closed);
     let end = SessionEnd {
         end,

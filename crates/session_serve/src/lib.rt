@@ -1,18 +1,18 @@
 //! A session that is served from its source to its wire, its device beside it.
 #![tactic(auto)]
 
+mod backoff;
 mod beside;
 mod close;
 mod counting;
-mod inlet;
+mod device_side;
 pub mod laws;
 mod lending;
 mod line;
-mod meeting;
-mod naps;
-mod outlet;
 mod room;
 mod serve;
+mod session_side;
+mod start_barrier;
 mod turn;
 mod waiting;
 mod wiring;

@@ -5,8 +5,8 @@ ghost use Rattle.tx_ring.specs.Shown.{closed_ring, closed_view};
 ghost use Rattle.session_serve.specs.Beside.{CallsAtLast, BreaksAtLast};
 ghost use Rattle.session_serve.specs.Working.{IsLeft};
 
-use crate::lending::{OutletPlace, relieve};
-use crate::naps::Naps;
+use crate::backoff::Backoff;
+use crate::lending::{DeviceSlot, relieve};
 use crate::room::Room;
 use crate::wiring::Wiring;
 use command_exec::Shop;
@@ -35,17 +35,17 @@ where
 fn rest<R: Wait, P: PoolName + Send, W: Drop, Q: Wiring<W>>(
     rt: &R,
     pool: &Pool<P>,
-    place: &OutletPlace<P, W, Q>,
+    place: &DeviceSlot<P, W, Q>,
     wiring: &Q,
-    naps: &mut Naps,
+    backoff: &mut Backoff,
 )
     requires ready { Q.ready wiring.now }
     requires same { place.now.wiring ≡ wiring.now }
 {
     if relieve(pool, place, wiring) {
-        naps.found();
+        backoff.found();
     } else {
-        naps.wait(rt);
+        backoff.wait(rt);
     }
 }
 
@@ -56,7 +56,7 @@ pub(crate) fn call<R: Wait, N: BookName, P: PoolName + Send, W: Drop, Q: Wiring<
     session: &mut Session<N, P>,
     command: &Command,
     room: &mut Room,
-    place: &OutletPlace<P, W, Q>,
+    place: &DeviceSlot<P, W, Q>,
     wiring: &Q,
 ) -> Result<(), Memory>
     requires few { length session.old.posted ≤ judged_bytes + 1 }
@@ -65,13 +65,13 @@ pub(crate) fn call<R: Wait, N: BookName, P: PoolName + Send, W: Drop, Q: Wiring<
     ensures posted { OnOk result (CallsAtLast P.sizes N.sizes.shards command.now session.old session.new) }
     ensures memory { OnErr result (BreaksAtLast P.sizes N.sizes.shards command.now session.old session.new) }
 {
-    let mut naps = Naps::new();
+    let mut backoff = Backoff::new();
     for _ in rt.forever() {
         match session.call(rt, shop, command, &mut room.sent, &mut room.stored) {
             Ok(_) => return Ok(()),
             Err(CallError::Memory) => return Err(Memory),
-            Err(CallError::RingFull { .. }) => rest(rt, shop.pool, place, wiring, &mut naps),
-            Err(CallError::StageFull { .. }) => rest(rt, shop.pool, place, wiring, &mut naps),
+            Err(CallError::RingFull { .. }) => rest(rt, shop.pool, place, wiring, &mut backoff),
+            Err(CallError::StageFull { .. }) => rest(rt, shop.pool, place, wiring, &mut backoff),
         }
     }
     unreachable!()
@@ -82,7 +82,7 @@ pub(crate) fn finish<R: Wait, N: BookName, P: PoolName + Send, W: Drop, Q: Wirin
     rt: &R,
     shop: &Shop<'_, N, P>,
     session: Session<N, P>,
-    place: &OutletPlace<P, W, Q>,
+    place: &DeviceSlot<P, W, Q>,
     wiring: &Q,
 ) -> Remains<N, P>
     requires ready { Q.ready wiring.now }
@@ -92,13 +92,13 @@ pub(crate) fn finish<R: Wait, N: BookName, P: PoolName + Send, W: Drop, Q: Wirin
     ensures posted { (closed_view result.closed).posted ≡ session.posted }
 {
     let mut session = session;
-    let mut naps = Naps::new();
+    let mut backoff = Backoff::new();
     for _ in rt.forever() {
         match session.finish(shop) {
             Finish::Done { seat, mine, closed } => return Remains { seat, mine, closed },
             Finish::NotYet(back) => session = back,
         }
-        rest(rt, shop.pool, place, wiring, &mut naps);
+        rest(rt, shop.pool, place, wiring, &mut backoff);
     }
     unreachable!()
 }

@@ -1,17 +1,21 @@
 -- What the parts do, by the definitions.
-use Rattle.std.proofs.Common.{◌≡◌, ℕ, Bool, true, false, cond, List, [], ◌++◌, length, Option, None, Some, is_some, refl, sym, ap, ◌∙◌, subst, append-nil}
+use Rattle.std.proofs.Common.{◌≡◌, ℕ, Bool, true, false, cond, List, [], ◌++◌, length, Option, None, Some, is_some}
+use Rattle.std.proofs.Common.{refl, sym, ap, ◌∙◌, subst, append-nil}
 use Rattle.std.specs.Option.{option_map}
 use Rattle.std.specs.FinMap as finite
 use Rattle.pin_core.specs.Holding.{Holding}
 use Rattle.pin_core.specs.declared.sizes.Sizes.{Sizes}
 use Rattle.flake_base.specs.declared.segment.Seg.{Seg}
-use Rattle.flake_model.specs.Store.{Store, When, always, if_missing, if_present, Operation, set, Answer, keeps, puts, removes, found, done, missing, stores, key_of, answer, change_by, changed, bytes_at, first_at}
-use Rattle.flake_model.specs.Deed.{Places, places_at, placed, kept_fragments, AreStored}
+use Rattle.flake_model.specs.Store.{Store, When, always, if_missing, if_present, Operation, set, Answer, keeps, puts}
+use Rattle.flake_model.specs.Store.{removes, found, done, missing, stores, key_of, answer, change_by, changed, bytes_at}
+use Rattle.flake_model.specs.Store.{first_at}
+use Rattle.flake_model.specs.Deed.{Places, places_at, places_with, kept_fragments, AreStored}
 use Rattle.frag_value.specs.Values.{IsCut, value_bytes}
-use Rattle.frag_value.specs.Taken.{entire, Piece}
-use Rattle.shard_core.specs.Kept.{Entries, Frags, value_at, frags_of, bytes_kept, Agrees, addresses_of, segs_of}
-use Rattle.shard_core.specs.Answers.{shown, old_answer}
-use Rattle.shard_core.specs.Pieces.{pieces_at, pieces_of}
+use Rattle.frag_value.specs.Taken.{entire, TakenPiece}
+use Rattle.shard_core.specs.Kept.{Entries, value_at, frags_of, bytes_kept, Agrees, value_addresses, segs_of}
+use Rattle.frag_value.specs.Values.{Frags}
+use Rattle.shard_core.specs.Answers.{answer_shown, old_answer}
+use Rattle.shard_core.specs.Pieces.{pieces_at, answer_pieces}
 use Rattle.shard_core.specs.Done.{IsDone}
 use Rattle.shard_core.specs.declared.answer.PartAnswer.{PartAnswer}
 use Rattle.shard_core.proofs.Holds.{places_of}
@@ -25,91 +29,115 @@ pub present : {X Y : Type 0} (f : X → Y) (o : Option X) → is_some (option_ma
 present f None = refl
 present f (Some v) = refl
 
-pub is_there : (z : Sizes) (es : Entries) (hs : List Holding) (s : Store) (p : Places) (key : List ℕ) → Agrees z es hs s p → is_some (finite.get s key) ≡ is_some (value_at key es)
+pub is_there : (z : Sizes) (es : Entries) (hs : List Holding) (s : Store) (p : Places) (key : List ℕ)
+    → Agrees z es hs s p → is_some (finite.get s key) ≡ is_some (value_at key es)
 is_there z es hs s p key a = ap is_some (sym (a.bytes key)) ∙ present (value_bytes hs) (value_at key es)
 
 -- a set that stores over a value hands it over
 over_pieces : (w : When) (asks : Bool) (key bytes : List ℕ) (o : Option (List ℕ)) (were : List ℕ) → stores w o ≡ true
-    → pieces_at entire true (old_answer asks o) were 0 ≡ pieces_of (set w asks key bytes) (old_answer asks o) were 0
+    → pieces_at entire true (old_answer asks o) were 0 ≡ answer_pieces (set w asks key bytes) (old_answer asks o) were 0
 over_pieces always asks key bytes o were e = refl
 over_pieces if_present asks key bytes o were e = refl
 over_pieces if_missing true key bytes None were e = refl
 over_pieces if_missing false key bytes None were e = refl
 over_pieces if_missing asks key bytes (Some v) were e = absurd (cc)
 
-module _ (z : Sizes) (w : When) (asks : Bool) (key bytes : List ℕ) (s : Store) (p : Places) (es now : Entries) (hs mid holds : List Holding) (said : PartAnswer) (segs0 segs1 : List Seg) (t0 t1 : List Piece)
+module _ (z : Sizes) (w : When) (asks : Bool) (key bytes : List ℕ) (s : Store) (p : Places) (es now : Entries)
+    (hs mid holds : List Holding) (said : PartAnswer) (segs0 segs1 : List Seg) (t0 t1 : List TakenPiece)
     (a : Agrees z es hs s p) where
   -- a set that stores
-  pub set_done : (old : Option Frags) (v : Frags) → stores w (bytes_kept key es hs) ≡ true → old ≡ value_at key es → value_bytes mid (frags_of old) ≡ value_bytes hs (frags_of old)
-      → said ≡ shown (old_answer asks (option_map (value_bytes mid) old))
-      → t1 ≡ t0 ++ pieces_at entire true (old_answer asks (option_map (value_bytes mid) old)) (addresses_of z (frags_of old)) 0
+  pub set_done : (old : Option Frags) (v : Frags) → stores w (bytes_kept key es hs) ≡ true → old ≡ value_at key es
+      → value_bytes mid (frags_of old) ≡ value_bytes hs (frags_of old)
+      → said ≡ answer_shown (old_answer asks (option_map (value_bytes mid) old))
+      → t1 ≡ t0 ++ pieces_at entire true (old_answer asks (option_map (value_bytes mid) old))
+      (value_addresses z (frags_of old)) 0
       → segs1 ≡ segs0 ++ segs_of z v → IsCut (length bytes) v
-      → Agrees z now holds (finite.insert s key bytes) (finite.insert p key (addresses_of z v))
+      → Agrees z now holds (finite.insert s key bytes) (finite.insert p key (value_addresses z v))
       → IsDone z (set w asks key bytes) s p now holds said segs0 segs1 t0 t1
   set_done old v does was same says taken segs cut agrees =
-      let stored : List ℕ = addresses_of z v in
-      let there : option_map (value_bytes mid) old ≡ finite.get s key = same_old (value_bytes mid) (value_bytes hs) old same ∙ ap (option_map (value_bytes hs)) was ∙ a.bytes key in
+      let stored : List ℕ = value_addresses z v in
+      let there : option_map (value_bytes mid) old ≡ finite.get s key = same_old (value_bytes mid)
+      (value_bytes hs) old same ∙ ap (option_map (value_bytes hs)) was ∙ a.bytes key in
       let yes : stores w (finite.get s key) ≡ true = ap (stores w) (sym (a.bytes key)) ∙ does in
-      let answer_is : answer s (set w asks key bytes) ≡ old_answer asks (finite.get s key) = ap (λ t. cond asks (found (finite.get s key)) (cond t done missing)) yes in
+      let answer_is : answer s (set w asks key bytes) ≡ old_answer asks (finite.get s key) =
+      ap (λ t. cond asks (found (finite.get s key)) (cond t done missing)) yes in
       let change_is : change_by s (set w asks key bytes) ≡ puts bytes = ap (λ t. cond t (puts bytes) keeps) yes in
-      let places = places_of z es hs s p key a ∙ ap (λ o. addresses_of z (frags_of o)) (sym was) in
+      let places = places_of z es hs s p key a ∙ ap (λ o. value_addresses z (frags_of o)) (sym was) in
       record {
         stored = stored;
-        says = says ∙ ap (λ o. shown (old_answer asks o)) there ∙ ap shown (sym answer_is);
-        agrees = subst (λ what. Agrees z now holds (changed s key what) (placed p key what stored)) (sym change_is) agrees;
-        stored_is = subst (λ what. AreStored what 0 (places_at p key) stored) (sym change_is) (count-addresses z bytes v cut, refl);
+        says = says ∙ ap (λ o. answer_shown (old_answer asks o)) there ∙ ap answer_shown (sym answer_is);
+        agrees = subst (λ what. Agrees z now holds (changed s key what) (places_with p key what stored))
+            (sym change_is) agrees;
+        stored_is = subst (λ what. AreStored what 0 (places_at p key) stored) (sym change_is)
+            (count-addresses z bytes v cut, refl);
         segs_are = segs ∙ ap (λ l. segs0 ++ l) (segs-cut z (length bytes) v cut);
-        pieces = taken ∙ ap (λ l. t0 ++ l) ((λ i. pieces_at entire true (old_answer asks (there i)) (sym places i) 0) ∙ over_pieces w asks key bytes (finite.get s key) (places_at p key) yes ∙ ap (λ x. pieces_of (set w asks key bytes) x (places_at p key) 0) (sym answer_is));
+        pieces = taken ∙ ap (λ l. t0 ++ l) ((λ i. pieces_at entire true (old_answer asks (there i)) (sym places i) 0)
+            ∙ over_pieces w asks key bytes (finite.get s key) (places_at p key) yes
+            ∙ ap (λ x. answer_pieces (set w asks key bytes) x (places_at p key) 0) (sym answer_is));
       }
 
 -- a part that changes nothing
-pub same_done : (z : Sizes) (operation : Operation) (s : Store) (p : Places) (now : Entries) (holds : List Holding) (said : PartAnswer) (segs0 segs1 : List Seg) (t0 t1 : List Piece) (says_is : Answer)
-    → change_by s operation ≡ keeps → answer s operation ≡ says_is → said ≡ shown says_is → Agrees z now holds s p → segs1 ≡ segs0
-    → t1 ≡ t0 ++ pieces_of operation says_is (places_at p (key_of operation)) (first_at s operation)
+pub same_done : (z : Sizes) (operation : Operation) (s : Store) (p : Places) (now : Entries) (holds : List Holding)
+    (said : PartAnswer) (segs0 segs1 : List Seg) (t0 t1 : List TakenPiece) (says_is : Answer)
+    → change_by s operation ≡ keeps → answer s operation ≡ says_is → said ≡ answer_shown says_is
+    → Agrees z now holds s p → segs1 ≡ segs0
+    → t1 ≡ t0 ++ answer_pieces operation says_is (places_at p (key_of operation)) (first_at s operation)
     → IsDone z operation s p now holds said segs0 segs1 t0 t1
 same_done z operation s p now holds said segs0 segs1 t0 t1 says_is change_is answer_is says agrees segs taken =
     let key : List ℕ = key_of operation in
     record {
       stored = [];
-      says = says ∙ ap shown (sym answer_is);
-      agrees = subst (λ what. Agrees z now holds (changed s key what) (placed p key what [])) (sym change_is) agrees;
-      stored_is = subst (λ what. AreStored what (kept_fragments (bytes_at s key) operation) (places_at p key) []) (sym change_is) refl;
+      says = says ∙ ap answer_shown (sym answer_is);
+      agrees = subst (λ what. Agrees z now holds (changed s key what) (places_with p key what []))
+          (sym change_is) agrees;
+      stored_is = subst (λ what. AreStored what (kept_fragments (bytes_at s key) operation) (places_at p key) [])
+          (sym change_is) refl;
       segs_are = segs ∙ sym (append-nil segs0);
-      pieces = taken ∙ ap (λ l. t0 ++ l) (ap (λ x. pieces_of operation x (places_at p key) (first_at s operation)) (sym answer_is));
+      pieces = taken ∙ ap (λ l. t0 ++ l)
+          (ap (λ x. answer_pieces operation x (places_at p key) (first_at s operation)) (sym answer_is));
     }
 
 -- a set that stores nothing hands no hold over
 kept_pieces : (w : When) (asks : Bool) (key bytes : List ℕ) (o : Option (List ℕ)) (were : List ℕ) → stores w o ≡ false
-    → pieces_at entire false (found o) were 0 ≡ pieces_of (set w asks key bytes) (found o) were 0
+    → pieces_at entire false (found o) were 0 ≡ answer_pieces (set w asks key bytes) (found o) were 0
 kept_pieces always asks key bytes o were e = absurd (cc)
 kept_pieces if_missing asks key bytes o were e = refl
 kept_pieces if_present asks key bytes None were e = refl
 kept_pieces if_present asks key bytes (Some v) were e = absurd (cc)
 
 -- a set that stores nothing, and answers what its key has
-pub asked_done : (z : Sizes) (w : When) (asks : Bool) (key bytes : List ℕ) (s : Store) (p : Places) (now : Entries) (holds : List Holding) (said : PartAnswer) (segs : List Seg) (t0 t1 : List Piece)
-    → asks ≡ true → stores w (finite.get s key) ≡ false → said ≡ shown (found (finite.get s key)) → Agrees z now holds s p
+pub asked_done : (z : Sizes) (w : When) (asks : Bool) (key bytes : List ℕ) (s : Store) (p : Places) (now : Entries)
+    (holds : List Holding) (said : PartAnswer) (segs : List Seg) (t0 t1 : List TakenPiece)
+    → asks ≡ true → stores w (finite.get s key) ≡ false → said ≡ answer_shown (found (finite.get s key))
+    → Agrees z now holds s p
     → t1 ≡ t0 ++ pieces_at entire false (found (finite.get s key)) (places_at p key) 0
     → IsDone z (set w asks key bytes) s p now holds said segs segs t0 t1
 asked_done z w asks key bytes s p now holds said segs t0 t1 asking idle says agrees taken =
     let had : Answer = found (finite.get s key) in
     let change_is : change_by s (set w asks key bytes) ≡ keeps = ap (λ t. cond t (puts bytes) keeps) idle in
-    let answer_is : answer s (set w asks key bytes) ≡ had = ap (λ t. cond t had (cond (stores w (finite.get s key)) done missing)) asking in
+    let answer_is : answer s (set w asks key bytes) ≡ had =
+    ap (λ t. cond t had (cond (stores w (finite.get s key)) done missing)) asking in
     same_done z (set w asks key bytes) s p now holds said segs segs t0 t1 had change_is answer_is says agrees refl
     (taken ∙ ap (λ l. t0 ++ l) (kept_pieces w asks key bytes (finite.get s key) (places_at p key) idle))
 
 -- a key that goes
-pub gone_done : (z : Sizes) (operation : Operation) (s : Store) (p : Places) (now : Entries) (holds : List Holding) (said : PartAnswer) (segs : List Seg) (t : List Piece) (says_is : Answer)
-    → change_by s operation ≡ removes → answer s operation ≡ says_is → said ≡ shown says_is → Agrees z now holds (finite.remove s (key_of operation)) (finite.remove p (key_of operation))
-    → pieces_of operation says_is (places_at p (key_of operation)) (first_at s operation) ≡ []
+pub gone_done : (z : Sizes) (operation : Operation) (s : Store) (p : Places) (now : Entries) (holds : List Holding)
+    (said : PartAnswer) (segs : List Seg) (t : List TakenPiece) (says_is : Answer)
+    → change_by s operation ≡ removes → answer s operation ≡ says_is → said ≡ answer_shown says_is
+    → Agrees z now holds (finite.remove s (key_of operation)) (finite.remove p (key_of operation))
+    → answer_pieces operation says_is (places_at p (key_of operation)) (first_at s operation) ≡ []
     → IsDone z operation s p now holds said segs segs t t
 gone_done z operation s p now holds said segs t says_is change_is answer_is says agrees none =
     let key : List ℕ = key_of operation in
     record {
       stored = [];
-      says = says ∙ ap shown (sym answer_is);
-      agrees = subst (λ what. Agrees z now holds (changed s key what) (placed p key what [])) (sym change_is) agrees;
-      stored_is = subst (λ what. AreStored what (kept_fragments (bytes_at s key) operation) (places_at p key) []) (sym change_is) refl;
+      says = says ∙ ap answer_shown (sym answer_is);
+      agrees = subst (λ what. Agrees z now holds (changed s key what) (places_with p key what []))
+          (sym change_is) agrees;
+      stored_is = subst (λ what. AreStored what (kept_fragments (bytes_at s key) operation) (places_at p key) [])
+          (sym change_is) refl;
       segs_are = sym (append-nil segs);
-      pieces = sym (append-nil t) ∙ ap (λ l. t ++ l) (sym none ∙ ap (λ x. pieces_of operation x (places_at p key) (first_at s operation)) (sym answer_is));
+      pieces = sym (append-nil t)
+          ∙ ap (λ l. t ++ l) (sym none ∙ ap (λ x. answer_pieces operation x (places_at p key) (first_at s operation))
+          (sym answer_is));
     }

@@ -9,13 +9,13 @@ use Rattle.shard_core.specs.declared.answer.PartAnswer.{PartAnswer}
 use Rattle.shard_core.specs.declared.answer.PartAnswer.TheVariants as say
 
 -- an answer as the call gives it: bytes went to the taker
-abbrev pub shown : Answer → PartAnswer
-shown (value bytes) = say.Bulk
-shown missing = say.Null
-shown done = say.Done
-shown (length_is n) = say.Length n
-shown (did happened) = say.Did happened
-shown too_long = say.TooLong
+abbrev pub answer_shown : Answer → PartAnswer
+answer_shown (value bytes) = say.Bulk
+answer_shown missing = say.Null
+answer_shown done = say.Done
+answer_shown (length_is n) = say.Length n
+answer_shown (did happened) = say.Did happened
+answer_shown too_long = say.TooLong
 
 -- what a set answers where it stores: the old value, if it was asked for
 abbrev pub old_answer : Bool → Option (List ℕ) → Answer

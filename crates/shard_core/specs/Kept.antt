@@ -8,17 +8,14 @@ use Rattle.view_sums.specs.Total.{total, Each}
 use Rattle.pin_core.specs.Holding.{Holding, Key}
 use Rattle.pin_core.specs.declared.sizes.Sizes.{Sizes}
 use Rattle.pinned_pool.specs.Addresses.{address_of}
-use Rattle.pinned_pool.specs.Moves.{key_of}
+use Rattle.pinned_pool.specs.Moves.{hold_key}
 use Rattle.pinned_pool.specs.declared.view.View.{View}
 use Rattle.flake_base.specs.declared.segment.Seg.{Seg}
 use Rattle.flake_model.specs.Store.{Store}
 use Rattle.flake_model.specs.Deed.{Places}
 use Rattle.frag_value.specs.Values.{IsValue, IsFilled, keys_of, value_bytes}
 use Rattle.shard_core.specs.Keys.{is_key}
-
--- a value: its fragments, each a buffer and a length
-abbrev pub Frags : Type 0
-Frags = List (ℕ × ℕ)
+use Rattle.frag_value.specs.Values.{Frags}
 
 -- the entries of the map: keys, each with its value
 abbrev pub Entries : Type 0
@@ -36,8 +33,8 @@ abbrev pub bytes_kept : List ℕ → Entries → List Holding → Option (List �
 bytes_kept key entries holds = option_map (value_bytes holds) (value_at key entries)
 
 -- the weight of the keys of all fragments
-abbrev pub weighed : (Key → ℕ) → Entries → ℕ
-weighed weight entries = total (λ (e : Vec ℕ × Frags). total weight (keys_of e.1)) entries
+abbrev pub entries_weight : (Key → ℕ) → Entries → ℕ
+entries_weight weight entries = total (λ (e : Vec ℕ × Frags). total weight (keys_of e.1)) entries
 
 -- The holds are exactly the fragments of the map's values, and of a value that is in hand besides: no weight tells the
 -- keys of the holds from the keys that the fragments ask for. So none is pinned.
@@ -46,7 +43,7 @@ pub record AreHeld (z : Sizes) (entries : Entries) (hand : Frags) (holds : List 
   pub filled : Each (λ (e : Vec ℕ × Frags). Each (IsFilled holds) e.1) entries
   pub in_hand : Each (IsFilled holds) hand
   pub exact : (weight : Key → ℕ)
-      → total (λ (h : Holding). weight (key_of h)) holds ≡ weighed weight entries + total weight (keys_of hand)
+      → total (λ (h : Holding). weight (hold_key h)) holds ≡ entries_weight weight entries + total weight (keys_of hand)
 
 -- what a shard's seat has besides its holds: one credit, and nothing was claimed or looked at
 pub record IsPoor (own : View) : Type 0 where
@@ -58,8 +55,8 @@ pub record IsKept (z : Sizes) (entries : Entries) (own : View) : Type 0 where
   pub poor : IsPoor own
   pub held : AreHeld z entries [] own.holds
 
-abbrev pub addresses_of : Sizes → Frags → List ℕ
-addresses_of z v = map (λ (p : ℕ × ℕ). address_of z p.0) v
+abbrev pub value_addresses : Sizes → Frags → List ℕ
+value_addresses z v = map (λ (p : ℕ × ℕ). address_of z p.0) v
 
 -- the fragments as segments
 abbrev pub segs_of : Sizes → Frags → List Seg
@@ -69,7 +66,7 @@ segs_of z v = map (λ (p : ℕ × ℕ). record { address = address_of z p.0; len
 pub record Agrees (z : Sizes) (entries : Entries) (holds : List Holding) (store : Store) (places : Places)
     : Type 0 where
   pub bytes : (key : List ℕ) → option_map (value_bytes holds) (value_at key entries) ≡ finite.get store key
-  pub places_are : (key : List ℕ) → option_map (addresses_of z) (value_at key entries) ≡ finite.get places key
+  pub places_are : (key : List ℕ) → option_map (value_addresses z) (value_at key entries) ≡ finite.get places key
 
 -- all stores that agreed still do
 abbrev pub StillAgrees : Sizes → Entries → List Holding → Entries → List Holding → Type 0

@@ -6,4 +6,4 @@ pub mod Demand
 pub mod Paid
 pub mod Moved
 pub mod Done
-pub mod Shelves
+pub mod ShardMaps

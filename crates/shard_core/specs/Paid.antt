@@ -12,13 +12,14 @@ use Rattle.pinned_pool.specs.declared.pool.NoBuffer.{NoBuffer}
 use Rattle.pinned_pool.specs.declared.view.View.{View}
 use Rattle.flake_model.specs.Store.{Store, Operation, append, stored_value}
 use Rattle.flake_model.specs.Deed.{Places}
-use Rattle.frag_value.specs.Fragments.{value_limit}
+use Rattle.flake_base.specs.Limits.{value_limit}
 use Rattle.frag_value.specs.Values.{size_of}
 use Rattle.frag_value.specs.declared.error.AppendError.{AppendError}
 use Rattle.frag_value.specs.declared.error.AppendError.TheVariants as unadded
 use Rattle.frag_value.specs.declared.error.PlaceError.{PlaceError}
 use Rattle.frag_value.specs.declared.error.PlaceError.TheVariants as unplaced
-use Rattle.shard_core.specs.Kept.{Entries, Frags, Agrees}
+use Rattle.shard_core.specs.Kept.{Entries, Agrees}
+use Rattle.frag_value.specs.Values.{Frags}
 use Rattle.shard_core.specs.Demand.{part_row}
 use Rattle.shard_core.specs.declared.answer.PartAnswer.{PartAnswer}
 
@@ -40,9 +41,9 @@ pub record HasNone (z : Sizes) (operation : Operation) (none : NoBuffer) (old ne
       < buffers_in z none.class old.claims + part_row none.class operation
 
 -- why a part is refused
-abbrev pub WhyRefused : Sizes → Operation → PlaceError → View → View → Type 0
-WhyRefused z operation (unplaced.NoBuffer none) old new = HasNone z operation none old new
-WhyRefused z operation unplaced.Memory old new = Unit {0}
+abbrev pub WhyPartRefused : Sizes → Operation → PlaceError → View → View → Type 0
+WhyPartRefused z operation (unplaced.NoBuffer none) old new = HasNone z operation none old new
+WhyPartRefused z operation unplaced.Memory old new = Unit {0}
 
 -- the part was answered, and nothing was claimed or looked at for it
 pub record IsFree (result : Result PartAnswer PlaceError) (old new : View) : Type 0 where

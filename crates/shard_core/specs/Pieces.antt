@@ -5,10 +5,10 @@ use Rattle.flake_model.specs.Store.{Operation, get, set, append, del, exists, st
 use Rattle.flake_model.specs.Store.{Answer, value, missing, done, length_is, did, too_long}
 use Rattle.flake_model.specs.Store.{always, if_missing, if_present}
 use Rattle.flake_model.specs.Fragments.{fragment_limit}
-use Rattle.frag_value.specs.Taken.{Placed, Extent, entire, ranged, Piece, whole}
+use Rattle.frag_value.specs.Taken.{PlacedRun, Extent, entire, ranged, TakenPiece, whole}
 
 -- bytes that begin at this offset of the first of these fragments: a run in each fragment that they touch
-abbrev pub runs_over : Bool → List ℕ → ℕ → List ℕ → List Placed
+abbrev pub runs_over : Bool → List ℕ → ℕ → List ℕ → List PlacedRun
 runs_over over [] offset bytes = []
 runs_over over (address ∷ addresses) offset [] = []
 runs_over over (address ∷ addresses) offset (byte ∷ bytes) =
@@ -20,12 +20,12 @@ runs_over over (address ∷ addresses) offset (byte ∷ bytes) =
     } ∷ runs_over over addresses 0 (drop (fragment_limit - offset) (byte ∷ bytes))
 
 -- bytes from a place on of a value whose fragments have these addresses
-abbrev pub runs_at : Bool → List ℕ → ℕ → List ℕ → List Placed
+abbrev pub runs_at : Bool → List ℕ → ℕ → List ℕ → List PlacedRun
 runs_at over found first bytes =
     runs_over over (drop (first / fragment_limit) found) (first % fragment_limit) bytes
 
 -- what the taker has more: the bytes of the answer, at the found addresses
-abbrev pub pieces_at : Extent → Bool → Answer → List ℕ → ℕ → List Piece
+abbrev pub pieces_at : Extent → Bool → Answer → List ℕ → ℕ → List TakenPiece
 pieces_at extent over (value bytes) found first =
     whole (record { extent = extent; size = length bytes; frags = runs_at over found first bytes }) ∷ []
 pieces_at extent over missing found first = []
@@ -55,8 +55,8 @@ is_over (exists key) = false
 is_over (str_len key) = false
 is_over (get_range key first last) = false
 
-abbrev pub pieces_of : Operation → Answer → List ℕ → ℕ → List Piece
-pieces_of operation answer found first = pieces_at (extent_of operation) (is_over operation) answer found first
+abbrev pub answer_pieces : Operation → Answer → List ℕ → ℕ → List TakenPiece
+answer_pieces operation answer found first = pieces_at (extent_of operation) (is_over operation) answer found first
 
 -- the segments of n stored bytes at these addresses
 abbrev pub segs_at : List ℕ → ℕ → List Seg

@@ -3,15 +3,16 @@ ghost use Rattle.std.specs.Prelude.{◌≡◌, ◌+◌, ◌<◌, ◌≤◌, List
 ghost use Rattle.indexmap.specs.IndexMap.{index_of_by};
 ghost use Rattle.flake_model.specs.Store.{append as append_op};
 ghost use Rattle.frag_value.specs.Changes.{found_none};
-ghost use Rattle.frag_value.specs.Fragments.{value_limit, frags_limit};
-ghost use Rattle.frag_value.specs.Taken.{Piece};
+ghost use Rattle.frag_value.specs.Fragments.{frags_limit};
+ghost use Rattle.flake_base.specs.Limits.{value_limit};
+ghost use Rattle.frag_value.specs.Taken.{TakenPiece};
 ghost use Rattle.pin_core.specs.declared.class.Class.{Class};
 ghost use Rattle.shard_core.specs.Demand.{part_row};
 ghost use Rattle.shard_core.specs.Done.{Does, StandsAsBefore};
 ghost use Rattle.shard_core.specs.Keys.{is_key};
 ghost use Rattle.shard_core.specs.Kept.{IsKept, value_at};
 ghost use Rattle.shard_core.specs.Answers.{outcome_of};
-ghost use Rattle.shard_core.specs.Paid.{IsPaid, PaysToStore, WhyRefused};
+ghost use Rattle.shard_core.specs.Paid.{IsPaid, PaysToStore, WhyPartRefused};
 
 use crate::answer::PartAnswer;
 use crate::carrying::extend;
@@ -39,14 +40,14 @@ fn add_first<P: PoolName>(
     requires credits { 1 < payer.old.credits }
     requires spare { frags_limit ≤ stored.old.spare }
     ensures kept { IsKept P.sizes kept.new.values.entries kept.new.own }
-    ensures done { (t : List Piece) → Does P.sizes (append_op key.now bytes.now)
+    ensures done { (t : List TakenPiece) → Does P.sizes (append_op key.now bytes.now)
         kept.old.values.entries kept.old.own.holds kept.new.values.entries kept.new.own.holds result
         stored.old.items stored.new.items t t }
     ensures same { StandsAsBefore P.sizes kept.old.values.entries kept.old.own.holds
         kept.new.values.entries kept.new.own.holds result }
     ensures untold { OnErr result (stored.new.items ≡ stored.old.items) }
     ensures spare { stored.old.spare + length stored.old.items ≤ stored.new.spare + length stored.new.items }
-    ensures cause { IfErr result (λ e. WhyRefused P.sizes (append_op key.now bytes.now) e payer.old payer.new) }
+    ensures cause { IfErr result (λ e. WhyPartRefused P.sizes (append_op key.now bytes.now) e payer.old payer.new) }
     ensures paid { IsPaid P.sizes (λ (class : Class). part_row class (append_op key.now bytes.now)) (found_none result)
         payer.old payer.new }
     ensures pays { PaysToStore P.sizes (append_op key.now bytes.now)
@@ -88,14 +89,14 @@ fn add_more<P: PoolName>(
     requires credits { 1 < payer.old.credits }
     requires spare { frags_limit ≤ stored.old.spare }
     ensures kept { IsKept P.sizes kept.new.values.entries kept.new.own }
-    ensures done { (t : List Piece) → Does P.sizes (append_op key.now bytes.now)
+    ensures done { (t : List TakenPiece) → Does P.sizes (append_op key.now bytes.now)
         kept.old.values.entries kept.old.own.holds kept.new.values.entries kept.new.own.holds result
         stored.old.items stored.new.items t t }
     ensures same { StandsAsBefore P.sizes kept.old.values.entries kept.old.own.holds
         kept.new.values.entries kept.new.own.holds result }
     ensures untold { OnErr result (stored.new.items ≡ stored.old.items) }
     ensures spare { stored.old.spare + length stored.old.items ≤ stored.new.spare + length stored.new.items }
-    ensures cause { IfErr result (λ e. WhyRefused P.sizes (append_op key.now bytes.now) e payer.old payer.new) }
+    ensures cause { IfErr result (λ e. WhyPartRefused P.sizes (append_op key.now bytes.now) e payer.old payer.new) }
     ensures paid { IsPaid P.sizes (λ (class : Class). part_row class (append_op key.now bytes.now)) (found_none result)
         payer.old payer.new }
     ensures pays { PaysToStore P.sizes (append_op key.now bytes.now)
@@ -133,14 +134,14 @@ pub(crate) fn add<P: PoolName>(
     requires credits { 1 < payer.old.credits }
     requires spare { frags_limit ≤ stored.old.spare }
     ensures kept { IsKept P.sizes kept.new.values.entries kept.new.own }
-    ensures done { (t : List Piece) → Does P.sizes (append_op key.now bytes.now)
+    ensures done { (t : List TakenPiece) → Does P.sizes (append_op key.now bytes.now)
         kept.old.values.entries kept.old.own.holds kept.new.values.entries kept.new.own.holds result
         stored.old.items stored.new.items t t }
     ensures same { StandsAsBefore P.sizes kept.old.values.entries kept.old.own.holds
         kept.new.values.entries kept.new.own.holds result }
     ensures untold { OnErr result (stored.new.items ≡ stored.old.items) }
     ensures spare { stored.old.spare + length stored.old.items ≤ stored.new.spare + length stored.new.items }
-    ensures cause { IfErr result (λ e. WhyRefused P.sizes (append_op key.now bytes.now) e payer.old payer.new) }
+    ensures cause { IfErr result (λ e. WhyPartRefused P.sizes (append_op key.now bytes.now) e payer.old payer.new) }
     ensures paid { IsPaid P.sizes (λ (class : Class). part_row class (append_op key.now bytes.now)) (found_none result)
         payer.old payer.new }
     ensures pays { PaysToStore P.sizes (append_op key.now bytes.now)

@@ -1,12 +1,13 @@
 //! A part, done on what a shard keeps.
 ghost use Rattle.std.specs.Prelude.{◌≡◌, ◌+◌, ◌<◌, ◌≤◌, true, false, None, length, IfErr, OnErr};
 ghost use Rattle.frag_value.specs.Changes.{found_none};
-ghost use Rattle.frag_value.specs.Fragments.{value_limit, frags_limit};
+ghost use Rattle.frag_value.specs.Fragments.{frags_limit};
+ghost use Rattle.flake_base.specs.Limits.{value_limit};
 ghost use Rattle.pin_core.specs.declared.class.Class.{Class};
 ghost use Rattle.shard_core.specs.Demand.{part_row};
 ghost use Rattle.shard_core.specs.Done.{Does, StandsAsBefore, is_taking, is_ranged};
 ghost use Rattle.shard_core.specs.Kept.{IsKept};
-ghost use Rattle.shard_core.specs.Paid.{IsPaid, PaysToStore, WhyRefused};
+ghost use Rattle.shard_core.specs.Paid.{IsPaid, PaysToStore, WhyPartRefused};
 ghost use Rattle.shard_part.specs.Parts.{operation_of};
 ghost use Rattle.shard_part.specs.Settings.{setting_of};
 
@@ -48,7 +49,7 @@ fn apply_other<P: PoolName, T: Taker<P>>(
     ensures untold { OnErr result (stored.new.items ≡ stored.old.items) }
     ensures spare { stored.old.spare + length stored.old.items ≤ stored.new.spare + length stored.new.items }
     ensures untaken { OnErr result (T.taken taker.new ≡ T.taken taker.old) }
-    ensures cause { IfErr result (λ e. WhyRefused P.sizes (operation_of part.now) e payer.old payer.new) }
+    ensures cause { IfErr result (λ e. WhyPartRefused P.sizes (operation_of part.now) e payer.old payer.new) }
     ensures paid { IsPaid P.sizes (λ (class : Class). part_row class (operation_of part.now)) (found_none result)
         payer.old payer.new }
     ensures pays { PaysToStore P.sizes (operation_of part.now)
@@ -100,7 +101,7 @@ pub(crate) fn apply<P: PoolName, T: Taker<P>>(
     ensures untold { OnErr result (stored.new.items ≡ stored.old.items) }
     ensures spare { stored.old.spare + length stored.old.items ≤ stored.new.spare + length stored.new.items }
     ensures untaken { OnErr result (T.taken taker.new ≡ T.taken taker.old) }
-    ensures cause { IfErr result (λ e. WhyRefused P.sizes (operation_of part.now) e payer.old payer.new) }
+    ensures cause { IfErr result (λ e. WhyPartRefused P.sizes (operation_of part.now) e payer.old payer.new) }
     ensures paid { IsPaid P.sizes (λ (class : Class). part_row class (operation_of part.now)) (found_none result)
         payer.old payer.new }
     ensures pays { PaysToStore P.sizes (operation_of part.now)

@@ -3,7 +3,7 @@ ghost use Rattle.std.specs.Prelude.{◌≡◌, ◌<◌, [], length, IfOk, IfErr}
 ghost use Rattle.view_sums.specs.Total.{Each};
 ghost use Rattle.frag_value.specs.Changes.{found_none_behind};
 ghost use Rattle.frag_value.specs.Values.{HasValue, IsFilled, IsValue, keys_of, value_bytes};
-ghost use Rattle.pinned_pool.specs.Moves.{taken_by, losing, gaining};
+ghost use Rattle.pinned_pool.specs.Moves.{holds_for, losing, gaining};
 ghost use Rattle.flake_model.specs.Store.{append as append_op};
 ghost use Rattle.pin_core.specs.declared.class.Class.{Class};
 ghost use Rattle.shard_core.specs.Demand.{part_row};
@@ -24,7 +24,7 @@ fn bring_out<P: PoolName>(
     requires value { HasValue own.old.holds value.now }
     requires credits { 1 < payer.old.credits }
     ensures own { own.new ≡ losing (keys_of value.now) own.old }
-    ensures payer { payer.new ≡ gaining (taken_by (keys_of value.now) own.old.holds) payer.old }
+    ensures payer { payer.new ≡ gaining (holds_for (keys_of value.now) own.old.holds) payer.old }
     ensures value { HasValue payer.new.holds value.now }
     ensures bytes { value_bytes payer.new.holds value.now ≡ value_bytes own.old.holds value.now }
 {
@@ -42,7 +42,7 @@ fn bring_back<P: PoolName>(
 )
     requires value { HasValue payer.old.holds value.now }
     requires credits { 1 < payer.old.credits }
-    ensures own { own.new ≡ gaining (taken_by (keys_of value.now) payer.old.holds) own.old }
+    ensures own { own.new ≡ gaining (holds_for (keys_of value.now) payer.old.holds) own.old }
     ensures payer { payer.new ≡ losing (keys_of value.now) payer.old }
     ensures filled { Each (IsFilled own.new.holds) value.now }
     ensures bytes { value_bytes own.new.holds value.now ≡ value_bytes payer.old.holds value.now }

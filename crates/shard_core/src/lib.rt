@@ -11,8 +11,8 @@ mod kept;
 mod placing;
 mod reading;
 mod setting;
-mod shelf;
+mod shard_map;
 mod showing;
 
 pub use answer::PartAnswer;
-pub use shelf::Shelf;
+pub use shard_map::ShardMap;

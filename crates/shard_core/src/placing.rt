@@ -1,12 +1,13 @@
 //! A value goes from bytes to a shard.
 ghost use Rattle.std.specs.Prelude.{◌≡◌, ◌+◌, ◌<◌, ◌≤◌, ◌++◌, None, Some, length, IfOk, IfErr, OnOk, OnErr};
 ghost use Rattle.indexmap.specs.IndexMap.{index_of_by};
-ghost use Rattle.frag_value.specs.Fragments.{value_limit, frags_limit, fragments_of, fragments_in};
+ghost use Rattle.frag_value.specs.Fragments.{frags_limit, stored_fragments, fragments_in};
+ghost use Rattle.flake_base.specs.Limits.{value_limit};
 ghost use Rattle.frag_value.specs.Changes.{WhyUnplaced, found_none};
 ghost use Rattle.pin_core.specs.declared.class.Class.{Class};
 ghost use Rattle.shard_core.specs.Keys.{is_key};
 ghost use Rattle.shard_core.specs.Kept.{IsKept, value_at, IsAsBefore};
-ghost use Rattle.shard_core.specs.Moved.{IsBrought, IsPlaced};
+ghost use Rattle.shard_core.specs.Moved.{IsBrought, BytesWerePut};
 ghost use Rattle.shard_core.specs.Paid.{IsPaid};
 
 use crate::kept::{Kept, exchange, insert};
@@ -28,8 +29,9 @@ pub(crate) fn bring<P: PoolName>(
     requires credits { 1 < payer.old.credits }
     ensures brought { IfOk result (λ v. IsBrought P.sizes bytes.now v own.old own.new) }
     ensures refused { OnErr result (own.new ≡ own.old) }
-    ensures cause { IfErr result (λ e. WhyUnplaced P.sizes (fragments_of bytes.now) e payer.old payer.new) }
-    ensures paid { IsPaid P.sizes (λ (class : Class). fragments_in class (fragments_of bytes.now)) (found_none result)
+    ensures cause { IfErr result (λ e. WhyUnplaced P.sizes (stored_fragments bytes.now) e payer.old payer.new) }
+    ensures paid { IsPaid P.sizes (λ (class : Class). fragments_in class (stored_fragments bytes.now))
+        (found_none result)
         payer.old payer.new }
 {
     let value = write(alloc, pool, payer, bytes)?;
@@ -56,14 +58,15 @@ fn place_over<P: PoolName>(
     requires few { length bytes.now ≤ value_limit }
     requires credits { 1 < payer.old.credits }
     requires spare { frags_limit ≤ stored.old.spare }
-    ensures placed { IfOk result (λ old. IsPlaced P.sizes key.now bytes.now
+    ensures placed { IfOk result (λ old. BytesWerePut P.sizes key.now bytes.now
         kept.old.values.entries kept.new.values.entries kept.old.own kept.new.own (Some old)
         stored.old.items stored.new.items) }
     ensures refused { OnErr result (IsAsBefore kept.old.values.entries kept.new.values.entries kept.old.own kept.new.own
         stored.old.items stored.new.items) }
     ensures spare { stored.old.spare + length stored.old.items ≤ stored.new.spare + length stored.new.items }
-    ensures cause { IfErr result (λ e. WhyUnplaced P.sizes (fragments_of bytes.now) e payer.old payer.new) }
-    ensures paid { IsPaid P.sizes (λ (class : Class). fragments_in class (fragments_of bytes.now)) (found_none result)
+    ensures cause { IfErr result (λ e. WhyUnplaced P.sizes (stored_fragments bytes.now) e payer.old payer.new) }
+    ensures paid { IsPaid P.sizes (λ (class : Class). fragments_in class (stored_fragments bytes.now))
+        (found_none result)
         payer.old payer.new }
 {
     let value = bring(alloc, pool, &mut kept.own, payer, bytes)?;
@@ -86,14 +89,15 @@ pub(crate) fn place_first<P: PoolName>(
     requires few { length bytes.now ≤ value_limit }
     requires credits { 1 < payer.old.credits }
     requires spare { frags_limit ≤ stored.old.spare }
-    ensures placed { OnOk result (IsPlaced P.sizes key.now bytes.now
+    ensures placed { OnOk result (BytesWerePut P.sizes key.now bytes.now
         kept.old.values.entries kept.new.values.entries kept.old.own kept.new.own None
         stored.old.items stored.new.items) }
     ensures refused { OnErr result (IsAsBefore kept.old.values.entries kept.new.values.entries kept.old.own kept.new.own
         stored.old.items stored.new.items) }
     ensures spare { stored.old.spare + length stored.old.items ≤ stored.new.spare + length stored.new.items }
-    ensures cause { IfErr result (λ e. WhyUnplaced P.sizes (fragments_of bytes.now) e payer.old payer.new) }
-    ensures paid { IsPaid P.sizes (λ (class : Class). fragments_in class (fragments_of bytes.now)) (found_none result)
+    ensures cause { IfErr result (λ e. WhyUnplaced P.sizes (stored_fragments bytes.now) e payer.old payer.new) }
+    ensures paid { IsPaid P.sizes (λ (class : Class). fragments_in class (stored_fragments bytes.now))
+        (found_none result)
         payer.old payer.new }
 {
     let Ok(name) = Vec::from_slice(alloc, key) else {
@@ -124,14 +128,15 @@ pub(crate) fn place<P: PoolName>(
     requires few { length bytes.now ≤ value_limit }
     requires credits { 1 < payer.old.credits }
     requires spare { frags_limit ≤ stored.old.spare }
-    ensures placed { IfOk result (λ old. IsPlaced P.sizes key.now bytes.now
+    ensures placed { IfOk result (λ old. BytesWerePut P.sizes key.now bytes.now
         kept.old.values.entries kept.new.values.entries kept.old.own kept.new.own old
         stored.old.items stored.new.items) }
     ensures refused { OnErr result (IsAsBefore kept.old.values.entries kept.new.values.entries kept.old.own kept.new.own
         stored.old.items stored.new.items) }
     ensures spare { stored.old.spare + length stored.old.items ≤ stored.new.spare + length stored.new.items }
-    ensures cause { IfErr result (λ e. WhyUnplaced P.sizes (fragments_of bytes.now) e payer.old payer.new) }
-    ensures paid { IsPaid P.sizes (λ (class : Class). fragments_in class (fragments_of bytes.now)) (found_none result)
+    ensures cause { IfErr result (λ e. WhyUnplaced P.sizes (stored_fragments bytes.now) e payer.old payer.new) }
+    ensures paid { IsPaid P.sizes (λ (class : Class). fragments_in class (stored_fragments bytes.now))
+        (found_none result)
         payer.old payer.new }
 {
     match found {

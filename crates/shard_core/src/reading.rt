@@ -9,7 +9,7 @@ ghost use Rattle.frag_value.specs.Taken.{entire, ranged};
 ghost use Rattle.shard_core.specs.Keys.{is_key};
 ghost use Rattle.shard_core.specs.Kept.{IsKept, Agrees, StillAgrees};
 ghost use Rattle.shard_core.specs.Pieces.{pieces_at};
-ghost use Rattle.shard_core.specs.Answers.{shown};
+ghost use Rattle.shard_core.specs.Answers.{answer_shown};
 
 use crate::answer::PartAnswer;
 use crate::kept::{Kept, value_in};
@@ -34,7 +34,7 @@ pub(crate) fn get<P: PoolName, T: Taker<P>>(
     ensures agrees { let hs = kept.old.own.holds in let now = kept.new.own.holds in
         StillAgrees P.sizes kept.old.values.entries hs kept.new.values.entries now }
     ensures says { (s : Store) (p : Places) → Agrees P.sizes kept.old.values.entries kept.old.own.holds s p
-        → result ≡ shown (answer_found (finite.get s key.now)) }
+        → result ≡ answer_shown (answer_found (finite.get s key.now)) }
     ensures taken { (s : Store) (p : Places) → Agrees P.sizes kept.old.values.entries kept.old.own.holds s p
         → T.taken taker.new ≡ T.taken taker.old
         ++ pieces_at entire false (answer_found (finite.get s key.now)) (places_at p key.now) 0 }

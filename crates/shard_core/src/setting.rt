@@ -5,7 +5,8 @@ ghost use Rattle.indexmap.specs.IndexMap.{index_of_by};
 ghost use Rattle.flake_model.specs.Store.{Store, stores};
 ghost use Rattle.flake_model.specs.Deed.{Places};
 ghost use Rattle.frag_value.specs.Changes.{WhyUnplaced, found_none};
-ghost use Rattle.frag_value.specs.Fragments.{value_limit, frags_limit, fragments_of, fragments_in};
+ghost use Rattle.frag_value.specs.Fragments.{frags_limit, stored_fragments, fragments_in};
+ghost use Rattle.flake_base.specs.Limits.{value_limit};
 ghost use Rattle.pin_core.specs.declared.class.Class.{Class};
 ghost use Rattle.shard_core.specs.Done.{Does};
 ghost use Rattle.shard_core.specs.Keys.{is_key};
@@ -57,8 +58,9 @@ fn store<P: PoolName, T: Taker<P>>(
         stored.old.items stored.new.items) }
     ensures untaken { OnErr result (T.taken taker.new ≡ T.taken taker.old) }
     ensures spare { stored.old.spare + length stored.old.items ≤ stored.new.spare + length stored.new.items }
-    ensures cause { IfErr result (λ e. WhyUnplaced P.sizes (fragments_of bytes.now) e payer.old payer.new) }
-    ensures paid { IsPaid P.sizes (λ (class : Class). fragments_in class (fragments_of bytes.now)) (found_none result)
+    ensures cause { IfErr result (λ e. WhyUnplaced P.sizes (stored_fragments bytes.now) e payer.old payer.new) }
+    ensures paid { IsPaid P.sizes (λ (class : Class). fragments_in class (stored_fragments bytes.now))
+        (found_none result)
         payer.old payer.new }
 {
     let old = place(alloc, pool, kept, payer, key, found, bytes, stored)?;
@@ -115,8 +117,9 @@ pub(crate) fn set<P: PoolName, T: Taker<P>>(
         stored.old.items stored.new.items) }
     ensures untaken { OnErr result (T.taken taker.new ≡ T.taken taker.old) }
     ensures spare { stored.old.spare + length stored.old.items ≤ stored.new.spare + length stored.new.items }
-    ensures cause { IfErr result (λ e. WhyUnplaced P.sizes (fragments_of bytes.now) e payer.old payer.new) }
-    ensures paid { IsPaid P.sizes (λ (class : Class). fragments_in class (fragments_of bytes.now)) (found_none result)
+    ensures cause { IfErr result (λ e. WhyUnplaced P.sizes (stored_fragments bytes.now) e payer.old payer.new) }
+    ensures paid { IsPaid P.sizes (λ (class : Class). fragments_in class (stored_fragments bytes.now))
+        (found_none result)
         payer.old payer.new }
     ensures pays { PaysToStore P.sizes (set_by setting key.now bytes.now)
         kept.old.values.entries kept.old.own.holds result payer.old payer.new }

@@ -7,15 +7,17 @@ use Rattle.flake_model.specs.Store.{Operation, Answer, key_of, answer, first_at}
 use Rattle.flake_model.specs.Deed.{Deed, entries_of, IsLegal, final_store, final_places, places_at, found_at}
 use Rattle.order_book.specs.Pages.{ShardList}
 use Rattle.shard_core.specs.Kept.{Agrees}
-use Rattle.shard_core.specs.Shelves.{ShelfView}
+use Rattle.shard_core.specs.ShardMaps.{ShardMapView}
 
--- The seat of the book has the lock's number. Its deeds are legal, the journal is their entries, and the shelf has the
+-- The seat of the book has the lock's number. Its deeds are legal, the journal is their entries, and the shard map has
+-- the
 -- values that they leave, at the places that they leave.
-pub record IsShard (z : Sizes) (number : ℕ) (shelf : ShelfView) (list : ShardList) (journal : List Entry) : Type 0 where
+pub record IsShard (z : Sizes) (number : ℕ) (shard_map : ShardMapView) (list : ShardList) (journal : List Entry) : Type
+    0 where
   pub number_is : list.number ≡ number
   pub journal_is : journal ≡ entries_of list.told
   pub legal : IsLegal list.told
-  pub agrees : Agrees z shelf.entries shelf.seat.holds (final_store list.told) (final_places list.told)
+  pub agrees : Agrees z shard_map.entries shard_map.seat.holds (final_store list.told) (final_places list.told)
 
 -- what a part answers after these deeds, where the value lies that it answers from, and the place in it of the first
 -- byte that it answers
@@ -29,5 +31,5 @@ found_after deeds operation =
 abbrev pub first_after : List Deed → Operation → ℕ
 first_after deeds operation = first_at (final_store deeds) operation
 
-abbrev pub addresses_in : List Seg → List ℕ
-addresses_in segs = map (λ (seg : Seg). seg.address) segs
+abbrev pub segment_addresses : List Seg → List ℕ
+segment_addresses segs = map (λ (seg : Seg). seg.address) segs

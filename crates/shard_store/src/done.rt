@@ -15,7 +15,7 @@ pub(crate) struct DonePart<'a, N: BookName> {
 
 impl<N: BookName> Deed for DonePart<'_, N> {
     ghost use Rattle.shard_part.specs.Parts.{operation_of};
-    ghost use Rattle.shard_store.specs.Shards.{answer_after, found_after, first_after, addresses_in};
+    ghost use Rattle.shard_store.specs.Shards.{answer_after, found_after, first_after, segment_addresses};
 
     ghost at = { λ d. d.at };
 
@@ -27,7 +27,7 @@ impl<N: BookName> Deed for DonePart<'_, N> {
 
     ghost first = { λ d. first_after d.history.value.told (operation_of d.part) };
 
-    ghost stored = { λ d. addresses_in d.stored.now };
+    ghost stored = { λ d. segment_addresses d.stored.now };
 
     fn entry(&self) -> Entry {
         self.at

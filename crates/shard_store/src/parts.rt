@@ -2,7 +2,7 @@
 ghost use Rattle.std.specs.Prelude.{◌≡◌, ◌+◌, ◌<◌, ◌≤◌, nat_lt, is_some, []};
 ghost use Rattle.call_model.specs.Stock.{AreParts};
 ghost use Rattle.shard_store.specs.Gathered.{AreTaken};
-ghost use Rattle.shard_store.specs.Journals.{histories};
+ghost use Rattle.flake_base.specs.Histories.{histories};
 
 use crate::shard::Shard;
 use flake_base::{Journal, Sequence};
@@ -40,11 +40,11 @@ pub(crate) fn first_lock<N: BookName, P: PoolName>(
     let _ = shards;
     let Some(lock) = lock else { unreachable!() };
     let Shard {
-        shelf,
+        shard_map,
         seat: book,
         journal: history,
     } = lock.into_inner();
-    shelf.is_shelf();
+    shard_map.is_shard_map();
     let Room {
         mut journal,
         mut books,
@@ -57,7 +57,7 @@ pub(crate) fn first_lock<N: BookName, P: PoolName>(
     };
     Parts {
         journal,
-        seat: shelf.into_seat(),
+        seat: shard_map.into_seat(),
         books,
     }
 }
@@ -76,12 +76,12 @@ pub(crate) fn take_lock<N: BookName, P: PoolName, const I: u16>(
     let _ = shards;
     if let Some(lock) = lock {
         let Shard {
-            shelf,
+            shard_map,
             seat: book,
             journal: history,
         } = lock.into_inner();
-        shelf.is_shelf();
-        pool.join(&mut parts.seat, shelf.into_seat());
+        shard_map.is_shard_map();
+        pool.join(&mut parts.seat, shard_map.into_seat());
         parts.seat.is_seat();
         let Ok(()) = parts.journal.push(Sequence::from_vec(history)) else {
             unreachable!()

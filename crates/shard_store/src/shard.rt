@@ -1,28 +1,29 @@
 //! What stands behind a shard's lock.
 ghost use Rattle.std.specs.Prelude.{◌≡◌, ◌+◌, ◌<◌, ◌≤◌, true, false, None, length, IfOk, OnErr};
 ghost use Rattle.flake_model.specs.Journal.{shard_of as shard_of_key};
-ghost use Rattle.frag_value.specs.Fragments.{value_limit, frags_limit};
+ghost use Rattle.frag_value.specs.Fragments.{frags_limit};
+ghost use Rattle.flake_base.specs.Limits.{value_limit};
 ghost use Rattle.order_book.specs.Pages.{new_shard};
 ghost use Rattle.shard_core.specs.Done.{is_taking, is_ranged};
-ghost use Rattle.shard_core.specs.Shelves.{IsBare};
+ghost use Rattle.shard_core.specs.ShardMaps.{IsBare};
 ghost use Rattle.shard_part.specs.Parts.{operation_of};
-ghost use Rattle.call_model.specs.Parts.{IsTold, IsUntold, KeepsSeat};
+ghost use Rattle.call_model.specs.Parts.{PartShows, IsUntold, KeepsSeat};
 
 use crate::done::DonePart;
 use flake_base::{Entry, Memory, Segs};
 use frag_value::{PlaceError, Taker};
 use order_book::{Book, BookName, SessionSeat, ShardSeat};
 use pinned_pool::{Pool, PoolName, PoolSeat};
-use shard_core::{PartAnswer, Shelf};
+use shard_core::{PartAnswer, ShardMap};
 use shard_part::Part;
 use std::alloc::Global;
 use std::marker::Model;
 use std::snapshot::Snapshot;
 
-/// A shelf of values, and the history that led to them. Contracts see the shard's number and its deeds.
+/// A shard map of values, and the history that led to them. Contracts see the shard's number and its deeds.
 #[derive(Drop)]
 pub(crate) struct Shard<N: BookName, P: PoolName, const I: u16> {
-    pub(crate) shelf: Shelf<P>,
+    pub(crate) shard_map: ShardMap<P>,
     pub(crate) seat: ShardSeat<N>,
     pub(crate) journal: Vec<Entry>,
 }
@@ -35,7 +36,7 @@ impl<N: BookName, P: PoolName, const I: u16> Model for Shard<N, P, I> {
 
     ghost view = { λ s. s.seat };
 
-    ghost invariant = { λ s. IsShard P.sizes I s.shelf s.seat s.journal.items };
+    ghost invariant = { λ s. IsShard P.sizes I s.shard_map s.seat s.journal.items };
 }
 
 impl<N: BookName, P: PoolName, const I: u16> Shard<N, P, I> {
@@ -45,7 +46,7 @@ impl<N: BookName, P: PoolName, const I: u16> Shard<N, P, I> {
         ensures { result ≡ seat }
     {
         Shard {
-            shelf: Shelf::new(alloc, own),
+            shard_map: ShardMap::new(alloc, own),
             seat,
             journal: Vec::new(alloc),
         }
@@ -72,7 +73,7 @@ impl<N: BookName, P: PoolName, const I: u16> Shard<N, P, I> {
         requires room { is_taking (operation_of part.now) ≡ true → 0 < T.room taker.old }
         requires range_room { is_ranged (operation_of part.now) ≡ true → 0 < T.range_room taker.old }
         requires none { T.begun taker.old ≡ None }
-        ensures told { IfOk result (λ said. IsTold P.sizes N.sizes.shards at (operation_of part.now) said
+        ensures told { IfOk result (λ said. PartShows P.sizes N.sizes.shards at (operation_of part.now) said
             mine.old mine.new payer.old payer.new stored.old.items stored.new.items
             (T.taken taker.old) (T.taken taker.new)) }
         ensures untold { OnErr result (IsUntold P.sizes (operation_of part.now)
@@ -89,11 +90,14 @@ impl<N: BookName, P: PoolName, const I: u16> Shard<N, P, I> {
             ≤ T.range_room taker.new + length (T.taken taker.new) }
     {
         self.journal.reserve(1)?;
-        self.shelf.is_shelf();
+        self.shard_map.is_shard_map();
         let from = stored.len();
-        match self.shelf.apply(alloc, pool, payer, part, taker, stored) {
+        match self
+            .shard_map
+            .apply(alloc, pool, payer, part, taker, stored)
+        {
             Ok(answer) => {
-                self.shelf.is_shelf();
+                self.shard_map.is_shard_map();
                 let deed = DonePart {
                     at,
                     part: *part,

@@ -3,14 +3,15 @@ ghost use Rattle.std.specs.Prelude.{◌≡◌, ◌+◌, ◌<◌, ◌≤◌, true
 ghost use Rattle.std.specs.Prelude.{IfOk, IfErr, OnErr};
 ghost use Rattle.view_sums.specs.Total.{Each};
 ghost use Rattle.flake_model.specs.Journal.{shard_of as shard_of_key};
-ghost use Rattle.frag_value.specs.Fragments.{value_limit, frags_limit};
+ghost use Rattle.frag_value.specs.Fragments.{frags_limit};
+ghost use Rattle.flake_base.specs.Limits.{value_limit};
 ghost use Rattle.order_book.specs.Pages.{new_shards};
 ghost use Rattle.shard_core.specs.Done.{is_taking, is_ranged};
-ghost use Rattle.shard_core.specs.Shelves.{IsBare};
+ghost use Rattle.shard_core.specs.ShardMaps.{IsBare};
 ghost use Rattle.shard_part.specs.Parts.{operation_of};
-ghost use Rattle.call_model.specs.Parts.{IsTold, IsUntold, KeepsSeat};
+ghost use Rattle.call_model.specs.Parts.{PartShows, IsUntold, KeepsSeat};
 ghost use Rattle.call_model.specs.Stock.{AreParts};
-ghost use Rattle.shard_store.specs.Journals.{histories};
+ghost use Rattle.flake_base.specs.Histories.{histories};
 
 use crate::locks::{open_lock, run_in};
 use crate::parts::{Parts, Room, all_taken, first_lock, take_lock};
@@ -157,7 +158,7 @@ impl<N: BookName, P: PoolName> Store<N, P> {
         requires room { is_taking (operation_of part.now) ≡ true → 0 < T.room taker.old }
         requires range_room { is_ranged (operation_of part.now) ≡ true → 0 < T.range_room taker.old }
         requires none { T.begun taker.old ≡ None }
-        ensures told { IfOk result (λ said. IsTold P.sizes N.sizes.shards at (operation_of part.now) said
+        ensures told { IfOk result (λ said. PartShows P.sizes N.sizes.shards at (operation_of part.now) said
             mine.old mine.new seat.old seat.new stored.old.items stored.new.items
             (T.taken taker.old) (T.taken taker.new)) }
         ensures untold { OnErr result (IsUntold P.sizes (operation_of part.now)

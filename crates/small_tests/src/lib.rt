@@ -4,6 +4,8 @@
 #[cfg(test)]
 mod descriptors;
 #[cfg(test)]
+mod keys;
+#[cfg(test)]
 mod lines;
 #[cfg(test)]
 mod needs;

@@ -1,7 +1,7 @@
 mod asking;
-mod house;
 mod looks;
 mod passes;
 mod replies;
+mod resources;
 mod rows;
 mod tight;

@@ -1,8 +1,8 @@
 ghost use Rattle.std.specs.Prelude.{◌≡◌, ◌+◌, ◌*◌, ◌<◌, ◌≤◌, [], true, false};
 ghost use Rattle.std.specs.Prelude.{length, take, drop, vec_capacity, IfOk};
 ghost use Rattle.pinned_pool.specs.Addresses.{address_of};
-ghost use Rattle.pinned_pool.specs.Bytes.{bytes_of};
-ghost use Rattle.pinned_pool.specs.Moves.{times, front_of};
+ghost use Rattle.pinned_pool.specs.Bytes.{bytes_of_words};
+ghost use Rattle.pinned_pool.specs.Moves.{meant_count, front_of};
 
 use flake_base::Memory;
 use frag_value::{Frag, Taker, Value};
@@ -50,7 +50,7 @@ impl Copier {
 
 // A run's length, which no buffer is shorter than.
 fn len_of<N: PoolName>(owner: &PoolSeat<N>, frag: &Frag<N>, from: u32, len: u32) -> usize
-    requires held { 0 < times frag.now.hold owner.now.holds }
+    requires held { 0 < meant_count frag.now.hold owner.now.holds }
     requires filled { (from + len ≤ frag.now.len)
         × (frag.now.len ≤ 8 * length (front_of frag.now.hold.buffer owner.now.holds)) }
     ensures len { result ≡ len }
@@ -69,14 +69,14 @@ fn copy<N: PoolName>(
     from: u32,
     len: u32,
 ) -> Copied
-    requires held { 0 < times frag.now.hold owner.old.holds }
+    requires held { 0 < meant_count frag.now.hold owner.old.holds }
     requires filled { (from + len ≤ frag.now.len)
         × (frag.now.len ≤ 8 * length (front_of frag.now.hold.buffer owner.old.holds)) }
     ensures owner { owner.new ≡ owner.old }
     ensures place { (result.address ≡ address_of N.sizes frag.now.hold.buffer)
         × (result.offset ≡ from) × (result.over ≡ false) }
     ensures bytes { take result.len result.bytes
-        ≡ take len (drop from (bytes_of (front_of frag.now.hold.buffer owner.old.holds))) }
+        ≡ take len (drop from (bytes_of_words (front_of frag.now.hold.buffer owner.old.holds))) }
 {
     let len = len_of(owner, frag, from, len);
     let buffer = frag.hold.buffer();

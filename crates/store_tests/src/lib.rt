@@ -8,6 +8,6 @@ mod copier;
 #[cfg(test)]
 mod seats;
 #[cfg(test)]
-mod shelves;
+mod shard_maps;
 #[cfg(test)]
 mod stores;

@@ -1,6 +1,6 @@
 ghost use Rattle.std.specs.Prelude.{◌≡◌, ◌+◌, ◌<◌, length, IfOk};
 ghost use Rattle.view_sums.specs.Total.{Each};
-ghost use Rattle.shard_core.specs.Shelves.{IsBare};
+ghost use Rattle.shard_core.specs.ShardMaps.{IsBare};
 
 use flake_base::Memory;
 use pinned_pool::{Pool, PoolName, PoolSeat, PoolSeats};

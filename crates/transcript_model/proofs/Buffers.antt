@@ -1,5 +1,6 @@
 -- Which addresses are those of a pool's buffers, by arithmetic.
-use Rattle.std.proofs.Common.{◌≡◌, ℕ, ◌+◌, ◌-◌, ◌*◌, ◌<◌, ◌≤◌, Bool, true, false, List, [], ◌∷◌, refl, ap, sym, ◌∙◌, arith, nat_lt, nat_le}
+use Rattle.std.proofs.Common.{◌≡◌, ℕ, ◌+◌, ◌-◌, ◌*◌, ◌<◌, ◌≤◌, Bool, true, false, List, [], ◌∷◌, refl, ap, sym, ◌∙◌}
+use Rattle.std.proofs.Common.{arith, nat_lt, nat_le}
 use Rattle.std.specs.Prelude.{if◌then◌else◌}
 use Rattle.std.specs.List.{AllByRecursion}
 use Rattle.view_sums.specs.Total.{Each}
@@ -49,7 +50,9 @@ in_small sizes seg short is =
     record {
       buffer = is.number;
       near = omega (arith, is.below);
-      address_is = is.is ∙ ap (λ (b : Bool). 1048576 + (if b then 512 * is.number else 512 * sizes.small + 4096 * (is.number - sizes.small))) (sym near);
+      address_is = is.is ∙ ap
+          (λ (b : Bool). 1048576
+          + (if b then 512 * is.number else 512 * sizes.small + 4096 * (is.number - sizes.small))) (sym near);
       class_is = ap (λ (b : Bool). if b then Small else Large) near ∙ class_is seg.len false (is_short seg.len short);
     }
 
@@ -62,32 +65,41 @@ in_large sizes seg long is =
       buffer = number;
       near = omega (arith, is.below);
       address_is = is.is ∙ omega (arith, behind)
-          ∙ ap (λ (b : Bool). 1048576 + (if b then 512 * number else 512 * sizes.small + 4096 * (number - sizes.small))) (sym far);
+          ∙ ap (λ (b : Bool). 1048576 + (if b then 512 * number else 512 * sizes.small + 4096 * (number - sizes.small)))
+          (sym far);
       class_is = ap (λ (b : Bool). if b then Small else Large) far ∙ class_is seg.len true (is_long seg.len long);
     }
 
 pub in_buffer : (sizes : Sizes) (seg : Seg) → IsBuffer sizes seg → IsInBuffer sizes seg
 in_buffer sizes seg is = by_length (nat_le seg.len 512) refl is
   where
-    by_length : (b : Bool) → nat_le seg.len 512 ≡ b → elim b as (λ _. Type 0) [ true ↦ IsSmall sizes seg.address | false ↦ IsLarge sizes seg.address ] → IsInBuffer sizes seg
+    by_length : (b : Bool) → nat_le seg.len 512 ≡ b
+        → elim b as (λ _. Type 0) [ true ↦ IsSmall sizes seg.address | false ↦ IsLarge sizes seg.address ]
+        → IsInBuffer sizes seg
     by_length true short at = in_small sizes seg short at
     by_length false long at = in_large sizes seg long at
 
 -- and back
-from_small : (sizes : Sizes) (seg : Seg) (is : IsInBuffer sizes seg) → nat_lt is.buffer sizes.small ≡ true → IsSmall sizes seg.address
+from_small : (sizes : Sizes) (seg : Seg) (is : IsInBuffer sizes seg) → nat_lt is.buffer sizes.small ≡ true
+    → IsSmall sizes seg.address
 from_small sizes seg is near = record {
   number = is.buffer;
   below = grind arith;
-  is = is.address_is ∙ ap (λ (b : Bool). 1048576 + (if b then 512 * is.buffer else 512 * sizes.small + 4096 * (is.buffer - sizes.small))) near;
+  is = is.address_is ∙ ap
+      (λ (b : Bool). 1048576 + (if b then 512 * is.buffer else 512 * sizes.small + 4096 * (is.buffer - sizes.small)))
+      near;
 }
 
-from_large : (sizes : Sizes) (seg : Seg) (is : IsInBuffer sizes seg) → nat_lt is.buffer sizes.small ≡ false → IsLarge sizes seg.address
+from_large : (sizes : Sizes) (seg : Seg) (is : IsInBuffer sizes seg) → nat_lt is.buffer sizes.small ≡ false
+    → IsLarge sizes seg.address
 from_large sizes seg is far =
     let above : sizes.small ≤ is.buffer = grind arith in
     record {
       number = is.buffer - sizes.small;
       below = omega (arith, is.near, above);
-      is = is.address_is ∙ ap (λ (b : Bool). 1048576 + (if b then 512 * is.buffer else 512 * sizes.small + 4096 * (is.buffer - sizes.small))) far ∙ omega arith;
+      is = is.address_is ∙ ap
+          (λ (b : Bool). 1048576
+          + (if b then 512 * is.buffer else 512 * sizes.small + 4096 * (is.buffer - sizes.small))) far ∙ omega arith;
     }
 
 other_class : (a b : Bool) → (if a then Small else Large) ≡ (if b then Large else Small) → a ≡ b → ⊥
@@ -99,14 +111,19 @@ other_class false false is same = cc
 pub from_buffer : (sizes : Sizes) (seg : Seg) → IsInBuffer sizes seg → IsBuffer sizes seg
 from_buffer sizes seg is = by_length (nat_le seg.len 512) refl
   where
-    by_length : (b : Bool) → nat_le seg.len 512 ≡ b → elim b as (λ _. Type 0) [ true ↦ IsSmall sizes seg.address | false ↦ IsLarge sizes seg.address ]
+    by_length : (b : Bool) → nat_le seg.len 512 ≡ b
+        → elim b as (λ _. Type 0) [ true ↦ IsSmall sizes seg.address | false ↦ IsLarge sizes seg.address ]
     by_length true short = at (nat_lt is.buffer sizes.small) refl where
       at : (near : Bool) → nat_lt is.buffer sizes.small ≡ near → IsSmall sizes seg.address
       at true near = from_small sizes seg is near
-      at false near = absurd (other_class (nat_lt is.buffer sizes.small) (nat_lt 512 seg.len) is.class_is (near ∙ sym (is_short seg.len short)))
+      at false near = absurd
+          (other_class (nat_lt is.buffer sizes.small) (nat_lt 512 seg.len) is.class_is
+          (near ∙ sym (is_short seg.len short)))
     by_length false long = at (nat_lt is.buffer sizes.small) refl where
       at : (near : Bool) → nat_lt is.buffer sizes.small ≡ near → IsLarge sizes seg.address
-      at true near = absurd (other_class (nat_lt is.buffer sizes.small) (nat_lt 512 seg.len) is.class_is (near ∙ sym (is_long seg.len long)))
+      at true near = absurd
+          (other_class (nat_lt is.buffer sizes.small) (nat_lt 512 seg.len) is.class_is
+          (near ∙ sym (is_long seg.len long)))
       at false near = from_large sizes seg is near
 
 pub all_in : (sizes : Sizes) (segs : List Seg) → AllByRecursion (IsBuffer sizes) segs → Each (IsInBuffer sizes) segs

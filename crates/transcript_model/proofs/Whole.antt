@@ -1,5 +1,6 @@
 -- The transcript of two sessions is whole.
-use Rattle.std.proofs.Common.{◌≡◌, ℕ, zero, suc, ◌+◌, ◌*◌, ◌<◌, ◌≤◌, Bool, true, false, cond, List, [], ◌∷◌, slice_get, Option, None, Some, refl, ap, sym, ◌∙◌, subst, arith, lit≤}
+use Rattle.std.proofs.Common.{◌≡◌, ℕ, zero, suc, ◌+◌, ◌*◌, ◌<◌, ◌≤◌, Bool, true, false, cond, List, [], ◌∷◌, slice_get}
+use Rattle.std.proofs.Common.{Option, None, Some, refl, ap, sym, ◌∙◌, subst, arith, lit≤}
 use Rattle.std.specs.Prelude.{codes, unwrap_or, slice_index}
 use Rattle.std.specs.Fmt.{digits}
 use Rattle.std.specs.Ordering.{nat_cmp, eq_by_cmp}
@@ -17,12 +18,14 @@ use Rattle.view_sums.specs.Total.{Each}
 use Rattle.flake_base.specs.Growth.{Grew}
 use Rattle.reply_planner.specs.Stages.{IsAbove, IsRising}
 use Rattle.transcript_model.specs.Terms.{Terms}
-use Rattle.transcript_model.specs.Standing.{fresh}
+use Rattle.transcript_model.specs.Standing.{at_first}
 use Rattle.transcript_model.specs.Worked.{default_sizes}
-use Rattle.transcript_model.specs.Sessions.{events_of, IsTold, WireGrew}
-use Rattle.transcript_model.specs.Transcript.{deeds_in, final_places, AreAllApart, terms_of, IsTranscript}
-use Rattle.transcript_model.specs.Whole.{two_sessions, wires_of_two, schedule_of_two, lines_of_two, stage_from, left_after, entry_of}
-use Rattle.transcript_model.proofs.Judge.{all_ok, last_of, all_right, ok, after, post_ok, post_after, fits, none_fits, are_segs, is_seg, all_buffers, is_buffer, is_small, is_large}
+use Rattle.transcript_model.specs.Sessions.{events_of, IsRightSession, WireGrew}
+use Rattle.transcript_model.specs.Transcript.{deeds_in, transcript_places, AreAllApart, terms_of, IsTranscript}
+use Rattle.transcript_model.specs.Whole.{two_sessions, wires_of_two, schedule_of_two, lines_of_two, stage_from}
+use Rattle.transcript_model.specs.Whole.{left_after, entry_of}
+use Rattle.transcript_model.proofs.Judge.{all_ok, last_of, all_right, ok, after, post_ok, post_after, fits, none_fits}
+use Rattle.transcript_model.proofs.Judge.{are_segs, is_seg, all_buffers, is_buffer, is_small, is_large}
 
 -- no key has a place
 abbrev nothing : Places
@@ -32,9 +35,11 @@ nothing = finite.empty
 abbrev one_place : List ℕ → ℕ → Places
 one_place key address = finite.insert nothing key (address ∷ [])
 
-lies_at : (key other : List ℕ) (address number found : ℕ) → slice_get (places_at (one_place key address) other) number ≡ Some found → (other ≡ key) × (number ≡ 0)
+lies_at : (key other : List ℕ) (address number found : ℕ) → slice_get (places_at (one_place key address) other) number
+    ≡ Some found → (other ≡ key) × (number ≡ 0)
 lies_at key other address number found at = by_key (eq_by_cmp (slice_cmp nat_cmp) other key) refl
-    (subst (λ places. slice_get (unwrap_or places []) number ≡ Some found) (finite.get-insert nat_list_cmp_total nothing key (address ∷ []) other) at)
+    (subst (λ places. slice_get (unwrap_or places []) number ≡ Some found)
+    (finite.get-insert nat_list_cmp_total nothing key (address ∷ []) other) at)
   where
     first : (n : ℕ) → slice_get (address ∷ []) n ≡ Some found → n ≡ 0
     first zero is = refl
@@ -42,16 +47,22 @@ lies_at key other address number found at = by_key (eq_by_cmp (slice_cmp nat_cmp
       none : (m : ℕ) → slice_get [] m ≡ Some found → ⊥
       none m is = cc
 
-    by_key : (same : Bool) → eq_by_cmp (slice_cmp nat_cmp) other key ≡ same → slice_get (unwrap_or (cond same (Some (address ∷ [])) (finite.get nothing other)) []) number ≡ Some found → (other ≡ key) × (number ≡ 0)
+    by_key : (same : Bool) → eq_by_cmp (slice_cmp nat_cmp) other key ≡ same
+        → slice_get (unwrap_or (cond same (Some (address ∷ [])) (finite.get nothing other)) []) number ≡ Some found
+        → (other ≡ key) × (number ≡ 0)
     by_key true is found_at = ((bytes_decides other key).0 (texts_ties other key ∙ is), first number found_at)
-    by_key false is found_at = absurd (nowhere (subst (λ places. slice_get (unwrap_or places []) number ≡ Some found) (finite.get-empty (slice_cmp nat_cmp) other) found_at)) where
-      nowhere : slice_get [] number ≡ Some found → ⊥
-      nowhere is = cc
+    by_key false is found_at =
+        absurd (nowhere (subst (λ places. slice_get (unwrap_or places []) number ≡ Some found)
+        (finite.get-empty (slice_cmp nat_cmp) other) found_at)) where
+          nowhere : slice_get [] number ≡ Some found → ⊥
+          nowhere is = cc
 
 none_lies : (key : List ℕ) (number found : ℕ) → slice_get (places_at nothing key) number ≡ Some found → ⊥
-none_lies key number found at = nowhere (subst (λ places. slice_get (unwrap_or places []) number ≡ Some found) (finite.get-empty (slice_cmp nat_cmp) key) at) where
-  nowhere : slice_get [] number ≡ Some found → ⊥
-  nowhere is = cc
+none_lies key number found at =
+    nowhere (subst (λ places. slice_get (unwrap_or places []) number ≡ Some found)
+    (finite.get-empty (slice_cmp nat_cmp) key) at) where
+      nowhere : slice_get [] number ≡ Some found → ⊥
+      nowhere is = cc
 
 one_apart : (key : List ℕ) (address : ℕ) → AreApart (one_place key address)
 one_apart key address some other number number' found at at' =
@@ -59,7 +70,8 @@ one_apart key address some other number number' found at at' =
     let there = lies_at key other address number' found at' in
     (here.0 ∙ sym there.0, here.1 ∙ sym there.1)
 
-not_there : (places : Places) (key : List ℕ) (number found : ℕ) {A : Type 0} → Some nothing ≡ Some places → slice_get (places_at places key) number ≡ Some found → A
+not_there : (places : Places) (key : List ℕ) (number found : ℕ) {A : Type 0} → Some nothing ≡ Some places
+    → slice_get (places_at places key) number ≡ Some found → A
 not_there places key number found is at =
     let same : nothing ≡ places = cc in
     absurd (none_lies key number found (subst (λ map. slice_get (places_at map key) number ≡ Some found) (sym same) at))
@@ -75,9 +87,21 @@ legal_of_two = (
         tt,
         (
           (
-            record { answered = refl; found_is = refl; first_is = refl; stored_is = (refl, refl); apart = one_apart (codes "a") 1179648 },
+            record {
+              answered = refl;
+              found_is = refl;
+              first_is = refl;
+              stored_is = (refl, refl);
+              apart = one_apart (codes "a") 1179648;
+            },
             (
-              record { answered = simp gets refl; found_is = simp gets refl; first_is = refl; stored_is = refl; apart = one_apart (codes "a") 1179648 },
+              record {
+                answered = simp gets refl;
+                found_is = simp gets refl;
+                first_is = refl;
+                stored_is = refl;
+                apart = one_apart (codes "a") 1179648;
+              },
               tt,
             ),
           ),
@@ -88,11 +112,14 @@ legal_of_two = (
   ),
 )
 
-finals : final_places two_sessions lines_of_two ≡ nothing ∷ nothing ∷ nothing ∷ nothing ∷ one_place (codes "a") 1179648 ∷ nothing ∷ nothing ∷ nothing ∷ []
+finals : transcript_places two_sessions lines_of_two ≡ nothing ∷ nothing ∷ nothing ∷ nothing
+    ∷ one_place (codes "a") 1179648 ∷ nothing ∷ nothing ∷ nothing ∷ []
 finals = refl
 
 -- whatever lies anywhere lies in shard 4, in the first fragment of the key
-in_shard_four : (shard : ℕ) (places : Places) (key : List ℕ) (number found : ℕ) → slice_get (nothing ∷ nothing ∷ nothing ∷ nothing ∷ one_place (codes "a") 1179648 ∷ nothing ∷ nothing ∷ nothing ∷ []) shard ≡ Some places
+in_shard_four : (shard : ℕ) (places : Places) (key : List ℕ) (number found : ℕ)
+    → slice_get (nothing ∷ nothing ∷ nothing ∷ nothing ∷ one_place (codes "a") 1179648 ∷ nothing ∷ nothing ∷ nothing
+    ∷ []) shard ≡ Some places
     → slice_get (places_at places key) number ≡ Some found → (shard ≡ 4) × (key ≡ codes "a") × (number ≡ 0)
 in_shard_four zero places key number found is at = not_there places key number found is at
 in_shard_four (suc zero) places key number found is at = not_there places key number found is at
@@ -100,16 +127,20 @@ in_shard_four (suc (suc zero)) places key number found is at = not_there places 
 in_shard_four (suc (suc (suc zero))) places key number found is at = not_there places key number found is at
 in_shard_four (suc (suc (suc (suc zero)))) places key number found is at =
     let same : one_place (codes "a") 1179648 ≡ places = cc in
-    let here = lies_at (codes "a") key 1179648 number found (subst (λ map. slice_get (places_at map key) number ≡ Some found) (sym same) at) in
+    let here = lies_at (codes "a") key 1179648 number found
+    (subst (λ map. slice_get (places_at map key) number ≡ Some found) (sym same) at) in
     (refl, here.0, here.1)
 in_shard_four (suc (suc (suc (suc (suc zero))))) places key number found is at = not_there places key number found is at
-in_shard_four (suc (suc (suc (suc (suc (suc zero)))))) places key number found is at = not_there places key number found is at
-in_shard_four (suc (suc (suc (suc (suc (suc (suc zero))))))) places key number found is at = not_there places key number found is at
-in_shard_four (suc (suc (suc (suc (suc (suc (suc (suc shard)))))))) places key number found is at = absurd (past shard is) where
-  past : (n : ℕ) → slice_get [] n ≡ Some places → ⊥
-  past n is = cc
+in_shard_four (suc (suc (suc (suc (suc (suc zero)))))) places key number found is at =
+    not_there places key number found is at
+in_shard_four (suc (suc (suc (suc (suc (suc (suc zero))))))) places key number found is at =
+    not_there places key number found is at
+in_shard_four (suc (suc (suc (suc (suc (suc (suc (suc shard)))))))) places key number found is at =
+    absurd (past shard is) where
+      past : (n : ℕ) → slice_get [] n ≡ Some places → ⊥
+      past n is = cc
 
-all_apart : AreAllApart (final_places two_sessions lines_of_two)
+all_apart : AreAllApart (transcript_places two_sessions lines_of_two)
 all_apart shard shard' places places' is is' key key' number number' found at at' =
     let here = in_shard_four shard places key number found is at in
     let there = in_shard_four shard' places' key' number' found is' at' in
@@ -134,8 +165,22 @@ stages_of_two = stage_from 0 ∷ stage_from 128 ∷ []
 -- what the replay of the journal gives
 abbrev deeds_of_two : List Deed
 deeds_of_two =
-    record { entry = entry_of 0; operation = part.set always false (codes "a") (codes "x"); answer = done; found = []; first = 0; stored = 1179648 ∷ [] }
-    ∷ record { entry = entry_of 1; operation = part.get (codes "a"); answer = value (codes "x"); found = 1179648 ∷ []; first = 0; stored = [] } ∷ []
+    record {
+      entry = entry_of 0;
+      operation = part.set always false (codes "a") (codes "x");
+      answer = done;
+      found = [];
+      first = 0;
+      stored = 1179648 ∷ [];
+    }
+    ∷ record {
+      entry = entry_of 1;
+      operation = part.get (codes "a");
+      answer = value (codes "x");
+      found = 1179648 ∷ [];
+      first = 0;
+      stored = [];
+    } ∷ []
 
 replayed_two : flat_map (λ deeds. deeds) (deeds_in two_sessions lines_of_two) ≡ deeds_of_two
 replayed_two = simp gets refl
@@ -143,31 +188,48 @@ replayed_two = simp gets refl
 abbrev terms_for : ℕ → Terms
 terms_for session = terms_of two_sessions deeds_of_two session (left_after 1) (stage_from (128 * session)) 1
 
-first_passes : all_ok (terms_for 0) fresh (events_of 0 lines_of_two) ≡ true
-unfolding digits all_ok ok after post_ok post_after fits none_fits are_segs is_seg all_buffers is_buffer is_small is_large
+first_passes : all_ok (terms_for 0) at_first (events_of 0 lines_of_two) ≡ true
+unfolding digits all_ok ok after post_ok post_after fits none_fits are_segs is_seg all_buffers is_buffer is_small
+    is_large
 first_passes = refl
 
-second_passes : all_ok (terms_for 1) fresh (events_of 1 lines_of_two) ≡ true
-unfolding digits all_ok ok after post_ok post_after fits none_fits are_segs is_seg all_buffers is_buffer is_small is_large
+second_passes : all_ok (terms_for 1) at_first (events_of 1 lines_of_two) ≡ true
+unfolding digits all_ok ok after post_ok post_after fits none_fits are_segs is_seg all_buffers is_buffer is_small
+    is_large
 second_passes = refl
 
-first_told : IsTold (terms_for 0) (events_of 0 lines_of_two)
+first_told : IsRightSession (terms_for 0) (events_of 0 lines_of_two)
 unfolding last_of after post_after
-first_told = record { last = _; right = all_right (terms_for 0) fresh (events_of 0 lines_of_two) first_passes; served = refl; ended = refl; sent = refl }
+first_told = record {
+  last = _;
+  right = all_right (terms_for 0) at_first (events_of 0 lines_of_two) first_passes;
+  served = refl;
+  ended = refl;
+  sent = refl;
+}
 
-second_told : IsTold (terms_for 1) (events_of 1 lines_of_two)
+second_told : IsRightSession (terms_for 1) (events_of 1 lines_of_two)
 unfolding last_of after post_after
-second_told = record { last = _; right = all_right (terms_for 1) fresh (events_of 1 lines_of_two) second_passes; served = refl; ended = refl; sent = refl }
+second_told = record {
+  last = _;
+  right = all_right (terms_for 1) at_first (events_of 1 lines_of_two) second_passes;
+  served = refl;
+  ended = refl;
+  sent = refl;
+}
 
-sent_of_two : (session : ℕ) (end : SessionEnd) (old new : Option (List ℕ)) (texts : List (List ℕ)) → slice_get (left_after 1 ∷ left_after 1 ∷ []) session ≡ Some end → slice_get wires_of_two session ≡ Some old
-    → slice_get wires_of_two session ≡ Some new → WireGrew Grew end.failed (slice_index (1 ∷ 1 ∷ []) session) texts old new
+sent_of_two : (session : ℕ) (end : SessionEnd) (old new : Option (List ℕ)) (texts : List (List ℕ))
+    → slice_get (left_after 1 ∷ left_after 1 ∷ []) session ≡ Some end → slice_get wires_of_two session ≡ Some old
+    → slice_get wires_of_two session ≡ Some new → WireGrew Grew end.failed (slice_index (1 ∷ 1 ∷ []) session) texts old
+    new
 sent_of_two session end old new texts end_is old_is new_is =
     let at_old : None ≡ old = none_is session old old_is in
     let at_new : None ≡ new = none_is session new new_is in
     let failed : false ≡ end.failed = not_failed session end end_is in
     subst (λ b. WireGrew Grew b (slice_index (1 ∷ 1 ∷ []) session) texts old new) failed
     (subst (λ o. WireGrew Grew false (slice_index (1 ∷ 1 ∷ []) session) texts o new) at_old
-    (subst (λ n. WireGrew Grew false (slice_index (1 ∷ 1 ∷ []) session) texts None n) at_new (record { middle = None; before = refl; behind = refl })))
+    (subst (λ n. WireGrew Grew false (slice_index (1 ∷ 1 ∷ []) session) texts None n) at_new
+    (record { middle = None; before = refl; behind = refl })))
   where
     none_is : (session : ℕ) (wire : Option (List ℕ)) → slice_get wires_of_two session ≡ Some wire → None ≡ wire
     none_is zero wire is = cc
@@ -176,25 +238,30 @@ sent_of_two session end old new texts end_is old_is new_is =
       past : (n : ℕ) → slice_get [] n ≡ Some wire → ⊥
       past n is = cc
 
-    not_failed : (session : ℕ) (end : SessionEnd) → slice_get (left_after 1 ∷ left_after 1 ∷ []) session ≡ Some end → false ≡ end.failed
+    not_failed : (session : ℕ) (end : SessionEnd) → slice_get (left_after 1 ∷ left_after 1 ∷ []) session ≡ Some end
+        → false ≡ end.failed
     not_failed zero end is = let same : left_after 1 ≡ end = cc in ap (λ (e : SessionEnd). e.failed) same
     not_failed (suc zero) end is = let same : left_after 1 ≡ end = cc in ap (λ (e : SessionEnd). e.failed) same
     not_failed (suc (suc session)) end is = absurd (past session is) where
       past : (n : ℕ) → slice_get [] n ≡ Some end → ⊥
       past n is = cc
 
-told_of_two : (session : ℕ) (end : SessionEnd) (stage : List ℕ) → slice_get (left_after 1 ∷ left_after 1 ∷ []) session ≡ Some end → slice_get stages_of_two session ≡ Some stage
-    → IsTold (terms_of two_sessions deeds_of_two session end stage (slice_index (1 ∷ 1 ∷ []) session)) (events_of session lines_of_two)
+told_of_two : (session : ℕ) (end : SessionEnd) (stage : List ℕ) → slice_get (left_after 1 ∷ left_after 1 ∷ []) session
+    ≡ Some end → slice_get stages_of_two session ≡ Some stage
+    → IsRightSession (terms_of two_sessions deeds_of_two session end stage (slice_index (1 ∷ 1 ∷ []) session))
+    (events_of session lines_of_two)
 told_of_two zero end stage end_is stage_is =
     let same : left_after 1 ≡ end = cc in
     let same_stage : stage_from 0 ≡ stage = cc in
-    subst (λ e. IsTold (terms_of two_sessions deeds_of_two 0 e stage 1) (events_of 0 lines_of_two)) same
-    (subst (λ addresses. IsTold (terms_of two_sessions deeds_of_two 0 (left_after 1) addresses 1) (events_of 0 lines_of_two)) same_stage first_told)
+    subst (λ e. IsRightSession (terms_of two_sessions deeds_of_two 0 e stage 1) (events_of 0 lines_of_two)) same
+    (subst (λ addresses. IsRightSession (terms_of two_sessions deeds_of_two 0 (left_after 1) addresses 1)
+    (events_of 0 lines_of_two)) same_stage first_told)
 told_of_two (suc zero) end stage end_is stage_is =
     let same : left_after 1 ≡ end = cc in
     let same_stage : stage_from 128 ≡ stage = cc in
-    subst (λ e. IsTold (terms_of two_sessions deeds_of_two 1 e stage 1) (events_of 1 lines_of_two)) same
-    (subst (λ addresses. IsTold (terms_of two_sessions deeds_of_two 1 (left_after 1) addresses 1) (events_of 1 lines_of_two)) same_stage second_told)
+    subst (λ e. IsRightSession (terms_of two_sessions deeds_of_two 1 e stage 1) (events_of 1 lines_of_two)) same
+    (subst (λ addresses. IsRightSession (terms_of two_sessions deeds_of_two 1 (left_after 1) addresses 1)
+    (events_of 1 lines_of_two)) same_stage second_told)
 told_of_two (suc (suc session)) end stage end_is stage_is = absurd (past session end_is) where
   past : (n : ℕ) → slice_get [] n ≡ Some end → ⊥
   past n is = cc
@@ -205,12 +272,29 @@ whole_of_two = record {
     answers = refl;
     stages = stages_of_two;
     stages_are = (
-      record { buffers = range_with_len 0 128; as_many = refl; ascending = stage_rises 0 128; small = stage_small 0 128 (lit≤ tt); addresses = refl },
-      (record { buffers = range_with_len 128 128; as_many = refl; ascending = stage_rises 128 128; small = stage_small 128 128 (lit≤ tt); addresses = refl }, tt),
+      record {
+        buffers = range_with_len 0 128;
+        as_many = refl;
+        ascending = stage_rises 0 128;
+        small = stage_small 0 128 (lit≤ tt);
+        addresses = refl;
+      },
+      (
+        record {
+          buffers = range_with_len 128 128;
+          as_many = refl;
+          ascending = stage_rises 128 128;
+          small = stage_small 128 128 (lit≤ tt);
+          addresses = refl;
+        },
+        tt,
+      ),
     );
     one_each = refl;
     wholes = 1 ∷ 1 ∷ [];
-    told = λ session end stage end_is stage_is. subst (λ deeds. IsTold (terms_of two_sessions deeds session end stage (slice_index (1 ∷ 1 ∷ []) session)) (events_of session lines_of_two))
+    told = λ session end stage end_is stage_is. subst
+        (λ deeds. IsRightSession (terms_of two_sessions deeds session end stage (slice_index (1 ∷ 1 ∷ []) session))
+        (events_of session lines_of_two))
         (sym replayed_two) (told_of_two session end stage end_is stage_is);
     wires = (lit≤ tt, refl);
     sent = λ session end old new end_is old_is new_is. sent_of_two session end old new _ end_is old_is new_is;

@@ -7,30 +7,30 @@ use Rattle.schedule_text.specs.declared.line.Line.{Line}
 use Rattle.schedule_text.specs.declared.line.Line.TheVariants.{Call, Gather, Reap}
 
 -- what happened to a session at a line
-pub data Event : Type 0 where
+pub data LineEvent : Type 0 where
   -- its next call was posted: its number, how many frames it reaped, its segments, and the fragments that it stored
-  posted : ℕ → ℕ → List Seg → List Seg → Event
+  posted : ℕ → ℕ → List Seg → List Seg → LineEvent
   -- the call needs so many descriptors, or staging buffers, and there are so many
-  ring_full : ℕ → ℕ → Event
-  stage_full : ℕ → ℕ → Event
+  ring_full : ℕ → ℕ → LineEvent
+  stage_full : ℕ → ℕ → LineEvent
   -- there is no further call
-  at_end : Event
+  at_end : LineEvent
   -- the frame with this number, of so many bytes, was sent, or dropped
-  sent : ℕ → ℕ → Event
-  dropped : ℕ → ℕ → Event
-  nothing_posted : Event
+  sent : ℕ → ℕ → LineEvent
+  dropped : ℕ → ℕ → LineEvent
+  nothing_posted : LineEvent
   -- the frame with this number was reaped, and so many of its unpins were the last
-  reaped : ℕ → ℕ → Event
-  nothing_reaped : Event
+  reaped : ℕ → ℕ → LineEvent
+  nothing_reaped : LineEvent
 
-pub record Said : Type 0 where
+pub record EventLine : Type 0 where
   pub session : ℕ
-  pub event : Event
+  pub event : LineEvent
 
 -- which line of a schedule an event answers
-abbrev pub line_of : Said → Line
+abbrev pub line_of : EventLine → Line
 line_of said = asked said.event where
-  asked : Event → Line
+  asked : LineEvent → Line
   asked (posted call freed segments fragments) = Call said.session
   asked (ring_full need room) = Call said.session
   asked (stage_full need free) = Call said.session
@@ -58,7 +58,7 @@ abbrev pub stored_text : List Seg → List ℕ
 stored_text [] = []
 stored_text (seg ∷ segs) = codes " store" ++ flat_map segment_text (seg ∷ segs)
 
-abbrev pub event_text : ℕ → Event → List ℕ
+abbrev pub event_text : ℕ → LineEvent → List ℕ
 event_text i (posted call freed segments fragments) =
     codes "call" ++ numbers_text (i ∷ call ∷ []) ++ reaped_text freed ++ codes " send"
     ++ flat_map segment_text segments ++ stored_text fragments
@@ -75,11 +75,11 @@ event_text i (reaped call recycled) = codes "reap" ++ numbers_text (i ∷ call �
 event_text i nothing_reaped = codes "reap" ++ numbers_text (i ∷ []) ++ codes " none"
 
 -- each line ends in LF
-abbrev pub line_text : Said → List ℕ
-line_text said = event_text said.session said.event ++ 10 ∷ []
+abbrev pub transcript_line : EventLine → List ℕ
+transcript_line said = event_text said.session said.event ++ 10 ∷ []
 
 abbrev pub held_text : ℕ → ℕ → List ℕ
 held_text small large = codes "held" ++ numbers_text (small ∷ large ∷ []) ++ 10 ∷ []
 
-abbrev pub transcript_text : List Said → ℕ → ℕ → List ℕ
-transcript_text lines small large = flat_map line_text lines ++ held_text small large
+abbrev pub transcript_text : List EventLine → ℕ → ℕ → List ℕ
+transcript_text lines small large = flat_map transcript_line lines ++ held_text small large

@@ -9,10 +9,11 @@ use Rattle.flake_model.specs.Command.{Command}
 use Rattle.reply_layout.specs.Frames.{Frame}
 use Rattle.reply_layout.specs.Need.{need_of}
 use Rattle.call_model.specs.Parts.{IsInBuffer}
-use Rattle.transcript_model.specs.Lines.{Event, posted, ring_full, stage_full, at_end, sent, dropped, nothing_posted}
+use Rattle.transcript_model.specs.Lines.{LineEvent, posted, ring_full, stage_full, at_end, sent, dropped}
+use Rattle.transcript_model.specs.Lines.{nothing_posted}
 use Rattle.transcript_model.specs.Lines.{reaped, nothing_reaped}
 use Rattle.transcript_model.specs.Terms.{Terms}
-use Rattle.transcript_model.specs.Standing.{Standing, waiting, room, free, IsLeast}
+use Rattle.transcript_model.specs.Standing.{Standing, frames_waiting, ring_room, free, IsLeast}
 use Rattle.transcript_model.specs.Frames.{frame_of, stored_of}
 
 -- whether it is known how the session's input ends
@@ -39,12 +40,12 @@ module _ (terms : Terms) (before : Standing) where
     pub asked : slice_get terms.commands call ≡ Some command
     pub least : IsLeast terms before (need_of command) freed
     pub segments_are : segments
-        ≡ (frame_of terms (free terms.stage (waiting before (before.reaped + freed))) call command).segments
+        ≡ (frame_of terms (free terms.stage (frames_waiting before (before.reaped + freed))) call command).segments
     pub fragments_are : fragments ≡ stored_of terms call command
     pub buffers : Each (IsInBuffer terms.sizes) fragments
     pub leaves : after ≡ record before {
       frames = before.frames
-          ++ frame_of terms (free terms.stage (waiting before (before.reaped + freed))) call command ∷ [];
+          ++ frame_of terms (free terms.stage (frames_waiting before (before.reaped + freed))) call command ∷ [];
       reaped = before.reaped + freed;
     }
 
@@ -54,7 +55,7 @@ module _ (terms : Terms) (before : Standing) where
     pub asked : slice_get terms.commands (length before.frames) ≡ Some command
     pub open_yet : before.ended ≡ false
     pub needs : need_is ≡ (need_of command).descriptors
-    pub has : room_is ≡ room terms.ring (waiting before before.gathered)
+    pub has : room_is ≡ ring_room terms.ring (frames_waiting before before.gathered)
     pub less : room_is < need_is
     pub leaves : after ≡ record before { reaped = before.gathered }
 
@@ -63,9 +64,9 @@ module _ (terms : Terms) (before : Standing) where
     pub command : Command
     pub asked : slice_get terms.commands (length before.frames) ≡ Some command
     pub open_yet : before.ended ≡ false
-    pub enough : (need_of command).descriptors ≤ room terms.ring (waiting before before.gathered)
+    pub enough : (need_of command).descriptors ≤ ring_room terms.ring (frames_waiting before before.gathered)
     pub needs : need_is ≡ (need_of command).stage
-    pub has : free_is ≡ length (free terms.stage (waiting before before.gathered))
+    pub has : free_is ≡ length (free terms.stage (frames_waiting before before.gathered))
     pub less : free_is < need_is
     pub leaves : after ≡ record before { reaped = before.gathered }
 
@@ -95,7 +96,7 @@ module _ (terms : Terms) (before : Standing) where
     pub recycles : recycled ≤ frame.pinned
     pub leaves : after ≡ record before { reaped = before.reaped + 1 }
 
-  abbrev pub IsRight : Event → Standing → Type 0
+  abbrev pub IsRight : LineEvent → Standing → Type 0
   IsRight (posted call freed segments fragments) after = IsPosted call freed segments fragments after
   IsRight (ring_full need_is room_is) after = IsRingFull need_is room_is after
   IsRight (stage_full need_is free_is) after = IsStageFull need_is free_is after
@@ -107,7 +108,7 @@ module _ (terms : Terms) (before : Standing) where
   IsRight nothing_reaped after = (before.reaped ≡ before.gathered) × (after ≡ before)
 
 -- a session's lines, each where the one before it left the session
-abbrev pub AreRight : Terms → Standing → List Event → Standing → Type 0
+abbrev pub AreRight : Terms → Standing → List LineEvent → Standing → Type 0
 AreRight terms before [] last = last ≡ before
 AreRight terms before (event ∷ events) last =
     (after : Standing) × IsRight terms before event after × AreRight terms after events last

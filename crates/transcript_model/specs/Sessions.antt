@@ -5,16 +5,16 @@ use Rattle.std.specs.List.{flat_map, filter}
 use Rattle.flake_model.specs.Command.{Command}
 use Rattle.flake_model.specs.Reply.{reply_text}
 use Rattle.reply_layout.specs.Pieces.{reply_from}
-use Rattle.transcript_model.specs.Lines.{Said, Event}
+use Rattle.transcript_model.specs.Lines.{EventLine, LineEvent}
 use Rattle.transcript_model.specs.Terms.{Terms}
-use Rattle.transcript_model.specs.Standing.{Standing, fresh}
+use Rattle.transcript_model.specs.Standing.{Standing, at_first}
 use Rattle.transcript_model.specs.Frames.{deeds_of}
 use Rattle.transcript_model.specs.Right.{is_known, AreRight}
 
 -- what was said of a session
-abbrev pub events_of : ℕ → List Said → List Event
+abbrev pub events_of : ℕ → List EventLine → List LineEvent
 events_of session lines =
-    map (λ (said : Said). said.event) (filter (λ (said : Said). said.session == session) lines)
+    map (λ (said : EventLine). said.event) (filter (λ (said : EventLine). said.session == session) lines)
 
 -- the texts of these commands' replies, from a call on
 abbrev pub texts_from : Terms → ℕ → List Command → List (List ℕ)
@@ -36,9 +36,9 @@ abbrev pub joined : List (List ℕ) → List ℕ
 joined texts = flat_map (λ text. text) texts
 
 -- what was said of a session is right from its first line to its last
-pub record IsTold (terms : Terms) (events : List Event) : Type 0 where
+pub record IsRightSession (terms : Terms) (events : List LineEvent) : Type 0 where
   pub last : Standing
-  pub right : AreRight terms fresh events last
+  pub right : AreRight terms at_first events last
   pub served : length last.frames ≡ terms.end.replies
   pub ended : last.ended ≡ is_known terms.end.end
   pub sent : AreWhole terms.end.failed terms.whole terms.end.replies

@@ -8,11 +8,11 @@ use Rattle.flake_model.specs.Command.{Command, parts}
 use Rattle.flake_model.specs.Journal.{commands_of, operation_at}
 use Rattle.flake_model.specs.Deed.{Deed, entries_of, IsLegal}
 use Rattle.transcript_model.specs.Deeds.{find_deed}
-use Rattle.transcript_model.specs.Transcript.{Run}
+use Rattle.transcript_model.specs.Transcript.{DrivenRun}
 
 -- a deed of some shard is one that its session was told, and does what its entry stands for; a write is of a call that
 -- was posted
-pub record IsOwnDeed (run : Run) (own : ℕ → List Deed) (stages : List (List ℕ)) (deed : Deed) : Type 0 where
+pub record IsOwnDeed (run : DrivenRun) (own : ℕ → List Deed) (stages : List (List ℕ)) (deed : Deed) : Type 0 where
   pub end : SessionEnd
   pub stage : List ℕ
   pub command : Command
@@ -25,7 +25,7 @@ pub record IsOwnDeed (run : Run) (own : ℕ → List Deed) (stages : List (List 
   pub posted : IsWrite deed.operation → deed.entry.call < end.replies
 
 -- each shard's list of deeds, and each session's
-pub record AreSources (run : Run) (shards : List (List Deed)) (own : ℕ → List Deed) (stages : List (List ℕ))
+pub record AreSources (run : DrivenRun) (shards : List (List Deed)) (own : ℕ → List Deed) (stages : List (List ℕ))
     : Type 0 where
   pub journal : run.journal ≡ map entries_of shards
   pub legal : AllByRecursion IsLegal shards

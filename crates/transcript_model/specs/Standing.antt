@@ -14,16 +14,16 @@ pub record Standing : Type 0 where
   pub reaped : ℕ
   pub ended : Bool
 
-abbrev pub fresh : Standing
-fresh = record { frames = []; gathered = 0; reaped = 0; ended = false }
+abbrev pub at_first : Standing
+at_first = record { frames = []; gathered = 0; reaped = 0; ended = false }
 
 -- the frames that wait once so many are reaped
-abbrev pub waiting : Standing → ℕ → List Frame
-waiting standing reaped = drop reaped standing.frames
+abbrev pub frames_waiting : Standing → ℕ → List Frame
+frames_waiting standing reaped = drop reaped standing.frames
 
 -- how many descriptors of a ring are free beside waiting frames: its tail never meets its head
-abbrev pub room : ℕ → List Frame → ℕ
-room ring waits = ring - 1 - total (λ (frame : Frame). length frame.segments) waits
+abbrev pub ring_room : ℕ → List Frame → ℕ
+ring_room ring waits = ring - 1 - total (λ (frame : Frame). length frame.segments) waits
 
 -- the frame has the staging buffer at an address
 abbrev pub has_lent : ℕ → Frame → Bool
@@ -33,13 +33,13 @@ has_lent address frame = list_any (λ lent. lent == address) frame.lent
 abbrev pub free : List ℕ → List Frame → List ℕ
 free stage waits = filter (λ address. not (list_any (has_lent address) waits)) stage
 
-pub record Fits (ring : ℕ) (stage : List ℕ) (waits : List Frame) (need : Need) : Type 0 where
-  pub in_ring : need.descriptors ≤ room ring waits
+pub record FitsStanding (ring : ℕ) (stage : List ℕ) (waits : List Frame) (need : Need) : Type 0 where
+  pub in_ring : need.descriptors ≤ ring_room ring waits
   pub in_stage : need.stage ≤ length (free stage waits)
 
 -- a call reaps the least number of gathered frames behind which its need is there
 pub record IsLeast (terms : Terms) (standing : Standing) (need : Need) (n : ℕ) : Type 0 where
   pub gathered : standing.reaped + n ≤ standing.gathered
-  pub fits : Fits terms.ring terms.stage (waiting standing (standing.reaped + n)) need
+  pub fits : FitsStanding terms.ring terms.stage (frames_waiting standing (standing.reaped + n)) need
   pub least : (fewer : ℕ) → fewer < n
-      → Fits terms.ring terms.stage (waiting standing (standing.reaped + fewer)) need → ⊥
+      → FitsStanding terms.ring terms.stage (frames_waiting standing (standing.reaped + fewer)) need → ⊥

@@ -9,8 +9,8 @@ use Rattle.flake_model.specs.Command.{get, set}
 use Rattle.schedule_text.specs.declared.line.Line.{Line}
 use Rattle.schedule_text.specs.declared.line.Line.TheVariants.{Call}
 use Rattle.reply_layout.specs.Layout.{segment}
-use Rattle.transcript_model.specs.Lines.{Said, posted}
-use Rattle.transcript_model.specs.Transcript.{Run, Wires}
+use Rattle.transcript_model.specs.Lines.{EventLine, posted}
+use Rattle.transcript_model.specs.Transcript.{DrivenRun, Wires}
 use Rattle.transcript_model.specs.Worked.{one, default_sizes}
 
 abbrev pub left_after : ℕ → SessionEnd
@@ -20,7 +20,7 @@ abbrev pub entry_of : ℕ → Entry
 entry_of session = record { session = session; call = 0; part = 0 }
 
 -- [SET a x] and [GET a], with a threshold of one byte
-abbrev pub two_sessions : Run
+abbrev pub two_sessions : DrivenRun
 two_sessions = record {
   sizes = default_sizes;
   ring = 1160;
@@ -35,7 +35,7 @@ two_sessions = record {
 abbrev pub schedule_of_two : List Line
 schedule_of_two = Call 0 ∷ Call 1 ∷ []
 
-abbrev pub lines_of_two : List Said
+abbrev pub lines_of_two : List EventLine
 lines_of_two =
     record { session = 0; event = posted 0 0 (one 1048576 5) (one 1179648 1) }
     ∷ record {

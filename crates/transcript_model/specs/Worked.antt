@@ -9,12 +9,12 @@ use Rattle.flake_model.specs.Command.{Command, ping, get, set, mget, append, get
 use Rattle.flake_model.specs.Deed.{Deed}
 use Rattle.reply_layout.specs.Layout.{segment}
 use Rattle.pin_core.specs.declared.sizes.Sizes.{Sizes}
-use Rattle.transcript_model.specs.Lines.{Event, posted, ring_full, stage_full, at_end, sent, dropped, reaped}
+use Rattle.transcript_model.specs.Lines.{LineEvent, posted, ring_full, stage_full, at_end, sent, dropped, reaped}
 use Rattle.transcript_model.specs.Terms.{Terms}
 
 pub record Worked : Type 0 where
   pub terms : Terms
-  pub events : List Event
+  pub events : List LineEvent
 
 abbrev pub key : ℕ → List ℕ
 key letter = letter ∷ []
@@ -63,7 +63,7 @@ get_deed call key bytes found = deed call (part.get key) (value bytes) found []
 abbrev pub default_sizes : Sizes
 default_sizes = record { small = 4096; large = 1024; credits = 0 }
 
-abbrev pub driven : ℕ → List Command → List Deed → ℕ → ℕ → Bool → List Event → Worked
+abbrev pub driven : ℕ → List Command → List Deed → ℕ → ℕ → Bool → List LineEvent → Worked
 driven threshold commands deeds replies whole failed events = record {
   terms = record {
     number = 0;
@@ -212,7 +212,7 @@ stage_used_up = driven 512 (replicate 129 ping) [] 128 128 false
 abbrev pub ring_used_up : Worked
 ring_used_up =
     let places = 3145728 ∷ 3149824 ∷ 3153920 ∷ 3158016 ∷ [] in
-    let frame : ℕ → Event = λ n. posted n 0 (segment (1048576 + 512 * n) 8 ∷ segment 3145728 4096
+    let frame : ℕ → LineEvent = λ n. posted n 0 (segment (1048576 + 512 * n) 8 ∷ segment 3145728 4096
     ∷ segment 3149824 4096 ∷ segment 3153920 4096 ∷ segment 3158016 4096 ∷ segment (1048584 + 512 * n) 2
     ∷ []) [] in
     driven 512
@@ -225,7 +225,7 @@ ring_used_up =
     ∷ map frame (range_with_len 1 21) ++ ring_full 1154 1032 ∷ [])
 
 -- a call that has to reap one of two gathered frames
-abbrev pub pings : ℕ → List Event → List Event
+abbrev pub pings : ℕ → List LineEvent → List LineEvent
 pings reaps rest = map (λ n. posted n 0 (one (1048576 + 512 * n) 7) []) (range_with_len 0 128) ++ sent 0 7
     ∷ sent 1 7 ∷ posted 128 reaps (one 1048576 7) [] ∷ rest
 
@@ -239,7 +239,7 @@ worked = about_the_threshold ∷ replaced ∷ twice_in_a_reply ∷ appended_to �
 -- Wrong ones.
 
 -- SET and GET of 600 bytes: the GET's line, and the SET's fragments
-abbrev pub set_then_get : List Seg → List Seg → List Event → Worked
+abbrev pub set_then_get : List Seg → List Seg → List LineEvent → Worked
 set_then_get fragments segments rest = driven 512
     (plain_set k (replicate 600 65) ∷ get k ∷ [])
     (set_deed 0 k (replicate 600 65) (3145728 ∷ []) ∷ get_deed 1 k (replicate 600 65) (3145728 ∷ []) ∷ [])
@@ -303,7 +303,7 @@ wrong = other_address ∷ copied_reply ∷ nothing_shown ∷ reaped_too_early �
     ∷ refused_too_early ∷ pinned_below_the_threshold ∷ []
 
 -- Two frames are gathered, and the next call meets want of memory; it may have reaped one of them, or none.
-abbrev pub wants_memory : List Event → Worked
+abbrev pub wants_memory : List LineEvent → Worked
 wants_memory rest = record {
   terms = record (driven 512
       (replicate 3 ping) [] 2 2 false []).terms {

@@ -7,12 +7,13 @@ ghost use Rattle.flake_base.specs.Growth.{Grew};
 ghost use Rattle.flake_model.specs.Command.{Command};
 ghost use Rattle.flake_model.specs.Deed.{Deed};
 ghost use Rattle.schedule_text.specs.declared.line.Line.{Line};
-ghost use Rattle.transcript_model.specs.Lines.{Event, posted, reaped, Said, event_text, transcript_text};
+ghost use Rattle.transcript_model.specs.Lines.{LineEvent, posted, reaped, EventLine, event_text, transcript_text};
 ghost use Rattle.transcript_model.specs.Lengths.{IsNumber, ArePlain, segment_limit, head_limit};
 ghost use Rattle.transcript_model.specs.Terms.{Terms};
-ghost use Rattle.transcript_model.specs.Standing.{Standing, fresh};
+ghost use Rattle.transcript_model.specs.Standing.{Standing, at_first};
 ghost use Rattle.transcript_model.specs.Right.{AreRight};
-ghost use Rattle.transcript_model.specs.Transcript.{Run, Wires, AreAllApart, final_places, IsToldBy, IsTranscript};
+ghost use Rattle.transcript_model.specs.Transcript.{DrivenRun, Wires, AreAllApart, transcript_places, IsToldBy};
+ghost use Rattle.transcript_model.specs.Transcript.{IsTranscript};
 ghost use Rattle.transcript_model.specs.News.{with_news, LeavesSaid};
 ghost use Rattle.transcript_model.specs.Sources.{AreSources};
 ghost use Rattle.transcript_model.specs.Worked.{worked, wrong, wants_memory};
@@ -20,20 +21,20 @@ ghost use Rattle.transcript_model.specs.Whole.{two_sessions, wires_of_two, sched
 
 /// The lines of the worked transcripts are right.
 pub fn worked_transcripts()
-    ensures { AllByRecursion (λ row. (last : Standing) × AreRight row.terms fresh row.events last) worked }
+    ensures { AllByRecursion (λ row. (last : Standing) × AreRight row.terms at_first row.events last) worked }
 {}
 
 /// Those of the wrong ones are not, whatever they would leave.
 pub fn wrong_transcripts()
-    ensures { AllByRecursion (λ row. (last : Standing) → AreRight row.terms fresh row.events last → ⊥) wrong }
+    ensures { AllByRecursion (λ row. (last : Standing) → AreRight row.terms at_first row.events last → ⊥) wrong }
 {}
 
 /// A call that met want of memory may have reaped: both go on rightly.
 pub fn either_was_reaped()
     ensures none { (last : Standing)
-        × AreRight (wants_memory []).terms fresh (wants_memory (reaped 0 0 ∷ [])).events last }
+        × AreRight (wants_memory []).terms at_first (wants_memory (reaped 0 0 ∷ [])).events last }
     ensures one { (last : Standing)
-        × AreRight (wants_memory []).terms fresh (wants_memory (reaped 1 0 ∷ [])).events last }
+        × AreRight (wants_memory []).terms at_first (wants_memory (reaped 1 0 ∷ [])).events last }
 {}
 
 /// Two sessions over one store have this transcript.
@@ -50,15 +51,16 @@ pub fn whole_text()
 /// Lines that were right stay right as more becomes known of the session.
 pub fn right_lines_stay()
     ensures { (terms : Terms) (now : Standing) (commands : List Command) (end : SessionEnd) (whole : ℕ)
-        (deeds : List Deed) (events : List Event) → LeavesSaid terms now commands end whole deeds
-        → AreRight terms fresh events now → AreRight (with_news terms commands end whole deeds) fresh events now }
+        (deeds : List Deed) (events : List LineEvent) → LeavesSaid terms now commands end whole deeds
+        → AreRight terms at_first events now → AreRight (with_news terms commands end whole deeds) at_first events now }
 {}
 
 /// What is right by the sessions' own deeds is right by the journal, whose deeds store where the transcript shows it.
 pub fn journal_tells()
-    ensures { (run : Run) (olds news : Wires) (schedule : List Line) (lines : List Said) (shards : List (List Deed))
+    ensures { (run : DrivenRun) (olds news : Wires) (schedule : List Line) (lines : List EventLine)
+        (shards : List (List Deed))
         (own : ℕ → List Deed) (by_own : IsToldBy Grew run olds news own schedule lines)
-        → AreSources run shards own by_own.stages → AreAllApart (final_places run lines)
+        → AreSources run shards own by_own.stages → AreAllApart (transcript_places run lines)
         → IsTranscript run olds news schedule lines }
 {}
 

@@ -10,7 +10,8 @@ pub some_reaped : (n : ℕ) → 0 < n → reaped_text n ≡ codes " reaped" ++ 3
 some_reaped zero some = absurd (omega arith)
 some_reaped (suc n) some = refl
 
-pub some_stored : (stored : List Seg) → 0 < length stored → stored_text stored ≡ codes " store" ++ flat_map segment_text stored
+pub some_stored : (stored : List Seg) → 0 < length stored → stored_text stored ≡ codes " store"
+    ++ flat_map segment_text stored
 some_stored [] some = absurd (omega arith)
 some_stored (seg ∷ stored) some = refl
 

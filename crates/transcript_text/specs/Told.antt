@@ -1,8 +1,8 @@
 -- What is written of a line, and the room that it takes.
 use Rattle.std.specs.Prelude.{ℕ, List, [], ◌∷◌, ◌++◌, codes}
-use Rattle.transcript_model.specs.Lines.{Event, Said, numbers_text, reaped_text}
+use Rattle.transcript_model.specs.Lines.{LineEvent, EventLine, numbers_text, reaped_text}
 
-abbrev pub said : ℕ → Event → Said
+abbrev pub said : ℕ → LineEvent → EventLine
 said session event = record { session = session; event = event }
 
 -- all of a line but its segments, with the LF

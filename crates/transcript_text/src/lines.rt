@@ -1,7 +1,7 @@
 // Lines, each in the place of what stood there.
 ghost use Rattle.std.specs.Prelude.{◌≡◌, ◌+◌, ◌*◌, ◌≤◌, length, vec_capacity};
 ghost use Rattle.transcript_model.specs.Lines as event;
-ghost use Rattle.transcript_model.specs.Lines.{line_text, segment_text};
+ghost use Rattle.transcript_model.specs.Lines.{transcript_line, segment_text};
 ghost use Rattle.transcript_text.specs.Told.{said, front_text, line_room};
 
 use crate::parts::{put, put_numbers, put_reaped, put_segment, put_segments, put_stored};
@@ -17,7 +17,7 @@ pub fn posted(
     stored: &[Seg],
 )
     requires { line_room + 42 * (length sent.now + length stored.now) ≤ vec_capacity text.old }
-    ensures text { text.new.items ≡ line_text (said session (event.posted call reaped sent.now stored.now)) }
+    ensures text { text.new.items ≡ transcript_line (said session (event.posted call reaped sent.now stored.now)) }
     ensures room { vec_capacity text.old ≤ vec_capacity text.new }
 {
     text.clear();
@@ -56,7 +56,7 @@ pub fn one_segment(text: &mut Vec<u8>, segment: &Seg)
 /// A call needs so many descriptors, and so many are free.
 pub fn ring_full(text: &mut Vec<u8>, session: u16, need: u32, room: u32)
     requires { line_room ≤ vec_capacity text.old }
-    ensures text { text.new.items ≡ line_text (said session (event.ring_full need room)) }
+    ensures text { text.new.items ≡ transcript_line (said session (event.ring_full need room)) }
     ensures room { vec_capacity text.old ≤ vec_capacity text.new }
 {
     text.clear();
@@ -70,7 +70,7 @@ pub fn ring_full(text: &mut Vec<u8>, session: u16, need: u32, room: u32)
 /// A call needs so many staging buffers, and so many are free.
 pub fn stage_full(text: &mut Vec<u8>, session: u16, need: u32, free: u32)
     requires { line_room ≤ vec_capacity text.old }
-    ensures text { text.new.items ≡ line_text (said session (event.stage_full need free)) }
+    ensures text { text.new.items ≡ transcript_line (said session (event.stage_full need free)) }
     ensures room { vec_capacity text.old ≤ vec_capacity text.new }
 {
     text.clear();
@@ -84,7 +84,7 @@ pub fn stage_full(text: &mut Vec<u8>, session: u16, need: u32, free: u32)
 /// There is no further call.
 pub fn at_end(text: &mut Vec<u8>, session: u16)
     requires { line_room ≤ vec_capacity text.old }
-    ensures text { text.new.items ≡ line_text (said session event.at_end) }
+    ensures text { text.new.items ≡ transcript_line (said session event.at_end) }
     ensures room { vec_capacity text.old ≤ vec_capacity text.new }
 {
     text.clear();
@@ -97,7 +97,7 @@ pub fn at_end(text: &mut Vec<u8>, session: u16)
 /// A reply of so many bytes was sent.
 pub fn sent(text: &mut Vec<u8>, session: u16, call: u32, bytes: u64)
     requires { line_room ≤ vec_capacity text.old }
-    ensures text { text.new.items ≡ line_text (said session (event.sent call bytes)) }
+    ensures text { text.new.items ≡ transcript_line (said session (event.sent call bytes)) }
     ensures room { vec_capacity text.old ≤ vec_capacity text.new }
 {
     text.clear();
@@ -109,7 +109,7 @@ pub fn sent(text: &mut Vec<u8>, session: u16, call: u32, bytes: u64)
 /// It was dropped.
 pub fn dropped(text: &mut Vec<u8>, session: u16, call: u32, bytes: u64)
     requires { line_room ≤ vec_capacity text.old }
-    ensures text { text.new.items ≡ line_text (said session (event.dropped call bytes)) }
+    ensures text { text.new.items ≡ transcript_line (said session (event.dropped call bytes)) }
     ensures room { vec_capacity text.old ≤ vec_capacity text.new }
 {
     text.clear();
@@ -123,7 +123,7 @@ pub fn dropped(text: &mut Vec<u8>, session: u16, call: u32, bytes: u64)
 /// There was none to gather.
 pub fn nothing_posted(text: &mut Vec<u8>, session: u16)
     requires { line_room ≤ vec_capacity text.old }
-    ensures text { text.new.items ≡ line_text (said session event.nothing_posted) }
+    ensures text { text.new.items ≡ transcript_line (said session event.nothing_posted) }
     ensures room { vec_capacity text.old ≤ vec_capacity text.new }
 {
     text.clear();
@@ -136,7 +136,7 @@ pub fn nothing_posted(text: &mut Vec<u8>, session: u16)
 /// A reply was reaped, and so many of its holds were the last of their buffers.
 pub fn reaped(text: &mut Vec<u8>, session: u16, call: u32, recycled: u64)
     requires { line_room ≤ vec_capacity text.old }
-    ensures text { text.new.items ≡ line_text (said session (event.reaped call recycled)) }
+    ensures text { text.new.items ≡ transcript_line (said session (event.reaped call recycled)) }
     ensures room { vec_capacity text.old ≤ vec_capacity text.new }
 {
     text.clear();
@@ -148,7 +148,7 @@ pub fn reaped(text: &mut Vec<u8>, session: u16, call: u32, recycled: u64)
 /// There was none to reap.
 pub fn nothing_reaped(text: &mut Vec<u8>, session: u16)
     requires { line_room ≤ vec_capacity text.old }
-    ensures text { text.new.items ≡ line_text (said session event.nothing_reaped) }
+    ensures text { text.new.items ≡ transcript_line (said session event.nothing_reaped) }
     ensures room { vec_capacity text.old ≤ vec_capacity text.new }
 {
     text.clear();

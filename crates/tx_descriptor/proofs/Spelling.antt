@@ -1,5 +1,6 @@
 -- The bytes of a descriptor are within the profile, and spell no other descriptor.
-use Rattle.std.proofs.Common.{◌≡◌, ℕ, zero, suc, ◌+◌, List, [], ◌∷◌, drop, get_or, Result, Ok, Err, Bool, true, false, not, cond, eqb, bit_and, sym, refl, ap, ◌∙◌, arith}
+use Rattle.std.proofs.Common.{◌≡◌, ℕ, zero, suc, ◌+◌, List, [], ◌∷◌, drop, get_or, Result, Ok, Err, Bool, true, false}
+use Rattle.std.proofs.Common.{not, cond, eqb, bit_and, sym, refl, ap, ◌∙◌, arith}
 use Rattle.std.proofs.lemmas.Nat.{from_le_bytes-to_le_bytes_2, from_le_bytes-to_le_bytes_8, and_comm}
 use Rattle.std.proofs.Math.Decide.{dec_lt}
 use mathlib.Core.Logic.{dite}
@@ -35,8 +36,37 @@ status false = refl
 
 pub in-profile : (v : Legacy) (i : ℕ) → IsInProfile (descriptor_bytes v) i
 unfolding Clear
-in-profile v i = let b : ℕ → ℕ = λ k. get_or (descriptor_bytes v) k 0 in clear-at (descriptor_bytes v) reserved
-    (any_byte (b 0), (any_byte (b 1), (any_byte (b 2), (any_byte (b 3), (any_byte (b 4), (any_byte (b 5), (any_byte (b 6), (any_byte (b 7), (any_byte (b 8), (any_byte (b 9), (refl, (command v.eop v.rs, (status v.dd, (refl, (refl, (refl, tt)))))))))))))))) i
+in-profile v i = let b : ℕ → ℕ = λ k. get_or (descriptor_bytes v) k 0 in clear-at (descriptor_bytes v) reserved (
+  any_byte (b 0),
+  (
+    any_byte (b 1),
+    (
+      any_byte (b 2),
+      (
+        any_byte (b 3),
+        (
+          any_byte (b 4),
+          (
+            any_byte (b 5),
+            (
+              any_byte (b 6),
+              (
+                any_byte (b 7),
+                (
+                  any_byte (b 8),
+                  (
+                    any_byte (b 9),
+                    (refl, (command v.eop v.rs, (status v.dd, (refl, (refl, (refl, tt)))))),
+                  ),
+                ),
+              ),
+            ),
+          ),
+        ),
+      ),
+    ),
+  ),
+) i
 
 -- the bits, as they are read back
 eop_of : ℕ → Bool
@@ -45,7 +75,8 @@ eop_of b = not (eqb (bit_and b 1) 0)
 rs_of : ℕ → Bool
 rs_of b = not (eqb (bit_and b 8) 0)
 
-reads-command : (eop rs : Bool) → (eop_of (cond eop 1 0 + cond rs 8 0) ≡ eop) × (rs_of (cond eop 1 0 + cond rs 8 0) ≡ rs)
+reads-command : (eop rs : Bool) → (eop_of (cond eop 1 0 + cond rs 8 0) ≡ eop)
+    × (rs_of (cond eop 1 0 + cond rs 8 0) ≡ rs)
 unfolding eop_of rs_of
 reads-command true true = (refl, refl)
 reads-command true false = (refl, refl)
@@ -59,10 +90,14 @@ reads-status false = refl
 
 pub one-spelling : (v w : Legacy) → IsLegacy v → IsLegacy w → descriptor_bytes v ≡ descriptor_bytes w → v ≡ w
 one-spelling v w a b e =
-    let address : v.address ≡ w.address = sym (from_le_bytes-to_le_bytes_8 v.address a.0) ∙ ap (λ (x : List ℕ). from_le_bytes w64 x) e ∙ from_le_bytes-to_le_bytes_8 w.address b.0 in
-    let len : v.len ≡ w.len = sym (from_le_bytes-to_le_bytes_2 v.len a.1) ∙ ap (λ (x : List ℕ). from_le_bytes w16 (drop 8 x)) e ∙ from_le_bytes-to_le_bytes_2 w.len b.1 in
-    let eop = sym (reads-command v.eop v.rs).0 ∙ ap (λ (x : List ℕ). eop_of (get_or x 11 0)) e ∙ (reads-command w.eop w.rs).0 in
-    let rs = sym (reads-command v.eop v.rs).1 ∙ ap (λ (x : List ℕ). rs_of (get_or x 11 0)) e ∙ (reads-command w.eop w.rs).1 in
+    let address : v.address ≡ w.address = sym (from_le_bytes-to_le_bytes_8 v.address a.0)
+    ∙ ap (λ (x : List ℕ). from_le_bytes w64 x) e ∙ from_le_bytes-to_le_bytes_8 w.address b.0 in
+    let len : v.len ≡ w.len = sym (from_le_bytes-to_le_bytes_2 v.len a.1)
+    ∙ ap (λ (x : List ℕ). from_le_bytes w16 (drop 8 x)) e ∙ from_le_bytes-to_le_bytes_2 w.len b.1 in
+    let eop = sym (reads-command v.eop v.rs).0 ∙ ap (λ (x : List ℕ). eop_of (get_or x 11 0)) e
+    ∙ (reads-command w.eop w.rs).0 in
+    let rs = sym (reads-command v.eop v.rs).1 ∙ ap (λ (x : List ℕ). rs_of (get_or x 11 0)) e
+    ∙ (reads-command w.eop w.rs).1 in
     let done = sym (reads-status v.dd) ∙ ap (λ (x : List ℕ). eop_of (get_or x 12 0)) e ∙ reads-status w.dd in
     λ k. record { address = address k; len = len k; eop = eop k; rs = rs k; dd = done k }
 
@@ -75,6 +110,7 @@ byte_of : Result Legacy Unsupported → ℕ
 byte_of (Ok v) = 0
 byte_of (Err u) = u.byte
 
-pub same-byte : (i j : ℕ) → ◌≡◌ {A = Result Legacy Unsupported} (Err (record { byte = i })) (Err (record { byte = j })) → i ≡ j
+pub same-byte : (i j : ℕ) → ◌≡◌ {A = Result Legacy Unsupported} (Err (record { byte = i })) (Err (record { byte = j }))
+    → i ≡ j
 unfolding byte_of
 same-byte i j e = ap byte_of e

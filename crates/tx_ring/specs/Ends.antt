@@ -3,7 +3,7 @@ use Rattle.std.specs.Prelude.{◌≡◌, ℕ, ◌+◌, ◌-◌, ◌*◌, ◌%◌
 use Rattle.std.specs.Prelude.{slice_index, Option, Some, None}
 use Rattle.atomic_table.specs.Seated.{TableId}
 use Rattle.flake_base.specs.declared.segment.Seg.{Seg}
-use Rattle.tx_ring.specs.Words.{second, last_len, frame_words, IsFrame, size, extent}
+use Rattle.tx_ring.specs.Words.{length_word, last_len, frame_words, IsFrame, size, extent}
 use Rattle.tx_ring.specs.Rule.{blank_driver, blank_device}
 use Rattle.tx_ring.specs.declared.view.DriverView.{DriverView}
 use Rattle.tx_ring.specs.declared.view.View.{View}
@@ -13,8 +13,8 @@ use Rattle.atomic_table.specs.Table.{Me}
 use Rattle.tx_ring.specs.Moves.{drafting, fetching, holding}
 use Rattle.tx_ring.specs.declared.view.DriverStage.TheVariants.{Idle, Putting, Reaping}
 
-abbrev pub IsSized : ℕ → TableId → Type 0
-IsSized n z = (z.slots ≡ n) × (z.words ≡ 3 + 2 * n) × (0 < n) × (n ≤ 4096)
+abbrev pub HasRingSizes : ℕ → TableId → Type 0
+HasRingSizes n z = (z.slots ≡ n) × (z.words ≡ 3 + 2 * n) × (0 < n) × (n ≤ 4096)
 
 -- the driver's seat between two calls
 abbrev pub driving : {P : Type 0} → DriverView P → View P
@@ -52,7 +52,7 @@ abbrev pub IsHolding : {P : Type 0} → (P → List Seg) → ℕ → Me (Option 
 IsHolding {P} segs n m last status = (f : P) × (m.0.gathers ≡ true) × (m.0.device.stage ≡ Holding f)
     × (m.1 ≡ (last, Some f) ∷ []) × (0 < size segs f)
     × (last ≡ (extent segs m.0.device.completed + (size segs f - 1)) % n)
-    × (status ≡ second (last_len (segs f)) true true)
+    × (status ≡ length_word (last_len (segs f)) true true)
 
 -- a frame was completed, and the head goes behind it
 abbrev pub IsBehind : {P : Type 0} → (P → List Seg) → ℕ → Me (Option P) (View P) → ℕ → Type 0

@@ -3,7 +3,7 @@ use Rattle.std.specs.Prelude.{◌≡◌, ℕ, ◌+◌, ◌-◌, ◌%◌, ◌≤�
 use Rattle.std.specs.Prelude.{None}
 use Rattle.atomic_table.specs.Table.{Me}
 use Rattle.flake_base.specs.declared.segment.Seg.{Seg}
-use Rattle.tx_ring.specs.Words.{second, last_len, IsFrame, size, extent}
+use Rattle.tx_ring.specs.Words.{length_word, last_len, IsFrame, size, extent}
 use Rattle.tx_ring.specs.Rows.{frame_bytes, row_bytes, row_segment}
 use Rattle.tx_ring.specs.Ends.{IsAtRest}
 use Rattle.tx_ring.specs.Moves.{holding, blanked, ending}
@@ -46,7 +46,7 @@ module _ {P : Type 0} (segs : P → List Seg) where
     pub stage : m.0.device.stage ≡ Holding job.frame
     pub slot : m.1 ≡ (job.last, None) ∷ []
     pub place : job.last ≡ (extent segs m.0.device.completed + (size segs job.frame - 1)) % n
-    pub status : job.status ≡ second (last_len (segs job.frame)) true false
+    pub status : job.status ≡ length_word (last_len (segs job.frame)) true false
     pub frame : IsFrame (segs job.frame)
     pub rows : n ≤ vec_capacity job.rows
 

@@ -6,7 +6,7 @@ use mathlib.Core.Option as maybe
 use lib.ListN.{get_elem?}
 use Rattle.atomic_table.specs.Table.{State, Me, step}
 use Rattle.flake_base.specs.declared.segment.Seg.{Seg}
-use Rattle.tx_ring.specs.Words.{second, last_len, frame_words, IsFrame, size, extent}
+use Rattle.tx_ring.specs.Words.{length_word, last_len, frame_words, IsFrame, size, extent}
 use Rattle.tx_ring.specs.Plays.{wrote, wrote_last, moved_tail, looked, fetched, wrote_back, moved_head, saw_status}
 use Rattle.tx_ring.specs.Plays.{Keeps, gave_back, shut, saw_closed, compared}
 use Rattle.tx_ring.specs.StepKinds.{writes, writes_last, posts, blanks, finds, fetches, fetches_last, completes}
@@ -85,7 +85,7 @@ module _ {P : Type 0} (segs : P → List Seg) (n : ℕ) (t : State (Option P) (V
         (f : P) → m.0.gathers ≡ true → m.0.device.stage ≡ Holding f
         → m.1 ≡ (last_place segs n t seat m.0 (extent segs m.0.device.completed) f, Some f) ∷ []
         → let k : ℕ = status_word segs n t seat m.0 (extent segs m.0.device.completed) f in
-        let x : ℕ = second (last_len (segs f)) true true in
+        let x : ℕ = length_word (last_len (segs f)) true true in
         wrote_back segs (step n k x 0 none) m x m'
         → Makes segs n t seat m.0 (completes f)
         (stored k x (slice_set t.homes (last_place segs n t seat m.0 (extent segs m.0.device.completed) f)

@@ -4,7 +4,7 @@ use Rattle.std.specs.Prelude.{length, slice_index, Option, Some, None}
 use Rattle.atomic_table.specs.Table.{State, Me, Step, rest}
 use Rattle.flake_base.specs.declared.segment.Seg.{Seg}
 use Rattle.tx_ring.specs.Changes.{IsPrefix}
-use Rattle.tx_ring.specs.Words.{second, last_len, frame_words, IsFrame, size, extent}
+use Rattle.tx_ring.specs.Words.{length_word, last_len, frame_words, IsFrame, size, extent}
 use Rattle.tx_ring.specs.Rule.{IsRing, blank_driver, blank_device}
 use Rattle.tx_ring.specs.Moves.{drafting, drafted, posting, missed, reaping, idle, closing, blanked, fetching, holding}
 use Rattle.tx_ring.specs.Moves.{completing, resting, ending}
@@ -93,7 +93,7 @@ module _ {P : Type 0} (segs : P → List Seg) where
   -- the status of the oldest frame's last descriptor
   abbrev pub saw_status : Step (Option P) → Me (Option P) (View P) → ℕ → Me (Option P) (View P) → Type 0
   saw_status st m r m' = (f : P) (more : List P) → m.0.driver.posted ≡ m.0.driver.reaped ++ f ∷ more
-      → (done : Bool) × (r ≡ second (last_len (segs f)) true done) × (last_len (segs f) ≤ 4096)
+      → (done : Bool) × (r ≡ length_word (last_len (segs f)) true done) × (last_len (segs f) ≤ 4096)
       × (done ≡ true → m' ≡ (
         with_driver (reaping f m.0.driver) m.0,
         ((extent segs m.0.driver.reaped + (size segs f - 1)) % st.slots, Some f) ∷ m.1,

@@ -4,7 +4,7 @@ use Rattle.std.specs.Int.{w64, to_le_bytes}
 use Rattle.flake_base.specs.declared.segment.Seg.{Seg}
 use Rattle.tx_descriptor.specs.declared.legacy.Legacy.{Legacy}
 use Rattle.tx_descriptor.specs.Bytes.{descriptor_bytes}
-use Rattle.tx_ring.specs.Words.{second}
+use Rattle.tx_ring.specs.Words.{length_word}
 use Rattle.tx_ring.specs.declared.job.Row.{Row}
 
 -- the descriptor of a segment: EOP and RS stand on a frame's last one alone, and DD once the frame is completed
@@ -21,14 +21,14 @@ frame_descriptors done (s ∷ t ∷ ss) = segment_descriptor s false false ∷ f
 abbrev pub frame_bytes : List Seg → List (List ℕ)
 frame_bytes ss = map descriptor_bytes (frame_descriptors false ss)
 
-abbrev pub row : Seg → Bool → Row
-row s last = record { address = s.address; status = second s.len last false }
+abbrev pub descriptor_row : Seg → Bool → Row
+descriptor_row s last = record { address = s.address; status = length_word s.len last false }
 
 -- the words of the same descriptors
 abbrev pub frame_rows : List Seg → List Row
 frame_rows [] = []
-frame_rows (s ∷ []) = row s true ∷ []
-frame_rows (s ∷ t ∷ ss) = row s false ∷ frame_rows (t ∷ ss)
+frame_rows (s ∷ []) = descriptor_row s true ∷ []
+frame_rows (s ∷ t ∷ ss) = descriptor_row s false ∷ frame_rows (t ∷ ss)
 
 abbrev pub row_bytes : Row → List ℕ
 row_bytes r = to_le_bytes w64 r.address ++ to_le_bytes w64 r.status

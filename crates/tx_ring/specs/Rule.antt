@@ -6,7 +6,7 @@ use mathlib.Core.Option.{some}
 use mathlib.Core.Option as maybe
 use lib.ListN.{get_elem?}
 use Rattle.flake_base.specs.declared.segment.Seg.{Seg}
-use Rattle.tx_ring.specs.Words.{Each, IsFrame, size, extent, lay, stops}
+use Rattle.tx_ring.specs.Words.{EachElement, IsFrame, size, extent, lay, stops}
 use Rattle.tx_ring.specs.declared.view.View.{View}
 use Rattle.tx_ring.specs.declared.view.DriverView.{DriverView}
 use Rattle.tx_ring.specs.declared.view.DeviceView.{DeviceView}
@@ -70,7 +70,7 @@ module _ {P : Type 0} (segs : P → List Seg) where
     pub waiting : List P
     pub completed_is : e.completed ≡ d.reaped ++ finished
     pub posted_is : d.posted ≡ e.completed ++ waiting
-    pub frames : Each (λ (f : P). IsFrame (segs f)) (finished ++ waiting)
+    pub frames : EachElement (λ (f : P). IsFrame (segs f)) (finished ++ waiting)
     -- at most n - 1 descriptors stand
     pub fits : 2 * extent segs (finished ++ waiting) + length d.draft + 2 ≤ 2 * n
     -- each stands in its place, with DD in the last one of a completed frame, and a post under way stands past the tail

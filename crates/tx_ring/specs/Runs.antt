@@ -7,7 +7,8 @@ use Rattle.atomic_table.specs.Table.{State, opening}
 use Rattle.flake_base.specs.declared.segment.Seg.{Seg}
 use Rattle.tx_ring.specs.Rule.{opener}
 use Rattle.tx_ring.specs.Plays.{Keeps}
-use Rattle.tx_ring.specs.StepKinds.{Kind, writes, writes_last, posts, blanks, finds, fetches, fetches_last, completes}
+use Rattle.tx_ring.specs.StepKinds.{RingStep, writes, writes_last, posts, blanks, finds, fetches, fetches_last}
+use Rattle.tx_ring.specs.StepKinds.{completes}
 use Rattle.tx_ring.specs.StepKinds.{moves_head, misses, reaps, gives_back, closes, ends, peeks, splits, joins, enters}
 use Rattle.tx_ring.specs.StepKinds.{Makes}
 use Rattle.tx_ring.specs.declared.view.View.{View}
@@ -30,7 +31,7 @@ module _ {P : Type 0} where
   abbrev pub nothing_told : Tally P
   nothing_told = record { posted = []; reaped = []; misses = []; completed = []; blanks = []; ended = false }
 
-  abbrev pub tell : Kind P → Tally P → Tally P
+  abbrev pub tell : RingStep P → Tally P → Tally P
   tell (writes x) y = y
   tell (writes_last x) y = y
   tell (posts f) y = record y { posted = y.posted ++ f ∷ [] }
@@ -51,7 +52,7 @@ module _ {P : Type 0} where
   tell enters y = y
 
   -- the steps in turn
-  abbrev pub tells : List (Kind P) → Tally P → Tally P
+  abbrev pub tells : List (RingStep P) → Tally P → Tally P
   tells [] y = y
   tells (kind ∷ kinds) y = tells kinds (tell kind y)
 
@@ -71,13 +72,13 @@ module _ {P : Type 0} where
 
 module _ {P : Type 0} (segs : P → List Seg) (n : ℕ) where
   -- some seat makes a step
-  pub record Steps (kind : Kind P) (old new : State (Option P) (View P)) : Type 0 where
+  pub record Steps (kind : RingStep P) (old new : State (Option P) (View P)) : Type 0 where
     pub seat : ℕ
     pub view : View P
     pub sits : get_elem? old.views seat ≡ some view
     pub makes : Makes segs n old seat view kind new
 
-  abbrev pub Runs : State (Option P) (View P) → List (Kind P) → State (Option P) (View P) → Type 0
+  abbrev pub Runs : State (Option P) (View P) → List (RingStep P) → State (Option P) (View P) → Type 0
   Runs old [] new = new ≡ old
   Runs old (kind ∷ kinds) new = (mid : State (Option P) (View P)) × Steps kind old mid × Runs mid kinds new
 
@@ -91,7 +92,7 @@ module _ {P : Type 0} (segs : P → List Seg) (n : ℕ) where
 
 -- after any steps from the opening on, misses are the looks that found no DD, blanks those that found the tail at the
 -- head, and a device's end knows the ring closed exactly where a look found the closed word set
-abbrev pub RunsAreTold : {P : Type 0} → (P → List Seg) → Type 0
-RunsAreTold {P} segs =
-    (n : ℕ) (kinds : List (Kind P)) (end : State (Option P) (View P)) → 0 < n
+abbrev pub RingViewsCountRuns : {P : Type 0} → (P → List Seg) → Type 0
+RingViewsCountRuns {P} segs =
+    (n : ℕ) (kinds : List (RingStep P)) (end : State (Option P) (View P)) → 0 < n
     → Runs segs n (opened n) kinds end → AreTold segs n (tells kinds nothing_told) end

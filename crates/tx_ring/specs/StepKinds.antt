@@ -6,7 +6,7 @@ use mathlib.Core.Option as maybe
 use lib.ListN.{get_elem?}
 use Rattle.atomic_table.specs.Table.{State}
 use Rattle.flake_base.specs.declared.segment.Seg.{Seg}
-use Rattle.tx_ring.specs.Words.{second, last_len, frame_words, IsFrame, size, extent}
+use Rattle.tx_ring.specs.Words.{length_word, last_len, frame_words, IsFrame, size, extent}
 use Rattle.tx_ring.specs.Rule.{nobody}
 use Rattle.tx_ring.specs.Moves.{drafting, drafted, posting, missed, reaping, idle, closing, blanked, fetching, holding}
 use Rattle.tx_ring.specs.Moves.{completing, resting, ending}
@@ -17,35 +17,35 @@ use Rattle.tx_ring.specs.declared.view.DeviceView.{DeviceView}
 use Rattle.tx_ring.specs.declared.view.DriverStage.TheVariants.{Idle, Putting, Reaping}
 use Rattle.tx_ring.specs.declared.view.DeviceStage.TheVariants.{Resting, Fetching, Holding, Behind}
 
-pub data Kind (P : Type 0) : Type 0 where
+pub data RingStep (P : Type 0) : Type 0 where
   -- a descriptor word past the tail; a frame's last one, with which the slot is taken; and the tail behind the frame
-  writes : ℕ → Kind P
-  writes_last : ℕ → Kind P
-  posts : P → Kind P
+  writes : ℕ → RingStep P
+  writes_last : ℕ → RingStep P
+  posts : P → RingStep P
   -- a look at the tail that found it at the head, and one that found it elsewhere, where the next frame is this
-  blanks : Kind P
-  finds : P → Kind P
+  blanks : RingStep P
+  finds : P → RingStep P
   -- so many words of the frame were loaded before; and its last word, with which the slot is taken
-  fetches : P → ℕ → Kind P
-  fetches_last : P → ℕ → Kind P
+  fetches : P → ℕ → RingStep P
+  fetches_last : P → ℕ → RingStep P
   -- the status with DD, and the head behind the frame
-  completes : P → Kind P
-  moves_head : P → Kind P
+  completes : P → RingStep P
+  moves_head : P → RingStep P
   -- a look at the oldest frame's status that found no DD, and one that found it
-  misses : P → Kind P
-  reaps : P → Kind P
+  misses : P → RingStep P
+  reaps : P → RingStep P
   -- the empty slot comes home
-  gives_back : Kind P
+  gives_back : RingStep P
   -- the driver sets the closed word, and the device finds it set
-  closes : Kind P
-  ends : Kind P
+  closes : RingStep P
+  ends : RingStep P
   -- a load that changes nothing
-  peeks : Kind P
+  peeks : RingStep P
   -- both ends at one seat part; they come to one seat, the device from the seat with this number and view; and a seat
   -- more, which has nothing
-  splits : Kind P
-  joins : ℕ → View P → Kind P
-  enters : Kind P
+  splits : RingStep P
+  joins : ℕ → View P → RingStep P
+  enters : RingStep P
 
 abbrev pub table : {P : Type 0} → List ℕ → List (maybe.Option (Option P)) → List (View P) → State (Option P) (View P)
 table words homes views = record { words = words; homes = homes; views = views }
@@ -123,7 +123,7 @@ module _ {P : Type 0} (segs : P → List Seg) (n : ℕ) (t : State (Option P) (V
     pub gathers : v.gathers ≡ true
     pub holds : v.device.stage ≡ Holding f
     pub made : new ≡ table
-        (slice_set t.words (status_word (extent segs v.device.completed) f) (second (last_len (segs f)) true true))
+        (slice_set t.words (status_word (extent segs v.device.completed) f) (length_word (last_len (segs f)) true true))
         (slice_set t.homes (last_place (extent segs v.device.completed) f) (some (Some f)))
         (device_to (completing f v.device))
 
@@ -144,13 +144,13 @@ module _ {P : Type 0} (segs : P → List Seg) (n : ℕ) (t : State (Option P) (V
   pub record MakesMiss (f : P) (new : State (Option P) (View P)) : Type 0 where
     pub oldest : IsOldest f
     pub without :
-        slice_index t.words (status_word (extent segs v.driver.reaped) f) ≡ second (last_len (segs f)) true false
+        slice_index t.words (status_word (extent segs v.driver.reaped) f) ≡ length_word (last_len (segs f)) true false
     pub made : new ≡ table t.words t.homes (driver_to (missed v.driver))
 
   pub record MakesReap (f : P) (new : State (Option P) (View P)) : Type 0 where
     pub oldest : IsOldest f
     pub with_dd :
-        slice_index t.words (status_word (extent segs v.driver.reaped) f) ≡ second (last_len (segs f)) true true
+        slice_index t.words (status_word (extent segs v.driver.reaped) f) ≡ length_word (last_len (segs f)) true true
     pub made : new ≡ table t.words (slice_set t.homes (last_place (extent segs v.driver.reaped) f) none)
         (driver_to (reaping f v.driver))
 
@@ -184,7 +184,7 @@ module _ {P : Type 0} (segs : P → List Seg) (n : ℕ) (t : State (Option P) (V
     pub sits : get_elem? t.views other ≡ some w
     pub made : new ≡ table t.words t.homes (slice_set (slice_set t.views seat (both_parts v w)) other nobody)
 
-  abbrev pub Makes : Kind P → State (Option P) (View P) → Type 0
+  abbrev pub Makes : RingStep P → State (Option P) (View P) → Type 0
   Makes (writes x) new = MakesWrite x new
   Makes (writes_last x) new = MakesLast x new
   Makes (posts f) new = MakesPost f new
@@ -207,5 +207,5 @@ module _ {P : Type 0} (segs : P → List Seg) (n : ℕ) (t : State (Option P) (V
 -- each kind of step keeps the rule
 abbrev pub StepsKeepRings : {P : Type 0} → (P → List Seg) → Type 0
 StepsKeepRings {P} segs =
-    (n : ℕ) (t new : State (Option P) (View P)) (seat : ℕ) (v : View P) (kind : Kind P)
+    (n : ℕ) (t new : State (Option P) (View P)) (seat : ℕ) (v : View P) (kind : RingStep P)
     → Keeps segs n t → get_elem? t.views seat ≡ some v → Makes segs n t seat v kind new → Keeps segs n new

@@ -4,14 +4,14 @@ use Rattle.std.specs.Prelude.{replicate, Option, Some, None}
 use Rattle.flake_base.specs.declared.segment.Seg.{Seg}
 
 -- the length, EOP and RS in byte 11, DD in byte 12
-abbrev pub second : ℕ → Bool → Bool → ℕ
-second len last done = len + cond last (9 * 2 ^ 24) 0 + cond done (2 ^ 32) 0
+abbrev pub length_word : ℕ → Bool → Bool → ℕ
+length_word len last done = len + cond last (9 * 2 ^ 24) 0 + cond done (2 ^ 32) 0
 
 -- all words of a frame but the last, which is the only one that a write back changes
 abbrev pub front : List Seg → List ℕ
 front [] = []
 front (s ∷ []) = s.address ∷ []
-front (s ∷ t ∷ ss) = s.address ∷ second s.len false false ∷ front (t ∷ ss)
+front (s ∷ t ∷ ss) = s.address ∷ length_word s.len false false ∷ front (t ∷ ss)
 
 abbrev pub last_len : List Seg → ℕ
 last_len [] = 0
@@ -19,24 +19,24 @@ last_len (s ∷ []) = s.len
 last_len (s ∷ t ∷ ss) = last_len (t ∷ ss)
 
 abbrev pub frame_words : Bool → List Seg → List ℕ
-frame_words done ss = front ss ++ second (last_len ss) true done ∷ []
+frame_words done ss = front ss ++ length_word (last_len ss) true done ∷ []
 
 -- the words of segments that do not end a frame
 abbrev pub pairs : List Seg → List ℕ
 pairs [] = []
-pairs (s ∷ ss) = s.address ∷ second s.len false false ∷ pairs ss
+pairs (s ∷ ss) = s.address ∷ length_word s.len false false ∷ pairs ss
 
-abbrev pub Each : {A : Type 0} → (A → Type 0) → List A → Type 0
-Each F [] = Unit {0}
-Each F (x ∷ xs) = F x × Each F xs
+abbrev pub EachElement : {A : Type 0} → (A → Type 0) → List A → Type 0
+EachElement F [] = Unit {0}
+EachElement F (x ∷ xs) = F x × EachElement F xs
 
 -- a segment that one descriptor may name
-abbrev pub IsShort : Seg → Type 0
-IsShort s = (0 < s.len) × (s.len ≤ 4096)
+abbrev pub IsShortSegment : Seg → Type 0
+IsShortSegment s = (0 < s.len) × (s.len ≤ 4096)
 
 -- a frame that may be posted
 abbrev pub IsFrame : List Seg → Type 0
-IsFrame ss = (0 < length ss) × Each IsShort ss
+IsFrame ss = (0 < length ss) × EachElement IsShortSegment ss
 
 module _ {P : Type 0} (segs : P → List Seg) where
   abbrev pub size : P → ℕ

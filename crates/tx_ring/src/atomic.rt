@@ -3,7 +3,7 @@
 ghost use Rattle.std.specs.Prelude.{◌≡◌, ◌+◌, ◌-◌, ◌*◌, ◌/◌, ◌%◌, ◌<◌, List, [], ◌∷◌, ◌++◌, true, None, length, Option};
 ghost use Rattle.atomic_table.specs.Table.{step, rest};
 ghost use mathlib.Core.Option.{none};
-ghost use Rattle.tx_ring.specs.Ends.{IsSized, IsAtRest, IsDrafting, IsHalfDrafted, IsPut, IsAtWord, HasTaken};
+ghost use Rattle.tx_ring.specs.Ends.{HasRingSizes, IsAtRest, IsDrafting, IsHalfDrafted, IsPut, IsAtWord, HasTaken};
 ghost use Rattle.tx_ring.specs.Ends.{IsHolding, IsBehind, IsBoth, driving, steering, gathering};
 ghost use Rattle.tx_ring.specs.Moves.{drafting, drafted, idle, closing, resting};
 ghost use Rattle.tx_ring.specs.Plays.{with_driver, with_device, driver_part, device_part, both_parts, moved_tail};
@@ -26,7 +26,7 @@ pub(crate) fn write_address<P: Framed>(
     word: u64,
 )
     requires table { (seat.old.table_id ≡ ring.now.shared.table_id)
-        × IsSized ring.now.shared.key ring.now.shared.table_id }
+        × HasRingSizes ring.now.shared.key ring.now.shared.table_id }
     requires ready { IsDrafting P.segs ring.now.shared.key seat.old.me.0 place }
     ensures seat { (seat.new.table_id ≡ seat.old.table_id) × (seat.new.id ≡ seat.old.id) }
     ensures view { seat.new.me ≡ (with_driver (drafting word seat.old.me.0.driver) seat.old.me.0, seat.old.me.1) }
@@ -43,7 +43,7 @@ pub(crate) fn write_command<P: Framed>(
     word: u64,
 )
     requires table { (seat.old.table_id ≡ ring.now.shared.table_id)
-        × IsSized ring.now.shared.key ring.now.shared.table_id }
+        × HasRingSizes ring.now.shared.key ring.now.shared.table_id }
     requires ready { IsHalfDrafted P.segs ring.now.shared.key seat.old.me.0 place }
     ensures seat { (seat.new.table_id ≡ seat.old.table_id) × (seat.new.id ≡ seat.old.id) }
     ensures view { seat.new.me ≡ (with_driver (drafting word seat.old.me.0.driver) seat.old.me.0, seat.old.me.1) }
@@ -60,7 +60,7 @@ pub(crate) fn write_last<P: Framed>(
     word: u64,
 )
     requires table { (seat.old.table_id ≡ ring.now.shared.table_id)
-        × IsSized ring.now.shared.key ring.now.shared.table_id }
+        × HasRingSizes ring.now.shared.key ring.now.shared.table_id }
     requires ready { IsHalfDrafted P.segs ring.now.shared.key seat.old.me.0 place }
     ensures seat { (seat.new.table_id ≡ seat.old.table_id) × (seat.new.id ≡ seat.old.id) }
     ensures view { seat.new.me ≡ (
@@ -95,7 +95,7 @@ pub(crate) fn exchange<P: Framed>(
 // The frame is posted, and its slot comes home with it.
 pub(crate) fn move_tail<P: Framed>(ring: &RingTable<P>, seat: &mut RingSeat<P>, tail: usize)
     requires table { (seat.old.table_id ≡ ring.now.shared.table_id)
-        × IsSized ring.now.shared.key ring.now.shared.table_id }
+        × HasRingSizes ring.now.shared.key ring.now.shared.table_id }
     requires ready { IsPut P.segs ring.now.shared.key seat.old.me tail }
     ensures seat { (seat.new.table_id ≡ seat.old.table_id) × (seat.new.id ≡ seat.old.id) }
     ensures tells { moved_tail P.segs (step ring.now.shared.table_id.slots 0 tail 0 none) seat.old.me tail seat.new.me }
@@ -106,7 +106,7 @@ pub(crate) fn move_tail<P: Framed>(ring: &RingTable<P>, seat: &mut RingSeat<P>, 
 // Where the tail is at the head nothing waits, which is a blank.
 pub(crate) fn look_at_tail<P: Framed>(ring: &RingTable<P>, seat: &mut RingSeat<P>) -> u64
     requires table { (seat.old.table_id ≡ ring.now.shared.table_id)
-        × IsSized ring.now.shared.key ring.now.shared.table_id }
+        × HasRingSizes ring.now.shared.key ring.now.shared.table_id }
     requires rest { IsAtRest seat.old.me }
     ensures seat { (seat.new.table_id ≡ seat.old.table_id) × (seat.new.id ≡ seat.old.id) }
     ensures tells { looked P.segs (step ring.now.shared.table_id.slots 0 0 0 none) seat.old.me result seat.new.me }
@@ -116,7 +116,7 @@ pub(crate) fn look_at_tail<P: Framed>(ring: &RingTable<P>, seat: &mut RingSeat<P
 
 pub(crate) fn look_at_closed<P: Framed>(ring: &RingTable<P>, seat: &mut RingSeat<P>) -> u64
     requires table { (seat.old.table_id ≡ ring.now.shared.table_id)
-        × IsSized ring.now.shared.key ring.now.shared.table_id }
+        × HasRingSizes ring.now.shared.key ring.now.shared.table_id }
     requires rest { IsAtRest seat.old.me }
     ensures seat { (seat.new.table_id ≡ seat.old.table_id) × (seat.new.id ≡ seat.old.id) }
     ensures tells { saw_closed P.segs (step ring.now.shared.table_id.slots 2 0 0 none) seat.old.me result seat.new.me }
@@ -127,7 +127,7 @@ pub(crate) fn look_at_closed<P: Framed>(ring: &RingTable<P>, seat: &mut RingSeat
 // The next word of the next frame. With its last word the frame's slot is out.
 pub(crate) fn fetch_word<P: Framed>(ring: &RingTable<P>, seat: &mut RingSeat<P>, word: usize) -> u64
     requires table { (seat.old.table_id ≡ ring.now.shared.table_id)
-        × IsSized ring.now.shared.key ring.now.shared.table_id }
+        × HasRingSizes ring.now.shared.key ring.now.shared.table_id }
     requires ready { IsAtWord P.segs ring.now.shared.key seat.old.me word }
     ensures seat { (seat.new.table_id ≡ seat.old.table_id) × (seat.new.id ≡ seat.old.id) }
     ensures tells { fetched P.segs (step ring.now.shared.table_id.slots word 0 0 none) seat.old.me result seat.new.me }
@@ -143,7 +143,7 @@ pub(crate) fn write_back<P: Framed>(
     status: u64,
 )
     requires table { (seat.old.table_id ≡ ring.now.shared.table_id)
-        × IsSized ring.now.shared.key ring.now.shared.table_id }
+        × HasRingSizes ring.now.shared.key ring.now.shared.table_id }
     requires ready { IsHolding P.segs ring.now.shared.key seat.old.me last status }
     ensures seat { (seat.new.table_id ≡ seat.old.table_id) × (seat.new.id ≡ seat.old.id) }
     ensures tells { wrote_back P.segs (step ring.now.shared.table_id.slots (3 + 2 * last + 1) status 0 none)
@@ -155,7 +155,7 @@ pub(crate) fn write_back<P: Framed>(
 
 pub(crate) fn move_head<P: Framed>(ring: &RingTable<P>, seat: &mut RingSeat<P>, head: usize)
     requires table { (seat.old.table_id ≡ ring.now.shared.table_id)
-        × IsSized ring.now.shared.key ring.now.shared.table_id }
+        × HasRingSizes ring.now.shared.key ring.now.shared.table_id }
     requires ready { IsBehind P.segs ring.now.shared.key seat.old.me head }
     ensures seat { (seat.new.table_id ≡ seat.old.table_id) × (seat.new.id ≡ seat.old.id) }
     ensures view { seat.new.me ≡ (with_device (resting seat.old.me.0.device) seat.old.me.0, seat.old.me.1) }
@@ -170,7 +170,7 @@ pub(crate) fn look_at_status<P: Framed>(
     last: usize,
 ) -> u64
     requires table { (seat.old.table_id ≡ ring.now.shared.table_id)
-        × IsSized ring.now.shared.key ring.now.shared.table_id }
+        × HasRingSizes ring.now.shared.key ring.now.shared.table_id }
     requires posed { seat.old.me ≡ (driving seat.old.me.0.driver, []) }
     requires oldest { (f : P)
         × (more : List P)
@@ -188,7 +188,7 @@ pub(crate) fn look_at_status<P: Framed>(
 // The empty slot of the last frame that was reaped comes home.
 pub(crate) fn give_back<P: Framed>(ring: &RingTable<P>, seat: &mut RingSeat<P>, last: usize)
     requires table { (seat.old.table_id ≡ ring.now.shared.table_id)
-        × IsSized ring.now.shared.key ring.now.shared.table_id }
+        × HasRingSizes ring.now.shared.key ring.now.shared.table_id }
     requires ready { HasTaken P.segs ring.now.shared.key seat.old.me last }
     ensures seat { (seat.new.table_id ≡ seat.old.table_id) × (seat.new.id ≡ seat.old.id) }
     ensures view { seat.new.me ≡ (with_driver (idle seat.old.me.0.driver) seat.old.me.0, rest seat.old.me.1) }
@@ -198,7 +198,7 @@ pub(crate) fn give_back<P: Framed>(ring: &RingTable<P>, seat: &mut RingSeat<P>, 
 
 pub(crate) fn shut<P: Framed>(ring: &RingTable<P>, seat: &mut RingSeat<P>)
     requires table { (seat.old.table_id ≡ ring.now.shared.table_id)
-        × IsSized ring.now.shared.key ring.now.shared.table_id }
+        × HasRingSizes ring.now.shared.key ring.now.shared.table_id }
     requires posed { seat.old.me ≡ (driving seat.old.me.0.driver, []) }
     requires reaped { seat.old.me.0.driver.posted ≡ seat.old.me.0.driver.reaped }
     ensures seat { (seat.new.table_id ≡ seat.old.table_id) × (seat.new.id ≡ seat.old.id) }
@@ -209,7 +209,7 @@ pub(crate) fn shut<P: Framed>(ring: &RingTable<P>, seat: &mut RingSeat<P>)
 
 // A seat that has nothing.
 pub(crate) fn spare_seat<P: Framed>(ring: &RingTable<P>) -> RingSeat<P>
-    requires { IsSized ring.now.shared.key ring.now.shared.table_id }
+    requires { HasRingSizes ring.now.shared.key ring.now.shared.table_id }
     ensures { result.table_id ≡ ring.now.shared.table_id }
 {
     let (_, spare) = ring.shared.load_new_seat::<Spare>(TAIL);
@@ -223,7 +223,7 @@ pub(crate) fn join_ends<P: Framed>(
 )
     requires table { (driver.old.table_id ≡ ring.now.shared.table_id)
         × (device.table_id ≡ ring.now.shared.table_id)
-        × IsSized ring.now.shared.key ring.now.shared.table_id }
+        × HasRingSizes ring.now.shared.key ring.now.shared.table_id }
     requires posed { (driver.old.me ≡ (steering driver.old.me.0.driver, []))
         × (device.me ≡ (gathering device.me.0.device, [])) }
     ensures seat { (driver.new.table_id ≡ driver.old.table_id) × (driver.new.id ≡ driver.old.id) }
@@ -235,7 +235,7 @@ pub(crate) fn join_ends<P: Framed>(
 // What both ends at one seat know of each other.
 pub(crate) fn compare_ends<P: Framed>(ring: &RingTable<P>, seat: &mut RingSeat<P>)
     requires table { (seat.old.table_id ≡ ring.now.shared.table_id)
-        × IsSized ring.now.shared.key ring.now.shared.table_id }
+        × HasRingSizes ring.now.shared.key ring.now.shared.table_id }
     requires both { IsBoth seat.old.me.0 }
     ensures seat { (seat.new.table_id ≡ seat.old.table_id) × (seat.new.id ≡ seat.old.id) }
     ensures view { seat.new.me ≡ seat.old.me }

@@ -1,6 +1,6 @@
 // What the device keeps beside the table.
 ghost use Rattle.std.specs.Prelude.{◌≡◌, ◌%◌, ◌≤◌, vec_capacity};
-ghost use Rattle.tx_ring.specs.Ends.{IsSized, gathering};
+ghost use Rattle.tx_ring.specs.Ends.{HasRingSizes, gathering};
 ghost use Rattle.tx_ring.specs.Words.{extent};
 ghost use Rattle.tx_ring.specs.declared.view.DeviceStage.TheVariants.{Resting};
 
@@ -20,7 +20,7 @@ pub(crate) struct DeviceCursor<P: Framed> {
     // Where the descriptors of the next frame go. They are with the job until it is completed.
     pub(crate) rows: Vec<Row>,
     pub(crate) alloc: Global,
-    ghost sized: { IsSized count seat.table_id },
+    ghost sized: { HasRingSizes count seat.table_id },
     ghost posed: { seat.me.0 ≡ gathering seat.me.0.device },
     ghost place: { head ≡ extent P.segs seat.me.0.device.completed % count },
     ghost ready: { seat.me.0.device.stage ≡ Resting → count ≤ vec_capacity rows },

@@ -3,7 +3,7 @@ ghost use Rattle.std.specs.Prelude.{◌≡◌, length, false};
 ghost use Rattle.tx_ring.specs.InDescriptors.{WordsAreDescriptors};
 ghost use Rattle.tx_ring.specs.PlayKinds.{PlaysAreKinds};
 ghost use Rattle.tx_ring.specs.Plays.{InOrder};
-ghost use Rattle.tx_ring.specs.Runs.{RunsAreTold};
+ghost use Rattle.tx_ring.specs.Runs.{RingViewsCountRuns};
 ghost use Rattle.tx_ring.specs.Shown.{driver_ring, driver_view, posted, device_ring, device_view, completed, ended};
 ghost use Rattle.tx_ring.specs.Shown.{IsResting};
 ghost use Rattle.tx_ring.specs.StepKinds.{StepsKeepRings};
@@ -47,5 +47,5 @@ pub fn steps_keep_rings<P: Framed>()
 /// After any steps from the opening on, a driver's misses are the looks that found no DD, a device's blanks those that
 /// found the tail at the head, and the device knows of the closing exactly where a look found the closed word set.
 pub fn runs_are_told<P: Framed>()
-    ensures { RunsAreTold P.segs }
+    ensures { RingViewsCountRuns P.segs }
 {}

@@ -1,9 +1,9 @@
 // A post, step by step: the descriptors, the slot of the last one, and the tail.
 ghost use Rattle.std.specs.Prelude.{◌≡◌, ◌+◌, ◌%◌, ◌<◌, ◌≤◌, false, [], ◌∷◌, length, take};
-ghost use Rattle.tx_ring.specs.Ends.{IsSized, IsDrafting, with_draft};
+ghost use Rattle.tx_ring.specs.Ends.{HasRingSizes, IsDrafting, with_draft};
 ghost use Rattle.tx_ring.specs.Moves.{drafting, posting};
 ghost use Rattle.tx_ring.specs.Plays.{with_driver};
-ghost use Rattle.tx_ring.specs.Words.{second, pairs, IsFrame, size, extent};
+ghost use Rattle.tx_ring.specs.Words.{length_word, pairs, IsFrame, size, extent};
 
 use crate::atomic::{exchange, move_tail, write_address, write_command, write_last};
 use crate::rule::{RingSeat, RingTable};
@@ -19,13 +19,13 @@ pub(crate) fn write_segment<P: Framed>(
     seg: Seg,
 )
     requires table { (seat.old.table_id ≡ ring.now.shared.table_id)
-        × IsSized ring.now.shared.key ring.now.shared.table_id }
+        × HasRingSizes ring.now.shared.key ring.now.shared.table_id }
     requires ready { IsDrafting P.segs ring.now.shared.key seat.old.me.0 place }
     requires seg { seg.len ≤ 4096 }
     ensures seat { (seat.new.table_id ≡ seat.old.table_id) × (seat.new.id ≡ seat.old.id) }
     ensures view { seat.new.me ≡ (
       with_driver
-          (drafting (second seg.len false false) (drafting seg.address seat.old.me.0.driver)) seat.old.me.0,
+          (drafting (length_word seg.len false false) (drafting seg.address seat.old.me.0.driver)) seat.old.me.0,
       seat.old.me.1,
     ) }
 {
@@ -53,7 +53,7 @@ pub(crate) fn write_front<P: Framed>(
 ) -> usize
     requires table { (seat.old.table_id ≡ ring.now.shared.table_id)
         × (count ≡ ring.now.shared.key)
-        × IsSized ring.now.shared.key ring.now.shared.table_id }
+        × HasRingSizes ring.now.shared.key ring.now.shared.table_id }
     requires ready { IsDrafting P.segs ring.now.shared.key seat.old.me.0 start × (seat.old.me.0.driver.draft ≡ []) }
     requires room { extent P.segs seat.old.me.0.driver.posted + size P.segs frame.now + 1
         ≤ extent P.segs seat.old.me.0.driver.reaped + ring.now.shared.key }
@@ -80,7 +80,7 @@ pub(crate) fn hand_over<P: Framed>(
     frame: P,
 )
     requires table { (seat.old.table_id ≡ ring.now.shared.table_id)
-        × IsSized ring.now.shared.key ring.now.shared.table_id }
+        × HasRingSizes ring.now.shared.key ring.now.shared.table_id }
     requires ready { IsDrafting P.segs ring.now.shared.key seat.old.me.0 place × (seat.old.me.1 ≡ []) }
     requires frame { IsFrame (P.segs frame)
         × (last + 1 ≡ size P.segs frame)

@@ -1,5 +1,6 @@
 -- Lists with the same items, each as often.
-use Rattle.std.proofs.Common.{◌≡◌, ℕ, zero, suc, ◌+◌, ◌*◌, ◌<◌, Bool, true, false, cond, List, [], ◌∷◌, ◌++◌, length, map, replicate, sym, refl, ap, ◌∙◌, subst, arith}
+use Rattle.std.proofs.Common.{◌≡◌, ℕ, zero, suc, ◌+◌, ◌*◌, ◌<◌, Bool, true, false, cond, List, [], ◌∷◌, ◌++◌, length}
+use Rattle.std.proofs.Common.{map, replicate, sym, refl, ap, ◌∙◌, subst, arith}
 use Rattle.view_sums.specs.Total.{total, Each, SameItems}
 use Rattle.view_sums.proofs.Sums.{total-append, total-map}
 
@@ -21,7 +22,8 @@ module _ {A : Type 0} where
   same_uncons x xs ys h = λ weight. omega (arith, h weight)
 
   pub same_append : (xs ys us vs : List A) → SameItems xs ys → SameItems us vs → SameItems (xs ++ us) (ys ++ vs)
-  same_append xs ys us vs h k = λ weight. omega (arith, h weight, k weight, total-append weight xs us, total-append weight ys vs)
+  same_append xs ys us vs h k =
+      λ weight. omega (arith, h weight, k weight, total-append weight xs us, total-append weight ys vs)
 
   pub same_swap : (xs ys : List A) → SameItems (xs ++ ys) (ys ++ xs)
   same_swap xs ys = λ weight. omega (arith, total-append weight xs ys, total-append weight ys xs)
@@ -42,20 +44,25 @@ module _ {A : Type 0} (weight : A → ℕ) where
   total-replicate_one zero x one = refl
   total-replicate_one (suc n) x one = omega (arith, one, total-replicate_one n x one)
 
-  pub total-replicate-add : (m n : ℕ) (x : A) → total weight (replicate (m + n) x) ≡ total weight (replicate m x) + total weight (replicate n x)
-  total-replicate-add m zero x = let e : m + 0 ≡ m = omega arith in omega (arith, ap (λ (k : ℕ). total weight (replicate k x)) e)
-  total-replicate-add m (suc n) x = let e : m + suc n ≡ suc (m + n) = omega arith in omega (arith, ap (λ (k : ℕ). total weight (replicate k x)) e, total-replicate-add m n x)
+  pub total-replicate-add : (m n : ℕ) (x : A) → total weight (replicate (m + n) x) ≡ total weight (replicate m x)
+      + total weight (replicate n x)
+  total-replicate-add m zero x = let e : m + 0 ≡ m = omega arith in
+      omega (arith, ap (λ (k : ℕ). total weight (replicate k x)) e)
+  total-replicate-add m (suc n) x = let e : m + suc n ≡ suc (m + n) = omega arith in
+      omega (arith, ap (λ (k : ℕ). total weight (replicate k x)) e, total-replicate-add m n x)
 
   pub total-replicate : (n : ℕ) (x : A) → total weight (replicate n x) ≡ n * weight x
   total-replicate zero x = omega arith
   total-replicate (suc n) x = omega (arith, total-replicate n x)
 
 -- a fact of each item, where a test tells items apart
-module _ {A : Type 0} (test : A → A → Bool) (own : (x : A) → test x x ≡ true) (one : (x y : A) → test x y ≡ true → x ≡ y) (P : A → Type 0) where
+module _ {A : Type 0} (test : A → A → Bool) (own : (x : A) → test x x ≡ true)
+    (one : (x y : A) → test x y ≡ true → x ≡ y) (P : A → Type 0) where
   abbrev often : A → List A → ℕ
   often x xs = total (λ y. cond (test x y) 1 0) xs
 
-  by_test : (x y : A) (xs : List A) (t : Bool) → test x y ≡ t → P y → (0 < often x xs → P x) → 0 < cond t 1 0 + often x xs → P x
+  by_test : (x y : A) (xs : List A) (t : Bool) → test x y ≡ t → P y → (0 < often x xs → P x)
+      → 0 < cond t 1 0 + often x xs → P x
   by_test x y xs true e here later some = subst P (sym (one x y e)) here
   by_test x y xs false e here later some = later (omega (arith, some))
 
@@ -65,7 +72,12 @@ module _ {A : Type 0} (test : A → A → Bool) (own : (x : A) → test x x ≡ 
 
   each_among : (xs : List A) → ((x : A) → 0 < often x xs → P x) → Each P xs
   each_among [] all = tt
-  each_among (x ∷ xs) all = (all x (omega (arith, ap {B = ℕ} (λ t. cond t 1 0) (own x))), each_among xs (λ y some. all y (omega (arith, some))))
+  each_among (x ∷ xs) all = (
+    all x (omega (arith, ap {B = ℕ} (λ t. cond t 1 0) (own x))),
+    each_among xs
+        (λ y some. all y (omega (arith, some))),
+  )
 
   pub each_items : (xs ys : List A) → SameItems xs ys → Each P xs → Each P ys
-  each_items xs ys same all = each_among ys (λ y some. is_among y xs all (omega (arith, same (λ u. cond (test y u) 1 0), some)))
+  each_items xs ys same all =
+      each_among ys (λ y some. is_among y xs all (omega (arith, same (λ u. cond (test y u) 1 0), some)))

@@ -1,9 +1,10 @@
 -- Puts and flushes, one after another.
-use Rattle.std.proofs.Common.{◌<◌, ℕ, Bool, true, false, List, [], ◌∷◌, ◌++◌, length, arith, refl, sym, subst, append_assoc, append-nil}
+use Rattle.std.proofs.Common.{◌<◌, ℕ, Bool, true, false, List, [], ◌∷◌, ◌++◌, length, arith, refl, sym, subst}
+use Rattle.std.proofs.Common.{append_assoc, append-nil}
 use Rattle.std.specs.Borrow.{Bor}
 use Rattle.std.proofs.lemmas.List.{length-append}
 use Rattle.view_sums.specs.Total.{Each}
-use Rattle.any_wire.specs.Sends.{Step, puts, flushes, bytes_put, joined, IsShort, Chain, Sends, Flushes}
+use Rattle.any_wire.specs.Sends.{WireStep, puts, flushes, step_bytes, steps_bytes, IsShortPut, Chain, Sends, Flushes}
 use Rattle.flake_base.specs.Growth.{Grew}
 use Rattle.flake_base.specs.Told.{WireTold}
 use Rattle.flake_model.specs.Wire.{FaultIs, KeptIs}
@@ -52,7 +53,8 @@ flush_more true text old mid new was flush = record {
   faults = subst (λ n. FaultIs true n new.faults) was.faults flush.faults;
 }
 
-behind : (front piece rest : List ℕ) (failed : Bool) (old new : WireTold) → WasSent failed ((front ++ piece) ++ rest) old new
+behind : (front piece rest : List ℕ) (failed : Bool) (old new : WireTold)
+    → WasSent failed ((front ++ piece) ++ rest) old new
     → WasSent failed (front ++ (piece ++ rest)) old new
 behind front piece rest failed old new = subst (λ t. WasSent failed t old new) (append_assoc front piece rest)
 
@@ -62,21 +64,22 @@ module _
     (flush_may : W → (W × Bool) → Type 0)
     (tells : W → WireTold)
     (says : AreTold put_may flush_may tells) where
-  chain_told : (steps : List Step) → Each IsShort steps → (failed now : Bool) (front : List ℕ) (first w end : W)
+  chain_told : (steps : List WireStep) → Each IsShortPut steps → (failed now : Bool) (front : List ℕ) (first w end : W)
       → WasSent failed front (tells first) (tells w) → Chain put_may flush_may steps failed now w end
-      → WasSent now (front ++ joined steps) (tells first) (tells end)
+      → WasSent now (front ++ steps_bytes steps) (tells first) (tells end)
   chain_told [] short failed now front first w end was h =
       subst (λ t. WasSent now t (tells first) (tells end)) (sym (append-nil front))
       (subst (λ v. WasSent now front (tells first) (tells v)) (sym h.0)
       (subst (λ f. WasSent f front (tells first) (tells w)) (sym h.1) was))
   chain_told (step ∷ steps) short true now front first w end was h =
-      behind front (bytes_put step) (joined steps) now (tells first) (tells end)
-      (chain_told steps short.1 true now (front ++ bytes_put step) first w end
-      (no_more front (bytes_put step) (tells first) (tells w) was) h)
+      behind front (step_bytes step) (steps_bytes steps) now (tells first) (tells end)
+      (chain_told steps short.1 true now (front ++ step_bytes step) first w end
+      (no_more front (step_bytes step) (tells first) (tells w) was) h)
   chain_told (puts piece ∷ steps) short false now front first w end was h =
       let one : PutIs h.0.1 piece (tells w) (tells h.0.0) =
-      subst (λ t. PutIs h.0.1 t (tells w) (tells h.0.0)) h.2 (says.put w h.1 h.0 (subst (λ t. 0 < length t) (sym h.2) short.0.0) h.3) in
-      behind front piece (joined steps) now (tells first) (tells end)
+      subst (λ t. PutIs h.0.1 t (tells w) (tells h.0.0)) h.2
+      (says.put w h.1 h.0 (subst (λ t. 0 < length t) (sym h.2) short.0.0) h.3) in
+      behind front piece (steps_bytes steps) now (tells first) (tells end)
       (chain_told steps short.1 h.0.1 now (front ++ piece) first h.0.0 end
       (put_more h.0.1 front piece (tells first) (tells w) (tells h.0.0) was one) h.4)
   chain_told (flushes ∷ steps) short false now front first w end was h =
@@ -90,7 +93,8 @@ module _
       (chain_told sends.steps sends.short false failed [] w w end (nothing_sent (tells w)) sends.chain)
 
   pub flush_told : (failed now : Bool) (text : List ℕ) (w mid end : W) → WasSent failed text (tells w) (tells mid)
-      → Flushes flush_may failed now mid end → WasSent now text (tells w) (tells end) × KeptIs now (tells mid).kept (tells end).kept
+      → Flushes flush_may failed now mid end → WasSent now text (tells w) (tells end)
+      × KeptIs now (tells mid).kept (tells end).kept
   flush_told true now text w mid end was h =
       subst (λ f. WasSent f text (tells w) (tells end) × KeptIs f (tells mid).kept (tells end).kept) (sym h.1)
       (subst (λ v. WasSent true text (tells w) (tells v)) (sym h.0) was, tt)

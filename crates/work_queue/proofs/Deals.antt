@@ -36,7 +36,7 @@ use Rattle.work_queue.specs.declared.hand.Numbered.{Numbered}
 use Rattle.work_queue.specs.declared.hand.Hand.{Hand}
 use Rattle.work_queue.specs.declared.hand.Done.{Done}
 use Rattle.work_queue.specs.Dealt.{
-  times,
+  times_listed,
   once_below,
   hand,
   opener,
@@ -54,7 +54,7 @@ use Rattle.work_queue.specs.Dealt.{
   Given,
 }
 
-pub times-append : (j : ℕ) (xs ys : List ℕ) → times j (xs ++ ys) ≡ times j xs + times j ys
+pub times-append : (j : ℕ) (xs ys : List ℕ) → times_listed j (xs ++ ys) ≡ times_listed j xs + times_listed j ys
 times-append j xs ys = total-append (same j) xs ys
 
 module _ {T : Type 0} where
@@ -62,7 +62,7 @@ module _ {T : Type 0} where
   parts_in v = v.parts
 
   abbrev times_in : ℕ → Hand T → ℕ
-  times_in j v = times j v.taken
+  times_in j v = times_listed j v.taken
 
   abbrev taken_in : Hand T → ℕ
   taken_in v = length v.taken
@@ -177,8 +177,8 @@ module _ {T : Type 0} where
       λ weight. total-set weight views pass v w at in
       let alike : v.all ≡ h.all = h.knows pass v at some_part in
       let head = heads h.low h.low h.all x items h.left in
-      let number : (j : ℕ) → times j (x.number ∷ []) ≡ times j (h.low ∷ []) =
-      λ j. ap (λ k. times j (k ∷ [])) head.0 in (
+      let number : (j : ℕ) → times_listed j (x.number ∷ []) ≡ times_listed j (h.low ∷ []) =
+      λ j. ap (λ k. times_listed j (k ∷ [])) head.0 in (
         w,
         record {
           all = h.all;
@@ -215,7 +215,8 @@ module _ {T : Type 0} where
   learns pass v items views h at whole none j =
       let alike : v.all ≡ h.all = h.knows pass v at (omega (arith, whole)) in
       let others : (k : ℕ) (u : Hand T) → k ≢ pass → get_elem? views k ≡ some u → times_in j u ≡ 0 =
-      λ k u apart there. ap (times j) (h.idle k u there (only-one items views h pass v at whole k u apart there)) in
+      λ k u apart there. ap (times_listed j) (h.idle k u there (only-one items views h pass v at whole k u apart there))
+      in
       let low : h.low ≡ length v.all = omega (arith, left-length items views h, ap length none, ap length alike) in
       sym (total-alone (times_in j) views pass v at others) ∙ h.dealt j ∙ ap (once_below j) low
 

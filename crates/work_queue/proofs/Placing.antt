@@ -46,8 +46,8 @@ use Rattle.std.proofs.lemmas.Slice.Zip.{AllZip-long}
 use Rattle.std.proofs.Math.Seq.{take-append_seam}
 use Rattle.view_sums.specs.Total.{same}
 use Rattle.work_queue.specs.declared.hand.Done.{Done}
-use Rattle.work_queue.specs.Dealt.{times, once_below, IsAt, Given}
-use Rattle.work_queue.specs.Slots.{placed, IsFilled, Filled, AllFilled}
+use Rattle.work_queue.specs.Dealt.{times_listed, once_below, IsAt, Given}
+use Rattle.work_queue.specs.Slots.{filled_slots, IsFilled, Filled, AllFilled}
 use Rattle.work_queue.proofs.Deals.{times-append}
 
 module _ {A : Type 0} where
@@ -83,16 +83,16 @@ module _ {A : Type 0} where
 
 module _ {X : Type 0} where
   pub placed-more : (slots : List (Option X)) (ds : List (Done X)) (d : Done X)
-      → placed slots (ds ++ d ∷ []) ≡ set (placed slots ds) d.number (Some d.result)
+      → filled_slots slots (ds ++ d ∷ []) ≡ set (filled_slots slots ds) d.number (Some d.result)
   placed-more slots [] d = refl
   placed-more slots (e ∷ es) d = placed-more (set slots e.number (Some e.result)) es d
 
   pub placed-both : (slots : List (Option X)) (ds es : List (Done X))
-      → placed slots (ds ++ es) ≡ placed (placed slots ds) es
+      → filled_slots slots (ds ++ es) ≡ filled_slots (filled_slots slots ds) es
   placed-both slots [] es = refl
   placed-both slots (d ∷ ds) es = placed-both (set slots d.number (Some d.result)) ds es
 
-  pub placed-length : (slots : List (Option X)) (ds : List (Done X)) → length (placed slots ds) ≡ length slots
+  pub placed-length : (slots : List (Option X)) (ds : List (Done X)) → length (filled_slots slots ds) ≡ length slots
   placed-length slots [] = refl
   placed-length slots (d ∷ ds) =
       placed-length (set slots d.number (Some d.result)) ds ∙ length-set slots d.number (Some d.result)
@@ -131,18 +131,19 @@ module _ {T X : Type 0} (gives : T → X → Type 0) where
         subst (λ k. IsFilled gives all k (get_or now k None)) (sym e) (subst (IsFilled gives all n) there (x, at, is)))
         (λ (other : j ≢ n).
         let kept = sym (get_or-set_other slots n j (Some r) None other) in
-        let before : 0 < times j numbers = omega (arith, some, times-append j numbers (n ∷ []), same-other j n other) in
+        let before : 0 < times_listed j numbers =
+        omega (arith, some, times-append j numbers (n ∷ []), same-other j n other) in
         subst (IsFilled gives all j) kept (h.each j below before));
   }
 
   pub filled-all : (all : List T) (numbers : List ℕ) (slots : List (Option X)) (ds : List (Done X))
       → Filled gives all numbers slots → Given gives all ds
-      → Filled gives all (numbers ++ map (λ (d : Done X). d.number) ds) (placed slots ds)
+      → Filled gives all (numbers ++ map (λ (d : Done X). d.number) ds) (filled_slots slots ds)
   filled-all all numbers slots [] h given = subst (λ t. Filled gives all t slots) (sym (append-nil numbers)) h
   filled-all all numbers slots (d ∷ ds) h given =
       let now = set slots d.number (Some d.result) in
       let this = filled-more all numbers slots d.number given.0.0 d.result h given.0.1 given.0.2 in
-      subst (λ t. Filled gives all t (placed now ds))
+      subst (λ t. Filled gives all t (filled_slots now ds))
       (append_assoc numbers (d.number ∷ []) (map (λ (d : Done X). d.number) ds))
       (filled-all all (numbers ++ d.number ∷ []) now ds this given.1)
 
@@ -168,7 +169,7 @@ module _ {T X : Type 0} (gives : T → X → Type 0) where
 
   -- each number stands among these
   pub all-filled : (all : List T) (numbers : List ℕ) (slots : List (Option X)) → Filled gives all numbers slots
-      → ((j : ℕ) → times j numbers ≡ once_below j (length all)) → AllFilled gives all slots
+      → ((j : ℕ) → times_listed j numbers ≡ once_below j (length all)) → AllFilled gives all slots
   all-filled all numbers slots h once = each-filled all slots h.len
       (λ j below. h.each j below (omega (arith, once-there j (length all) below, once j)))
 

@@ -9,8 +9,8 @@ use Rattle.work_queue.specs.declared.hand.Done.{Done}
 use Rattle.work_queue.specs.declared.hand.Hand.{Hand}
 
 -- how often a number stands in the list
-abbrev pub times : ℕ → List ℕ → ℕ
-times j numbers = total (same j) numbers
+abbrev pub times_listed : ℕ → List ℕ → ℕ
+times_listed j numbers = total (same j) numbers
 
 -- how often a number stands among those below n
 abbrev pub once_below : ℕ → ℕ → ℕ
@@ -56,7 +56,7 @@ module _ {T : Type 0} where
     pub within : low ≤ length all
     pub left : items ≡ numbered low (drop low all)
     pub whole : total (λ v. v.parts) views ≡ 1024
-    pub dealt : (j : ℕ) → total (λ v. times j v.taken) views ≡ once_below j low
+    pub dealt : (j : ℕ) → total (λ v. times_listed j v.taken) views ≡ once_below j low
     pub count : total (λ v. length v.taken) views ≡ low
     pub knows : (pass : ℕ) (v : Hand T) → get_elem? views pass ≡ some v → 0 < v.parts → v.all ≡ all
     pub idle : (pass : ℕ) (v : Hand T) → get_elem? views pass ≡ some v → v.parts ≡ 0 → v.taken ≡ []
@@ -73,7 +73,7 @@ module _ {T : Type 0} where
 
   -- who has every part took each number once, where nothing is left
   abbrev pub AllTaken : Hand T → List (Numbered T) → Type 0
-  AllTaken v items = v.parts ≡ 1024 → items ≡ [] → (j : ℕ) → times j v.taken ≡ once_below j (length v.all)
+  AllTaken v items = v.parts ≡ 1024 → items ≡ [] → (j : ℕ) → times_listed j v.taken ≡ once_below j (length v.all)
 
   -- the queue holds no more than the jobs that were pushed
   abbrev pub Fits : Hand T → List (Numbered T) → Type 0

@@ -9,10 +9,10 @@ abbrev pub IsRoomy : {X : Type 0} → ℕ → Vec (Done X) → Type 0
 IsRoomy n done = (done.items ≡ []) × (n ≤ vec_capacity done)
 
 -- room for so many workers who have n jobs in all
-pub record HasRoom {T X : Type 0} (workers n : ℕ) (room : Room T X) : Type 0 where
+pub record HasWorkersRoom {T X : Type 0} (workers n : ℕ) (room : Room T X) : Type 0 where
   pub count : vec_len room.dones ≡ workers
   pub dones : All (IsRoomy n) room.dones.items
-  pub desks : (room.desks.items ≡ []) × (workers ≤ vec_capacity room.desks)
+  pub worker_slots : (room.worker_slots.items ≡ []) × (workers ≤ vec_capacity room.worker_slots)
   pub rest : IsRoomy n room.rest
   pub slots : room.slots.items ≡ replicate n None
   pub results : (room.results.items ≡ []) × (n ≤ vec_capacity room.results)

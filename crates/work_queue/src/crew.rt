@@ -5,10 +5,10 @@ ghost use Rattle.work_queue.specs.Slots.{AllFilled, Filled};
 ghost use Rattle.work_queue.specs.Room.{IsRoomy};
 ghost use Rattle.work_queue.specs.Work.{Gathered, HasLent};
 
-use crate::desk::{Desk, all_work, work};
 use crate::hand::{Done, Hand, Jobs, Numbered};
 use crate::passes::{collect, seated};
 use crate::slots::place;
+use crate::worker_slot::{WorkerSlot, all_work, work};
 use crossbeam_queue::Pass;
 use std::sync::Wait;
 use std::thread::Threads;
@@ -24,12 +24,12 @@ pub(crate) fn by_workers<
     queue: &Jobs<T>,
     pass: &mut Pass<Numbered<T>, Hand<T>>,
     dones: Vec<Vec<Done<X>>>,
-    desks: Vec<Desk<T, X>>,
+    worker_slots: Vec<WorkerSlot<T, X>>,
     slots: &mut [Option<X>],
     f: &F,
 )
     requires pass { IsPassOf queue.now pass.old × ((view pass.old).parts ≡ 1024) × ((view pass.old).taken ≡ []) }
-    requires room { (vec_len dones ≤ 16) × (desks.items ≡ []) × (vec_len dones ≤ vec_capacity desks) }
+    requires room { (vec_len dones ≤ 16) × (worker_slots.items ≡ []) × (vec_len dones ≤ vec_capacity worker_slots) }
     requires dones { All (IsRoomy (length (view pass.old).all)) dones.items }
     requires slots { slots.old ≡ replicate (length (view pass.old).all) None }
     requires calls { All (λ job. F.pre f.now job) (view pass.old).all }
@@ -38,29 +38,30 @@ pub(crate) fn by_workers<
     ensures all { (view pass.new).all ≡ (view pass.old).all }
     ensures slots { Filled (λ job r. F.post f.now job r) (view pass.old).all (view pass.new).taken slots.new }
 {
-    let desks = worked(rt, queue, pass, dones, desks, f);
-    collect(queue, pass, desks, slots);
+    let worker_slots = worked(rt, queue, pass, dones, worker_slots, f);
+    collect(queue, pass, worker_slots, slots);
 }
 
-// The desks, once no job is left.
+// The worker slots, once no job is left.
 fn worked<R: Threads + Wait + Sync, T: Send + Drop, X: Send + Drop, F: Fn(T) -> X + Sync>(
     rt: &R,
     queue: &Jobs<T>,
     pass: &mut Pass<Numbered<T>, Hand<T>>,
     dones: Vec<Vec<Done<X>>>,
-    desks: Vec<Desk<T, X>>,
+    worker_slots: Vec<WorkerSlot<T, X>>,
     f: &F,
-) -> Vec<Desk<T, X>>
+) -> Vec<WorkerSlot<T, X>>
     requires pass { IsPassOf queue.now pass.old × (vec_len dones < (view pass.old).parts) }
-    requires room { (desks.items ≡ []) × (vec_len dones ≤ vec_capacity desks) }
+    requires room { (worker_slots.items ≡ []) × (vec_len dones ≤ vec_capacity worker_slots) }
     requires dones { All (IsRoomy (length (view pass.old).all)) dones.items }
     requires calls { All (λ job. F.pre f.now job) (view pass.old).all }
     ensures pass { HasLent queue.now (vec_len dones) pass.old pass.new }
-    ensures desks { Gathered queue.now (λ job r. F.post f.now job r) (view pass.old).all (vec_len dones) result.items }
+    ensures worker_slots { Gathered queue.now (λ job r. F.post f.now job r) (view pass.old).all
+        (vec_len dones) result.items }
 {
-    let mut desks = seated(queue, pass, dones, desks);
-    all_work(rt, queue, desks.as_mut_slice(), f);
-    desks
+    let mut worker_slots = seated(queue, pass, dones, worker_slots);
+    all_work(rt, queue, worker_slots.as_mut_slice(), f);
+    worker_slots
 }
 
 /// What is left is done with the whole pass, and then each slot is full.
@@ -78,8 +79,8 @@ pub(crate) fn finish<R: Wait, T: Send + Drop, X: Drop, F: Fn(T) -> X>(
     requires calls { All (λ job. F.pre f.now job) (view pass).all }
     ensures { AllFilled (λ job r. F.post f.now job r) (view pass).all slots.new }
 {
-    let mut last = Desk { pass, done };
+    let mut last = WorkerSlot { pass, done };
     work(rt, queue, &mut last, f);
-    let Desk { done, .. } = last;
+    let WorkerSlot { done, .. } = last;
     place(slots, done);
 }

@@ -2,11 +2,11 @@
 #![tactic(auto)]
 
 mod crew;
-mod desk;
 mod hand;
 mod passes;
 mod room;
 mod slots;
+mod worker_slot;
 mod workers;
 
 pub use workers::{in_workers, jobs_in_workers};

@@ -1,17 +1,17 @@
 // The memory that a run of workers takes, all of it before the start.
 ghost use Rattle.std.specs.Prelude.{◌≡◌, ◌<◌, ◌≤◌, [], All, None, IfOk, length, replicate, vec_len, vec_capacity};
-ghost use Rattle.work_queue.specs.Room.{HasRoom, IsRoomy};
+ghost use Rattle.work_queue.specs.Room.{HasWorkersRoom, IsRoomy};
 
-use crate::desk::Desk;
 use crate::hand::Done;
 use crate::slots::empty_slots;
+use crate::worker_slot::WorkerSlot;
 use std::alloc::{AllocError, Global};
 
-/// Room for each worker's results, for the desks, for those who take what is left, and for the results in order.
+/// Room for each worker's results, for the worker slots, for those who take what is left, and for the results in order.
 #[derive(Drop)]
 pub(crate) struct Room<T, X> {
     pub dones: Vec<Vec<Done<X>>>,
-    pub desks: Vec<Desk<T, X>>,
+    pub worker_slots: Vec<WorkerSlot<T, X>>,
     pub rest: Vec<Done<X>>,
     pub slots: Vec<Option<X>>,
     pub results: Vec<X>,
@@ -20,16 +20,16 @@ pub(crate) struct Room<T, X> {
 impl<T: Send + Drop, X: Send + Drop> Room<T, X> {
     /// Room for so many workers, who have n jobs in all.
     pub fn taken(alloc: Global, workers: usize, n: usize) -> Result<Self, AllocError>
-        ensures { IfOk result (HasRoom workers n) }
+        ensures { IfOk result (HasWorkersRoom workers n) }
     {
         let dones = rooms(alloc, workers, n)?;
-        let desks = Vec::with_capacity(alloc, workers)?;
+        let worker_slots = Vec::with_capacity(alloc, workers)?;
         let rest = Vec::with_capacity(alloc, n)?;
         let slots = empty_slots(alloc, n)?;
         let results = Vec::with_capacity(alloc, n)?;
         Ok(Room {
             dones,
-            desks,
+            worker_slots,
             rest,
             slots,
             results,

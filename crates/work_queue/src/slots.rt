@@ -16,7 +16,7 @@ ghost use Rattle.std.specs.Prelude.{
   vec_len,
   vec_capacity,
 };
-ghost use Rattle.work_queue.specs.Slots.{placed};
+ghost use Rattle.work_queue.specs.Slots.{filled_slots};
 
 use crate::hand::Done;
 use std::alloc::{AllocError, Global};
@@ -36,7 +36,7 @@ pub(crate) fn empty_slots<X: Drop>(alloc: Global, n: usize) -> Result<Vec<Option
 /// Puts each result into the slot of its number.
 pub(crate) fn place<X: Drop>(slots: &mut [Option<X>], done: Vec<Done<X>>)
     requires { All (λ d. d.number < length slots.old) done.items }
-    ensures { slots.new ≡ placed slots.old done.items }
+    ensures { slots.new ≡ filled_slots slots.old done.items }
 {
     for Done { number, result } in done {
         fill(slots, number, result);

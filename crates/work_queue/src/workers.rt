@@ -3,7 +3,7 @@ ghost use Rattle.std.specs.Prelude.{◌≡◌, ◌<◌, [], ◌≤◌, All, vec_
 ghost use Rattle.std.specs.List.{AllZip};
 ghost use Rattle.crossbeam_queue.specs.Passes.{view, IsPassOf, ruled_capacity};
 ghost use Rattle.work_queue.specs.Dealt.{hand};
-ghost use Rattle.work_queue.specs.Room.{HasRoom};
+ghost use Rattle.work_queue.specs.Room.{HasWorkersRoom};
 
 use crate::crew::{by_workers, finish};
 use crate::hand::{Hand, Jobs, Numbered};
@@ -73,13 +73,13 @@ fn run<R: Threads + Wait + Sync, T: Send + Drop, X: Send + Drop, F: Fn(T) -> X +
 ) -> Vec<X>
     requires pass { IsPassOf queue.now pass × (view pass ≡ hand 1024 [] []) }
     requires queue { vec_len jobs ≤ ruled_capacity queue.now }
-    requires room { (vec_len room.dones ≤ 16) × HasRoom (vec_len room.dones) (vec_len jobs) room }
+    requires room { (vec_len room.dones ≤ 16) × HasWorkersRoom (vec_len room.dones) (vec_len jobs) room }
     requires calls { All (λ job. F.pre f.now job) jobs.items }
     ensures { AllZip (λ job r. F.post f.now job r) jobs.items result.items }
 {
     let Room {
         dones,
-        desks,
+        worker_slots,
         rest,
         slots,
         results,
@@ -87,7 +87,7 @@ fn run<R: Threads + Wait + Sync, T: Send + Drop, X: Send + Drop, F: Fn(T) -> X +
     let mut pass = push_all(rt, queue, pass, jobs);
     let mut slots = slots;
     let row = slots.as_mut_slice();
-    by_workers(rt, queue, &mut pass, dones, desks, row, f);
+    by_workers(rt, queue, &mut pass, dones, worker_slots, row, f);
     finish(rt, queue, pass, rest, row, f);
     emptied(slots, results)
 }

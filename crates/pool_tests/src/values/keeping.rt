@@ -1,6 +1,6 @@
 //! Values that one seat keeps and another one pays for, by the laws of what a seat has exactly.
 ghost use Rattle.std.specs.Prelude.{◌≡◌, ◌<◌, ◌≤◌, List, ◌∷◌, length, IfOk, IfErr, OnErr};
-ghost use Rattle.frag_value.specs.Fragments.{value_limit};
+ghost use Rattle.flake_base.specs.Limits.{value_limit};
 ghost use Rattle.frag_value.specs.Values.{Frags};
 ghost use Rattle.frag_value.specs.Exactly.{HasExactly};
 

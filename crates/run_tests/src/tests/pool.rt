@@ -1,5 +1,8 @@
 //! Pools that are full.
-use super::{PING, Row, SERVED, add_word, check_input, repeated, set_letter};
+use super::{
+    PING, Row, SERVED, add_word, check_input, expect, memory_host, one_wire, ran, repeated,
+    set_letter,
+};
 use flake_base::Bytes;
 use std::alloc::Global;
 use std::test::Fail;
@@ -50,3 +53,18 @@ pub(super) fn replies_while_held(alloc: Global) -> Result<Bytes, Fail> {
 
 pub(super) const SAID_WHILE_HELD: &[u8] =
     b"session 0 clean taken 4296 replies 131 wire whole\nheld 0 2\n";
+
+// The same in every schedule, also where the device waits for nothing. The refused write has no entry.
+#[test]
+fn a_reply_holds_its_buffer(rt: HostRuntime) -> Result<(), Fail> {
+    let alloc = rt.alloc();
+    let sent = replies_while_held(alloc)?;
+    let mut host = memory_host(alloc, &TWO_LARGE, held_by_a_reply(alloc)?)?;
+    let wires = one_wire(alloc, 4096, None)?;
+    let seen = ran(&rt, alloc, TWO_LARGE.words, &mut host, wires)?;
+    assert_eq!(rt; sent.len(), 1526);
+    expect(&rt, &host, &seen, 0, SAID_WHILE_HELD, sent.as_slice());
+    let journal: &[u8] = b"shards 8\n2 0 0 0\n2 0 1 0\n2 0 2 0\n5 0 130 0\n";
+    assert_eq!(rt; seen.journal.as_slice(), journal);
+    Ok(())
+}

@@ -2,8 +2,8 @@
 ghost use Rattle.std.specs.Prelude.{◌≡◌, ◌+◌, ◌<◌, ◌≤◌};
 
 use super::asking::commands_of;
-use super::house::{House, open_house};
 use super::replies::run_all;
+use super::resources::{RunResources, open_resources};
 use command_exec::{Pass, Shop};
 use command_parts::Command;
 use flake_base::Memory;
@@ -56,12 +56,12 @@ fn see_named<R: Wait, N: BookName, P: PoolName>(
     requires shards { (0 < N.sizes.shards) × (N.sizes.shards ≤ 16) }
     requires credits { 8192 + N.sizes.shards ≤ P.sizes.credits }
 {
-    let House {
+    let RunResources {
         pool,
         book,
         store,
         mut pass,
-    } = open_house::<N, P>(alloc, pool, book, 512)?;
+    } = open_resources::<N, P>(alloc, pool, book, 512)?;
     let session = pass.mine().session();
     let shop = Shop {
         pool: &pool,

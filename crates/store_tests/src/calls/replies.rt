@@ -1,7 +1,7 @@
 //! Replies to commands, one after another.
 ghost use Rattle.std.specs.Prelude.{◌≡◌, ◌+◌, ◌<◌, ◌≤◌, length};
 
-use super::house::{House, close, open_house};
+use super::resources::{RunResources, close, open_resources};
 use command_exec::{Pass, Shop, execute};
 use command_parts::Command;
 use flake_base::{Journal, Memory, Segs, Sequence};
@@ -144,12 +144,12 @@ fn run_named<R: Wait, N: BookName, P: PoolName>(
     requires credits { 8192 + N.sizes.shards ≤ P.sizes.credits }
     requires threshold { (0 < threshold) × (threshold ≤ 512) }
 {
-    let House {
+    let RunResources {
         pool,
         book,
         store,
         mut pass,
-    } = open_house::<N, P>(alloc, pool, book, threshold)?;
+    } = open_resources::<N, P>(alloc, pool, book, threshold)?;
     let shop = Shop {
         pool: &pool,
         book: &book,

@@ -2,8 +2,8 @@
 ghost use Rattle.std.specs.Prelude.{◌≡◌, ◌+◌, ◌<◌, ◌≤◌};
 
 use super::asking::command;
-use super::house::{House, open_house};
 use super::replies::{Reply, run_one};
+use super::resources::{RunResources, open_resources};
 use command_exec::{Pass, Shop, execute};
 use command_parts::Command;
 use flake_base::{Memory, Segs, Sequence};
@@ -81,12 +81,12 @@ fn squeeze<R: Wait, N: BookName, P: PoolName>(
     requires shards { (0 < N.sizes.shards) × (N.sizes.shards ≤ 16) }
     requires credits { 8192 + N.sizes.shards ≤ P.sizes.credits }
 {
-    let House {
+    let RunResources {
         pool,
         book,
         store,
         mut pass,
-    } = open_house::<N, P>(alloc, pool, book, 512)?;
+    } = open_resources::<N, P>(alloc, pool, book, 512)?;
     let shop = Shop {
         pool: &pool,
         book: &book,

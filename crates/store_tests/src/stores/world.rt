@@ -194,9 +194,9 @@ pub fn run_named<N: BookName + Send + Sync, P: PoolName + Send + Sync, R: Thread
     let (Some(other), Some(mine)) = (sessions.pop(), sessions.pop()) else {
         return Err(Memory);
     };
-    let shelves = seats_of(alloc, &pool, &mut seat, books.len())?;
+    let shard_maps = seats_of(alloc, &pool, &mut seat, books.len())?;
     let second_seat = pool.split(&mut seat, (), 2);
-    let Ok(store) = Store::open(alloc, shelves, books) else {
+    let Ok(store) = Store::open(alloc, shard_maps, books) else {
         return Err(Memory);
     };
     let one = Session { seat, mine };

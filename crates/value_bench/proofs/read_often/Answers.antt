@@ -4,4 +4,5 @@ use Rattle.frag_value.specs.Values.{HasValue}
 use Rattle.value_bench.proofs.read_often.Goals as goal
 
 pub read_into-requires-clause-value : goal.read_into-requires-clause-value
-read_into-requires-clause-value g c = subst (λ (v : View). HasValue v.holds c.args.value.now) (sym c.loop.invariant) c.requires.value
+read_into-requires-clause-value g c = subst (λ (v : View). HasValue v.holds c.args.value.now)
+    (sym c.loop.invariant) c.requires.value

@@ -7,10 +7,12 @@ pub returns-in-Some-clause-ok : goal.returns-in-Some-clause-ok
 returns-in-Some-clause-ok c =
     let now = c.extend.new.value in
     on_ok_weaker c.extend.result
-    (appended_through c.args.key.now c.args.bytes.now c.args.table.now (c.get_mut.follows.lender now) c.in-Some.value.now now (sym c.in-Some.ensures.value) (c.get_mut.follows.holds now)) c.extend.ensures.ok
+    (appended_through c.args.key.now c.args.bytes.now c.args.table.now (c.get_mut.follows.lender now)
+    c.in-Some.value.now now (sym c.in-Some.ensures.value) (c.get_mut.follows.holds now)) c.extend.ensures.ok
 
 pub returns-in-Some-clause-err : goal.returns-in-Some-clause-err
 returns-in-Some-clause-err c =
     let now = c.extend.new.value in
     on_err_weaker c.extend.result
-    (kept_through c.args.key.now c.args.table.now (c.get_mut.follows.lender now) c.in-Some.value.now now (sym c.in-Some.ensures.value) (c.get_mut.follows.holds now)) c.extend.ensures.err
+    (kept_through c.args.key.now c.args.table.now (c.get_mut.follows.lender now) c.in-Some.value.now now
+    (sym c.in-Some.ensures.value) (c.get_mut.follows.holds now)) c.extend.ensures.err

@@ -1,4 +1,5 @@
-use Rattle.std.proofs.Common.{◌≡◌, ◌<◌, ◌++◌, ◌∷◌, [], None, length, vec_len, vec_capacity, arith, sym, ap, ◌∙◌, length-append}
+use Rattle.std.proofs.Common.{◌≡◌, ◌<◌, ◌++◌, ◌∷◌, [], None, length, vec_len, vec_capacity, arith, sym, ap, ◌∙◌}
+use Rattle.std.proofs.Common.{length-append}
 use Rattle.std.proofs.lemmas.Grind.{common_steps}
 use Rattle.check_files.specs.Named.{are_named}
 use Rattle.check_files.proofs.OpenedFiles.{file_more, file_fails, front_is}
@@ -7,20 +8,26 @@ use Rattle.check_files.proofs.opening.open_named.Goals as goal
 pub returns-in_default-clause-failed : goal.returns-in_default-clause-failed
 returns-in_default-clause-failed g c =
     let before = c.loop-name.invariant in
-    file_fails c.args.names.now c.loop-name.name-index (length c.loop-name.files.items) None _ _ _ _ c.loop-name-test.true before.count before.so_far.opened c.in_default.ensures.failed
+    file_fails c.args.names.now c.loop-name.name-index (length c.loop-name.files.items) None _ _ _ _
+    c.loop-name-test.true before.count before.so_far.opened c.in_default.ensures.failed
 
 pub returns-in_default-clause-failed_there : goal.returns-in_default-clause-failed_there
 returns-in_default-clause-failed_there g c =
     let before = c.loop-name.invariant in
-    before.so_far.there_is ∙ ap (λ ws. are_named ws) (sym (front_is c.args.names.now c.loop-name.name-index (length c.loop-name.files.items) (omega (arith, c.loop-name-test.true)) before.count))
+    before.so_far.there_is
+    ∙ ap (λ ws. are_named ws)
+    (sym (front_is c.args.names.now c.loop-name.name-index (length c.loop-name.files.items)
+    (omega (arith, c.loop-name-test.true)) before.count))
 
 pub loop-name-preserved : goal.loop-name-preserved
 loop-name-preserved g c =
     let before = c.loop-name.invariant in
-    let room : vec_len c.loop-name.files < vec_capacity c.loop-name.files = omega (arith, before.count, before.room, c.requires.1, c.loop-name-test.true, c.loop-name.files.ok.0) in
+    let room : vec_len c.loop-name.files < vec_capacity c.loop-name.files =
+    omega (arith, before.count, before.room, c.requires.1, c.loop-name-test.true, c.loop-name.files.ok.0) in
     let pushed : c.push.new.self.items ≡ c.loop-name.files.items ++ c.in-Ok.file ∷ [] = grind (arith, common_steps) in
     record {
-      so_far = file_more (λ s. g.H.In.Source.left s) (λ s. g.H.In.Source.read_faults s) c.args.names.now c.loop-name.name-index None c.loop-name.files.items c.push.new.self.items c.in-Ok.file _ _ _
+      so_far = file_more (λ s. g.H.In.Source.left s) (λ s. g.H.In.Source.read_faults s) c.args.names.now
+          c.loop-name.name-index None c.loop-name.files.items c.push.new.self.items c.in-Ok.file _ _ _
           c.loop-name-test.true pushed before.so_far c.in-Ok.ensures.opens c.in-Ok.ensures.fresh c.in-Ok.ensures.there;
       count = omega (arith, ap length pushed, length-append c.loop-name.files.items (c.in-Ok.file ∷ []), before.count);
       room = omega arith;

@@ -18,9 +18,11 @@ loop-j-init g c =
     let q = c.copy_line.new.plan in
     let n = c.count-count.ensures.parts in
     record {
-      so_far = no_values g.P.PoolName.sizes g.N.BookName.sizes.shards c.args.at.call command c.args.pass.now c.args.stored.now.items p q c.requires.started.taken
+      so_far = no_values g.P.PoolName.sizes g.N.BookName.sizes.shards c.args.at.call command c.args.pass.now
+          c.args.stored.now.items p q c.requires.started.taken
           (c.copy_line.ensures.plan ∙ ap (λ m. planned p.base (p.taken ++ copied (number_line 42 m) ∷ []) None) n)
-          (head_room command p q c.requires.kind c.requires.started (c.copy_line.ensures.left ∙ ap (λ m. left_of q + length (number_line 42 m)) n) c.copy_line.ensures.slots);
+          (head_room command p q c.requires.kind c.requires.started
+          (c.copy_line.ensures.left ∙ ap (λ m. left_of q + length (number_line 42 m)) n) c.copy_line.ensures.slots);
       segs = refl;
       spare = c.requires.spare;
       kept = omega arith;
@@ -30,11 +32,15 @@ pub returns-in_err-answer_value-clause-stopped : goal.returns-in_err-answer_valu
 returns-in_err-answer_value-clause-stopped g c =
     let so = c.loop-j.invariant.so_far in
     on_err c.from_residual.result
-    (next_missed g.P.PoolName.sizes g.N.BookName.sizes.shards c.args.command.now c.loop-j.j so.outcomes c.args.at c.entry_of-next.result c.args.pass.now c.loop-j.pass c.answer_value.new.pass c.args.stored.now.items c.loop-j.stored.items so.count
-    (omega (arith, c.loop-j-test.true, c.count-count.ensures.parts)) c.entry_of-next.ensures so.ran c.in_err-answer_value.ensures.missed)
+    (next_missed g.P.PoolName.sizes g.N.BookName.sizes.shards c.args.command.now c.loop-j.j so.outcomes c.args.at
+    c.entry_of-next.result c.args.pass.now c.loop-j.pass c.answer_value.new.pass c.args.stored.now.items
+    c.loop-j.stored.items so.count
+    (omega (arith, c.loop-j-test.true, c.count-count.ensures.parts)) c.entry_of-next.ensures so.ran
+    c.in_err-answer_value.ensures.missed)
 
 pub returns-in_err-answer_value-clause-untold : goal.returns-in_err-answer_value-clause-untold
-returns-in_err-answer_value-clause-untold g c = on_err c.from_residual.result (c.in_err-answer_value.ensures.segs ∙ c.loop-j.invariant.segs)
+returns-in_err-answer_value-clause-untold g c = on_err c.from_residual.result
+    (c.in_err-answer_value.ensures.segs ∙ c.loop-j.invariant.segs)
 
 pub loop-j-preserved : goal.loop-j-preserved
 loop-j-preserved g c =
@@ -45,11 +51,16 @@ loop-j-preserved g c =
     let q = c.loop-j.plan in
     let r = c.answer_value.new.plan in
     let at : Entry = entry_at c.args.at.session c.args.at.call j in
-    let adds : AddsValue z shards at (part_at command j) c.loop-j.pass c.answer_value.new.pass c.loop-j.stored.items c.answer_value.new.stored.items q r =
-    subst (λ (e : Entry). AddsValue z shards e (part_at command e.part) c.loop-j.pass c.answer_value.new.pass c.loop-j.stored.items c.answer_value.new.stored.items q r) c.entry_of-next.ensures c.in_ok-answer_value.ensures.value in
+    let adds : AddsValue z shards at (part_at command j) c.loop-j.pass c.answer_value.new.pass c.loop-j.stored.items
+    c.answer_value.new.stored.items q r =
+    subst (λ (e : Entry). AddsValue z shards e (part_at command e.part) c.loop-j.pass c.answer_value.new.pass
+    c.loop-j.stored.items c.answer_value.new.stored.items q r) c.entry_of-next.ensures
+    c.in_ok-answer_value.ensures.value in
     record {
-      so_far = value_more z shards command j at c.args.pass.now c.loop-j.pass c.answer_value.new.pass c.args.stored.now.items c.loop-j.stored.items c.answer_value.new.stored.items c.args.plan.now q r
-          (omega (arith, c.loop-j-test.true, c.count-count.ensures.parts)) refl c.requires.session c.in_ok-answer_value.ensures.base c.loop-j.invariant.so_far adds;
+      so_far = value_more z shards command j at c.args.pass.now c.loop-j.pass c.answer_value.new.pass
+          c.args.stored.now.items c.loop-j.stored.items c.answer_value.new.stored.items c.args.plan.now q r
+          (omega (arith, c.loop-j-test.true, c.count-count.ensures.parts)) refl c.requires.session
+          c.in_ok-answer_value.ensures.base c.loop-j.invariant.so_far adds;
       segs = c.in_ok-answer_value.ensures.segs ∙ c.loop-j.invariant.segs;
       spare = omega (arith, c.loop-j.invariant.spare, c.in_ok-answer_value.ensures.spare);
       kept = omega (arith, c.loop-j.invariant.kept, c.in_ok-answer_value.ensures.spare);
@@ -57,7 +68,8 @@ loop-j-preserved g c =
 
 pub returns-clause-reply : goal.returns-clause-reply
 returns-clause-reply g c =
-    all_values g.P.PoolName.sizes g.N.BookName.sizes.shards c.args.at.call c.args.command.now c.loop-j.j c.args.pass.now c.loop-j.pass c.args.stored.now.items c.loop-j.stored.items c.args.plan.now c.loop-j.plan c.requires.kind
+    all_values g.P.PoolName.sizes g.N.BookName.sizes.shards c.args.at.call c.args.command.now c.loop-j.j c.args.pass.now
+    c.loop-j.pass c.args.stored.now.items c.loop-j.stored.items c.args.plan.now c.loop-j.plan c.requires.kind
     (omega (arith, c.loop-j-test.false, c.loop-j.auto.j-end, c.count-count.ensures.parts)) c.loop-j.invariant.so_far
 
 pub returns-clause-spare : goal.returns-clause-spare

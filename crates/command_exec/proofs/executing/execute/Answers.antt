@@ -19,7 +19,9 @@ invariant_of-pass-2 g c =
     let p = c.pass.inside in
     let old : PassView = pass_of p.mine p.seat p.opened.value p.stage p.threshold in
     let started = c.in-Ok.ensures in
-    subst (IsPass g.P.PoolName.sizes) (λ i. pass_of p.mine (sym started.seat i) p.opened.value (sym started.stage i) p.threshold) (begin_is g.P.PoolName.sizes c.need.result old c.pass.invariant)
+    subst (IsPass g.P.PoolName.sizes)
+    (λ i. pass_of p.mine (sym started.seat i) p.opened.value (sym started.stage i) p.threshold)
+    (begin_is g.P.PoolName.sizes c.need.result old c.pass.invariant)
 
 pub seal-requires-clause-own : goal.seal-requires-clause-own
 seal-requires-clause-own g c =
@@ -29,9 +31,11 @@ seal-requires-clause-own g c =
     let two : PassView = pass_of r.mine r.seat r.opened.value r.stage r.threshold in
     let started = c.in-Ok.ensures in
     let begin : PassView = pass_of p.mine c.start.new.seat p.opened.value c.start.new.stage p.threshold in
-    let starts = starts_of c.args.command.now c.args.pass.now old c.need.result c.start.new.seat c.start.new.stage c.in-Ok.plan c.pass.view_is c.requires.stage c.requires.credits c.free.ensures.ordered
+    let starts = starts_of c.args.command.now c.args.pass.now old c.need.result c.start.new.seat c.start.new.stage
+    c.in-Ok.plan c.pass.view_is c.requires.stage c.requires.credits c.free.ensures.ordered
     c.need.ensures.need started.seat started.stage started.plan in
-    starts_own c.args.command.now c.args.pass.now old begin c.answer.new.pass two c.in-Ok.plan c.answer.new.plan starts c.pass.invariant.own c.pass-2.view_is c.answer.ensures.base c.in-Ok-answer.ensures.reply.ran.keeps
+    starts_own c.args.command.now c.args.pass.now old begin c.answer.new.pass two c.in-Ok.plan c.answer.new.plan starts
+    c.pass.invariant.own c.pass-2.view_is c.answer.ensures.base c.in-Ok-answer.ensures.reply.ran.keeps
 
 pub cancel-requires-clause-own : goal.cancel-requires-clause-own
 cancel-requires-clause-own g c =
@@ -41,9 +45,11 @@ cancel-requires-clause-own g c =
     let two : PassView = pass_of r.mine r.seat r.opened.value r.stage r.threshold in
     let started = c.in-Ok.ensures in
     let begin : PassView = pass_of p.mine c.start.new.seat p.opened.value c.start.new.stage p.threshold in
-    let starts = starts_of c.args.command.now c.args.pass.now old c.need.result c.start.new.seat c.start.new.stage c.in-Ok.plan c.pass.view_is c.requires.stage c.requires.credits c.free.ensures.ordered
+    let starts = starts_of c.args.command.now c.args.pass.now old c.need.result c.start.new.seat c.start.new.stage
+    c.in-Ok.plan c.pass.view_is c.requires.stage c.requires.credits c.free.ensures.ordered
     c.need.ensures.need started.seat started.stage started.plan in
-    starts_own c.args.command.now c.args.pass.now old begin c.answer.new.pass two c.in-Ok.plan c.answer.new.plan starts c.pass.invariant.own c.pass-2.view_is c.answer.ensures.base c.in-Err.ensures.stopped.keeps
+    starts_own c.args.command.now c.args.pass.now old begin c.answer.new.pass two c.in-Ok.plan c.answer.new.plan starts
+    c.pass.invariant.own c.pass-2.view_is c.answer.ensures.base c.in-Err.ensures.stopped.keeps
 
 pub returns-in-Ok-answer-clause-reply : goal.returns-in-Ok-answer-clause-reply
 returns-in-Ok-answer-clause-reply g c =
@@ -53,10 +59,14 @@ returns-in-Ok-answer-clause-reply g c =
     let two : PassView = pass_of r.mine r.seat r.opened.value r.stage r.threshold in
     let started = c.in-Ok.ensures in
     let begin : PassView = pass_of p.mine c.start.new.seat p.opened.value c.start.new.stage p.threshold in
-    let starts = starts_of c.args.command.now c.args.pass.now old c.need.result c.start.new.seat c.start.new.stage c.in-Ok.plan c.pass.view_is c.requires.stage c.requires.credits c.free.ensures.ordered
+    let starts = starts_of c.args.command.now c.args.pass.now old c.need.result c.start.new.seat c.start.new.stage
+    c.in-Ok.plan c.pass.view_is c.requires.stage c.requires.credits c.free.ensures.ordered
     c.need.ensures.need started.seat started.stage started.plan in
-    starts_executes g.P.PoolName.sizes g.N.BookName.sizes.shards c.args.call c.args.command.now c.args.pass.now old begin c.answer.new.pass two c.args.stored.now.items c.answer.new.stored.items c.in-Ok.plan c.answer.new.plan starts c.pass-2.view_is c.answer.ensures.base
-    c.seal.result c.seal.new.seat c.seal.new.stage c.in-Ok-answer.ensures.reply c.seal.ensures.parcel c.seal.ensures.seat c.seal.ensures.stage
+    starts_executes g.P.PoolName.sizes g.N.BookName.sizes.shards c.args.call c.args.command.now c.args.pass.now old
+    begin c.answer.new.pass two c.args.stored.now.items c.answer.new.stored.items c.in-Ok.plan c.answer.new.plan
+    starts c.pass-2.view_is c.answer.ensures.base
+    c.seal.result c.seal.new.seat c.seal.new.stage c.in-Ok-answer.ensures.reply c.seal.ensures.parcel
+    c.seal.ensures.seat c.seal.ensures.stage
 
 pub returns-in-Err-clause-memory : goal.returns-in-Err-clause-memory
 returns-in-Err-clause-memory g c =
@@ -66,7 +76,10 @@ returns-in-Err-clause-memory g c =
     let two : PassView = pass_of r.mine r.seat r.opened.value r.stage r.threshold in
     let started = c.in-Ok.ensures in
     let begin : PassView = pass_of p.mine c.start.new.seat p.opened.value c.start.new.stage p.threshold in
-    let starts = starts_of c.args.command.now c.args.pass.now old c.need.result c.start.new.seat c.start.new.stage c.in-Ok.plan c.pass.view_is c.requires.stage c.requires.credits c.free.ensures.ordered
+    let starts = starts_of c.args.command.now c.args.pass.now old c.need.result c.start.new.seat c.start.new.stage
+    c.in-Ok.plan c.pass.view_is c.requires.stage c.requires.credits c.free.ensures.ordered
     c.need.ensures.need started.seat started.stage started.plan in
-    starts_falls g.P.PoolName.sizes g.N.BookName.sizes.shards c.args.call c.args.command.now c.args.pass.now old begin c.answer.new.pass two c.args.stored.now.items c.answer.new.stored.items c.in-Ok.plan c.answer.new.plan starts c.pass-2.view_is c.answer.ensures.base
+    starts_falls g.P.PoolName.sizes g.N.BookName.sizes.shards c.args.call c.args.command.now c.args.pass.now old begin
+    c.answer.new.pass two c.args.stored.now.items c.answer.new.stored.items c.in-Ok.plan c.answer.new.plan starts
+    c.pass-2.view_is c.answer.ensures.base
     c.cancel.new.seat c.cancel.new.stage c.in-Err.ensures.stopped c.cancel.ensures.seat c.cancel.ensures.stage

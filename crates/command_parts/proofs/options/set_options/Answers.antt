@@ -11,11 +11,13 @@ returns-in_err-setting c =
     let options = options_of c.loop-i.setting in
     ap (option_map options_of) c.from_residual.ensures
     ∙ sym (c.loop-i.invariant ∙ next_option words c.loop-i.i options (omega arith)
-    ∙ ap (option_and_then (with_options (drop (c.loop-i.i + 1) words))) (ap (λ word. with_option word options) (sym c.word.ensures) ∙ sym c.in_err-setting.ensures))
+    ∙ ap (option_and_then (with_options (drop (c.loop-i.i + 1) words)))
+    (ap (λ word. with_option word options) (sym c.word.ensures) ∙ sym c.in_err-setting.ensures))
 
 pub loop-i-preserved : goal.loop-i-preserved
 loop-i-preserved c =
     let words = c.args.request.now in
     let options = options_of c.loop-i.setting in
     c.loop-i.invariant ∙ next_option words c.loop-i.i options (omega arith)
-    ∙ ap (option_and_then (with_options (drop (c.loop-i.i + 1) words))) (ap (λ word. with_option word options) (sym c.word.ensures) ∙ sym c.in_ok-setting.ensures)
+    ∙ ap (option_and_then (with_options (drop (c.loop-i.i + 1) words)))
+    (ap (λ word. with_option word options) (sym c.word.ensures) ∙ sym c.in_ok-setting.ensures)

@@ -6,4 +6,5 @@ use Rattle.command_parts.proofs.options.set_options.Given as goal
 
 -- what the words so far add is added, and the others are left
 abbrev pub invariant-loop-i : goal.invariant-loop-i
-invariant-loop-i l = with_options (drop 3 l.request) (always, false) ≡ with_options (drop l.i l.request) (options_of l.setting)
+invariant-loop-i l = with_options (drop 3 l.request) (always, false) ≡ with_options (drop l.i l.request)
+    (options_of l.setting)

@@ -2,4 +2,5 @@ use Rattle.device_model.proofs.Forwarding.{forwards-on}
 use Rattle.device_model.proofs.laws.gathers_add_up.Goals as goal
 
 pub returns : goal.returns
-returns g c = λ failed between now before middle after old mid new first then. forwards-on _ _ failed between now before middle after old mid new first then
+returns g c = λ failed between now before middle after old mid new first then. forwards-on _ _ failed between now before
+    middle after old mid new first then

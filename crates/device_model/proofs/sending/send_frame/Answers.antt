@@ -1,5 +1,5 @@
 use Rattle.std.proofs.Common.{rules, ◌≡◌, ◌≤◌, List, ◌++◌, length, sym, ap, ◌∙◌, subst, arith}
-use Rattle.any_wire.specs.Sends.{Step, Chain}
+use Rattle.any_wire.specs.Sends.{WireStep, Chain}
 use Rattle.std.specs.Prelude.{Some}
 use Rattle.std.specs.List.{slice_get}
 use Rattle.any_wire.proofs.Sending.{sends-on, sends-same}
@@ -21,8 +21,17 @@ overflow_add-bytes g c =
     let seg = c.segment-segment.result in
     let is : IsSent z p = subst (IsSent z) c.frame-whole.ensures.value c.is_parcel.ensures in
     let found : slice_get p.segments c.loop-i.i ≡ Some seg =
-    ap (λ segs. slice_get segs c.loop-i.i) (sym c.requires.job) ∙ ap (λ j. slice_get (segments j) c.loop-i.i) (sym before.job) ∙ c.segment-segment.ensures in
-    omega (arith, before.few, is.few, segment-short z p c.loop-i.i seg is found, slice_get_within p.segments c.loop-i.i seg found, c.from-bytes.ensures)
+    ap (λ segs. slice_get segs c.loop-i.i) (sym c.requires.job) ∙ ap (λ j. slice_get (segments j) c.loop-i.i)
+    (sym before.job) ∙ c.segment-segment.ensures in
+    omega (
+      arith,
+      before.few,
+      is.few,
+      segment-short z p c.loop-i.i seg is found,
+      slice_get_within p.segments c.loop-i.i
+          seg found,
+      c.from-bytes.ensures,
+    )
 
 pub loop-i-preserved : goal.loop-i-preserved
 loop-i-preserved g c =
@@ -33,22 +42,27 @@ loop-i-preserved g c =
     let is : IsSent z p = subst (IsSent z) c.frame-whole.ensures.value c.is_parcel.ensures in
     let same : c.frame.result.now ≡ p = c.frame.ensures.value ∙ ap frame_of before.job in
     let found : slice_get p.segments c.loop-i.i ≡ Some seg =
-    ap (λ segs. slice_get segs c.loop-i.i) (sym c.requires.job) ∙ ap (λ j. slice_get (segments j) c.loop-i.i) (sym before.job) ∙ c.segment-segment.ensures in
+    ap (λ segs. slice_get segs c.loop-i.i) (sym c.requires.job) ∙ ap (λ j. slice_get (segments j) c.loop-i.i)
+    (sym before.job) ∙ c.segment-segment.ensures in
     record {
       job = search rules;
       sends = sends-same _ _ _ _ _ _ _ _ (reads-more (reading z p.holds) p.segments c.loop-i.i seg found)
           (sends-on _ _ _ _ _ _ _ _ _ _ before.sends
-          (sends-same _ _ _ _ _ _ _ _ (ap (λ (q : Sent). reading z q.holds seg.address seg.len) same) c.send_segment-after.ensures.sends));
+          (sends-same _ _ _ _ _ _ _ _ (ap (λ (q : Sent). reading z q.holds seg.address seg.len) same)
+          c.send_segment-after.ensures.sends));
       bytes = omega (arith, before.bytes, length-next z p c.loop-i.i seg is found, c.from-bytes.ensures);
       few = omega (arith, before.few, segment-short z p c.loop-i.i seg is found, c.from-bytes.ensures);
       pieces =
           let more = subst
-          (λ (q : Sent). (steps : List Step) × AreCuts steps (reading z q.holds seg.address seg.len)
-          × Chain (λ w b r. goal.P-post g c.args.put.now w b r) (λ w r. ⊥) steps c.loop-i.has_failed c.send_segment-after.result.1 c.loop-i.wire c.send_segment-after.result.0)
+          (λ (q : Sent). (steps : List WireStep) × AreCuts steps (reading z q.holds seg.address seg.len)
+          × Chain (λ w b r. goal.P-post g c.args.put.now w b r) (λ w r. ⊥) steps c.loop-i.has_failed
+          c.send_segment-after.result.1 c.loop-i.wire c.send_segment-after.result.0)
           same c.send_segment-after.ensures.pieces in (
             before.pieces.0 ++ more.0,
-            cuts-at-next (reading z p.holds) before.pieces.0 more.0 p.segments c.loop-i.i seg found before.pieces.1 more.1,
-            chain-more (λ w b r. goal.P-post g c.args.put.now w b r) before.pieces.0 more.0 _ _ _ _ _ _ before.pieces.2 more.2,
+            cuts-at-next (reading z p.holds) before.pieces.0 more.0 p.segments c.loop-i.i seg found before.pieces.1
+                more.1,
+            chain-more (λ w b r. goal.P-post g c.args.put.now w b r) before.pieces.0 more.0 _ _ _ _ _ _ before.pieces.2
+                more.2,
           );
     }
 
@@ -56,21 +70,25 @@ pub returns-clause-sends : goal.returns-clause-sends
 returns-clause-sends g c =
     let p = frame_of c.args.job.now in
     let z = g.N.PoolName.sizes in
-    let all : length p.segments ≤ c.loop-i.i = omega (arith, c.loop-i-test.false, c.count-i-end.ensures.segments, ap length c.requires.job) in
-    sends-same _ _ _ _ _ _ _ _ (reads-all (reading z p.holds) p.segments c.loop-i.i all ∙ search rules) c.loop-i.invariant.sends
+    let all : length p.segments ≤ c.loop-i.i =
+    omega (arith, c.loop-i-test.false, c.count-i-end.ensures.segments, ap length c.requires.job) in
+    sends-same _ _ _ _ _ _ _ _ (reads-all (reading z p.holds) p.segments c.loop-i.i all ∙ search rules)
+    c.loop-i.invariant.sends
 
 pub returns-clause-bytes : goal.returns-clause-bytes
 returns-clause-bytes g c =
     let p = frame_of c.args.job.now in
     let z = g.N.PoolName.sizes in
     let is : IsSent z p = subst (IsSent z) c.frame-whole.ensures.value c.is_parcel.ensures in
-    let all : length p.segments ≤ c.loop-i.i = omega (arith, c.loop-i-test.false, c.count-i-end.ensures.segments, ap length c.requires.job) in
+    let all : length p.segments ≤ c.loop-i.i =
+    omega (arith, c.loop-i-test.false, c.count-i-end.ensures.segments, ap length c.requires.job) in
     c.loop-i.invariant.bytes ∙ length-all z p c.loop-i.i is all
 
 pub returns-clause-pieces : goal.returns-clause-pieces
 returns-clause-pieces g c =
     let p = frame_of c.args.job.now in
     let z = g.N.PoolName.sizes in
-    let all : length p.segments ≤ c.loop-i.i = omega (arith, c.loop-i-test.false, c.count-i-end.ensures.segments, ap length c.requires.job) in
+    let all : length p.segments ≤ c.loop-i.i =
+    omega (arith, c.loop-i-test.false, c.count-i-end.ensures.segments, ap length c.requires.job) in
     let pieces = c.loop-i.invariant.pieces in
     (pieces.0, cuts-at-all (reading z p.holds) pieces.0 p.segments c.loop-i.i all pieces.1, pieces.2)

@@ -1,5 +1,5 @@
 use Rattle.std.proofs.Common.{◌≡◌, ◌≤◌, ◌*◌, List, length, take}
-use Rattle.any_wire.specs.Sends.{Step, Chain}
+use Rattle.any_wire.specs.Sends.{WireStep, Chain}
 use Rattle.device_model.specs.Pieces.{AreCutsAt}
 use Rattle.reply_layout.specs.Gathered.{read_all}
 use Rattle.reply_planner.specs.Places.{reading}
@@ -10,9 +10,13 @@ use Rattle.device_model.proofs.sending.send_frame.Given as goal
 abbrev pub invariant-loop-i : goal.invariant-loop-i
 invariant-loop-i g l = record {
   job : l.job ≡ l.fn.job;
-  sends : PutsText (λ w p r. goal.P-post g l.put w p r) l.failed l.has_failed (read_all (reading g.N.PoolName.sizes (frame_of l.fn.job).holds) (take l.i (frame_of l.fn.job).segments)) l.fn.wire l.wire;
-  bytes : l.bytes ≡ length (read_all (reading g.N.PoolName.sizes (frame_of l.fn.job).holds) (take l.i (frame_of l.fn.job).segments));
+  sends : PutsText (λ w p r. goal.P-post g l.put w p r) l.failed l.has_failed
+      (read_all (reading g.N.PoolName.sizes (frame_of l.fn.job).holds) (take l.i (frame_of l.fn.job).segments))
+      l.fn.wire l.wire;
+  bytes : l.bytes ≡ length
+      (read_all (reading g.N.PoolName.sizes (frame_of l.fn.job).holds) (take l.i (frame_of l.fn.job).segments));
   few : l.bytes ≤ 4096 * l.i;
-  pieces : (steps : List Step) × AreCutsAt (reading g.N.PoolName.sizes (frame_of l.fn.job).holds) steps (take l.i (frame_of l.fn.job).segments)
+  pieces : (steps : List WireStep) × AreCutsAt (reading g.N.PoolName.sizes (frame_of l.fn.job).holds) steps
+      (take l.i (frame_of l.fn.job).segments)
       × Chain (λ w p r. goal.P-post g l.put w p r) (λ w r. ⊥) steps l.failed l.has_failed l.fn.wire l.wire;
 }

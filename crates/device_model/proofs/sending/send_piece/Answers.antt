@@ -1,7 +1,7 @@
 use Rattle.std.proofs.Common.{rules, ◌≡◌, length, true, false, refl, sym, ap, subst, arith}
 use Rattle.any_wire.specs.Sends.{Puts}
 use Rattle.any_wire.proofs.Sending.{sends-put, sends-same}
-use Rattle.reply_planner.specs.Places.{bytes_in}
+use Rattle.reply_planner.specs.Places.{buffer_bytes}
 use Rattle.device_model.specs.Devices.{PutsText}
 use Rattle.device_model.proofs.Cutting.{chain-put}
 use Rattle.device_model.proofs.Puts.{run-length}
@@ -10,33 +10,44 @@ use Rattle.device_model.proofs.sending.send_piece.Goals as goal
 pub returns-then-failed-clause-sends : goal.returns-then-failed-clause-sends
 returns-then-failed-clause-sends g c =
     let p = c.args.parcel.now in
-    let bytes = bytes_in p.holds c.args.buffer c.args.from (length c.args.room.now) in
-    let n = run-length g.N.PoolName.sizes p c.args.buffer c.args.from (length c.args.room.now) c.is_parcel.ensures c.requires.bytes in
-    subst (λ f. PutsText (λ w p r. goal.P-post g c.args.put.now w p r) f true bytes c.args.wire c.args.wire) (sym c.if-failed.true)
+    let bytes = buffer_bytes p.holds c.args.buffer c.args.from (length c.args.room.now) in
+    let n = run-length g.N.PoolName.sizes p c.args.buffer c.args.from (length c.args.room.now) c.is_parcel.ensures
+    c.requires.bytes in
+    subst (λ f. PutsText (λ w p r. goal.P-post g c.args.put.now w p r) f true bytes c.args.wire c.args.wire)
+    (sym c.if-failed.true)
     (sends-put (λ w p r. goal.P-post g c.args.put.now w p r) (λ w r. ⊥) true true bytes c.args.wire c.args.wire
     (omega (arith, n, c.requires.count.0), omega (arith, n, c.requires.count.1)) (refl, refl))
 
 pub returns-clause-sends : goal.returns-clause-sends
 returns-clause-sends g c =
     let p = c.args.parcel.now in
-    let bytes = bytes_in p.holds c.args.buffer c.args.from (length c.args.room.now) in
-    let n = run-length g.N.PoolName.sizes p c.args.buffer c.args.from (length c.args.room.now) c.is_parcel.ensures c.requires.bytes in
+    let bytes = buffer_bytes p.holds c.args.buffer c.args.from (length c.args.room.now) in
+    let n = run-length g.N.PoolName.sizes p c.args.buffer c.args.from (length c.args.room.now) c.is_parcel.ensures
+    c.requires.bytes in
     let read : c.load_bytes.new.room ≡ bytes = search rules in
-    subst (λ f. PutsText (λ w p r. goal.P-post g c.args.put.now w p r) f c.put_unless_failed.result.1 bytes c.args.wire c.put_unless_failed.result.0) (sym c.if-failed.false)
-    (sends-same (λ w p r. goal.P-post g c.args.put.now w p r) (λ w r. ⊥) false c.put_unless_failed.result.1 c.load_bytes.new.room bytes c.args.wire c.put_unless_failed.result.0 read
-    (sends-put (λ w p r. goal.P-post g c.args.put.now w p r) (λ w r. ⊥) false c.put_unless_failed.result.1 c.load_bytes.new.room c.args.wire c.put_unless_failed.result.0
-    (omega (arith, ap length read, n, c.requires.count.0), omega (arith, ap length read, n, c.requires.count.1)) c.put_unless_failed.ensures))
+    subst (λ f. PutsText (λ w p r. goal.P-post g c.args.put.now w p r) f c.put_unless_failed.result.1 bytes c.args.wire
+    c.put_unless_failed.result.0) (sym c.if-failed.false)
+    (sends-same (λ w p r. goal.P-post g c.args.put.now w p r) (λ w r. ⊥) false c.put_unless_failed.result.1
+    c.load_bytes.new.room bytes c.args.wire c.put_unless_failed.result.0 read
+    (sends-put (λ w p r. goal.P-post g c.args.put.now w p r) (λ w r. ⊥) false c.put_unless_failed.result.1
+    c.load_bytes.new.room c.args.wire c.put_unless_failed.result.0
+    (omega (arith, ap length read, n, c.requires.count.0), omega (arith, ap length read, n, c.requires.count.1))
+    c.put_unless_failed.ensures))
 
 pub returns-then-failed-clause-piece : goal.returns-then-failed-clause-piece
 returns-then-failed-clause-piece g c =
-    let bytes = bytes_in c.args.parcel.now.holds c.args.buffer c.args.from (length c.args.room.now) in
+    let bytes = buffer_bytes c.args.parcel.now.holds c.args.buffer c.args.from (length c.args.room.now) in
     chain-put (λ w p r. goal.P-post g c.args.put.now w p r) c.args.failed true bytes c.args.wire c.args.wire
-    (subst (λ f. Puts (λ w p r. goal.P-post g c.args.put.now w p r) f true bytes c.args.wire c.args.wire) (sym c.if-failed.true) (refl, refl))
+    (subst (λ f. Puts (λ w p r. goal.P-post g c.args.put.now w p r) f true bytes c.args.wire c.args.wire)
+    (sym c.if-failed.true) (refl, refl))
 
 pub returns-clause-piece : goal.returns-clause-piece
 returns-clause-piece g c =
-    let bytes = bytes_in c.args.parcel.now.holds c.args.buffer c.args.from (length c.args.room.now) in
+    let bytes = buffer_bytes c.args.parcel.now.holds c.args.buffer c.args.from (length c.args.room.now) in
     let read : c.load_bytes.new.room ≡ bytes = search rules in
-    chain-put (λ w p r. goal.P-post g c.args.put.now w p r) c.args.failed c.put_unless_failed.result.1 bytes c.args.wire c.put_unless_failed.result.0
-    (subst (λ f. Puts (λ w p r. goal.P-post g c.args.put.now w p r) f c.put_unless_failed.result.1 bytes c.args.wire c.put_unless_failed.result.0) (sym c.if-failed.false)
-    (subst (λ t. Puts (λ w p r. goal.P-post g c.args.put.now w p r) false c.put_unless_failed.result.1 t c.args.wire c.put_unless_failed.result.0) read c.put_unless_failed.ensures))
+    chain-put (λ w p r. goal.P-post g c.args.put.now w p r) c.args.failed c.put_unless_failed.result.1 bytes c.args.wire
+    c.put_unless_failed.result.0
+    (subst (λ f. Puts (λ w p r. goal.P-post g c.args.put.now w p r) f c.put_unless_failed.result.1 bytes c.args.wire
+    c.put_unless_failed.result.0) (sym c.if-failed.false)
+    (subst (λ t. Puts (λ w p r. goal.P-post g c.args.put.now w p r) false c.put_unless_failed.result.1 t c.args.wire
+    c.put_unless_failed.result.0) read c.put_unless_failed.ensures))

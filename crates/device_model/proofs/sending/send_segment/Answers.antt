@@ -1,11 +1,12 @@
-use Rattle.std.proofs.Common.{◌≡◌, ◌+◌, ◌∷◌, ◌++◌, [], inl, inr, ⊎_elim, length, take, rules, sym, ap, ◌∙◌, subst, arith}
+use Rattle.std.proofs.Common.{◌≡◌, ◌+◌, ◌∷◌, ◌++◌, [], inl, inr, ⊎_elim, length, take, rules, sym, ap, ◌∙◌, subst}
+use Rattle.std.proofs.Common.{arith}
 use Rattle.std.proofs.lemmas.List.{length-take}
 use Rattle.std.proofs.lemmas.Bool.{cases_lt}
 use Rattle.any_wire.specs.Sends.{puts, Chain}
 use Rattle.any_wire.proofs.Sending.{sends-on, sends-same}
 use Rattle.flake_base.specs.declared.segment.Seg.{Seg}
 use Rattle.reply_planner.specs.Parcels.{Sent, HasBytes}
-use Rattle.reply_planner.specs.Places.{place_of, bytes_in}
+use Rattle.reply_planner.specs.Places.{place_of, buffer_bytes}
 use Rattle.device_model.proofs.Cutting.{whole-times, whole-more, pieces-more, chain-more}
 use Rattle.device_model.proofs.Puts.{bytes-more, segment-readable, segment-short, fits-in, run-there}
 use Rattle.device_model.proofs.sending.send_segment.Goals as goal
@@ -20,16 +21,24 @@ unreachable-requires g c =
 pub overflow_add-from : goal.overflow_add-from
 overflow_add-from g c =
     let z = g.N.PoolName.sizes in
-    let short = segment-short z c.args.parcel.now c.requires.segment.0 c.args.segment c.is_parcel.ensures c.requires.segment.1 in
-    omega (arith, fits-in z c.in-Some.buffer c.in-Some.from c.args.segment.address c.in-Some.ensures.some, c.loop-done-test.true, short)
+    let short = segment-short z c.args.parcel.now c.requires.segment.0 c.args.segment c.is_parcel.ensures
+    c.requires.segment.1 in
+    omega (
+      arith,
+      fits-in z c.in-Some.buffer c.in-Some.from c.args.segment.address c.in-Some.ensures.some,
+      c.loop-done-test.true,
+      short,
+    )
 
 pub send_piece-after-requires-clause-bytes : goal.send_piece-after-requires-clause-bytes
 send_piece-after-requires-clause-bytes g c =
     let z = g.N.PoolName.sizes in
     let size : length (take c.min-count.result c.loop-done.room) ≡ c.min-count.result = search (rules, length-take) in
     subst (HasBytes z c.loop-done.parcel.segments c.in-Some.buffer (c.in-Some.from + c.loop-done.done)) (sym size)
-    (subst (λ (p : Sent). HasBytes z p.segments c.in-Some.buffer (c.in-Some.from + c.loop-done.done) c.min-count.result) (sym c.loop-done.invariant.parcel)
-    (run-there z c.args.parcel.now c.requires.segment.0 c.args.segment c.in-Some.buffer c.in-Some.from c.loop-done.done c.min-count.result
+    (subst (λ (p : Sent). HasBytes z p.segments c.in-Some.buffer (c.in-Some.from + c.loop-done.done) c.min-count.result)
+    (sym c.loop-done.invariant.parcel)
+    (run-there z c.args.parcel.now c.requires.segment.0 c.args.segment c.in-Some.buffer c.in-Some.from c.loop-done.done
+    c.min-count.result
     c.requires.segment.1 c.in-Some.ensures.some (omega (arith, c.min-count.ensures, c.loop-done-test.true))))
 
 pub loop-done-preserved : goal.loop-done-preserved
@@ -41,8 +50,10 @@ loop-done-preserved g c =
     let done = c.loop-done.done in
     let n = c.min-count.result in
     let size : length (take n c.loop-done.room) ≡ n = search (rules, length-take) in
-    let bytes : bytes_in c.loop-done.parcel.holds b (from + done) (length (take n c.loop-done.room)) ≡ bytes_in hs b (from + done) n =
-    ap (λ (p : Sent). bytes_in p.holds b (from + done) (length (take n c.loop-done.room))) before.parcel ∙ ap (bytes_in hs b (from + done)) size in
+    let bytes : buffer_bytes c.loop-done.parcel.holds b (from + done) (length (take n c.loop-done.room))
+    ≡ buffer_bytes hs b (from + done) n =
+    ap (λ (p : Sent). buffer_bytes p.holds b (from + done) (length (take n c.loop-done.room))) before.parcel
+    ∙ ap (buffer_bytes hs b (from + done)) size in
     record {
       within = omega (arith, c.min-count.ensures, c.loop-done-test.true);
       parcel = c.send_piece-after.ensures.parcel ∙ before.parcel;
@@ -51,12 +62,14 @@ loop-done-preserved g c =
           (sends-same _ _ _ _ _ _ _ _ bytes c.send_piece-after.ensures.sends));
       pieces =
           let k = whole-times done c.args.segment.len before.whole c.loop-done-test.true in (
-            before.pieces.0 ++ puts (bytes_in hs b (from + done) n) ∷ [],
-            pieces-more g.N.PoolName.sizes c.args.parcel.now c.requires.segment.0 c.args.segment b from done n k.0 before.pieces.0
+            before.pieces.0 ++ puts (buffer_bytes hs b (from + done) n) ∷ [],
+            pieces-more g.N.PoolName.sizes c.args.parcel.now c.requires.segment.0 c.args.segment b from done n k.0
+                before.pieces.0
                 c.is_parcel.ensures c.requires.segment.1 c.in-Some.ensures.some k.1
                 (omega (arith, c.min-count.ensures, c.loop-done-test.true)) (omega (arith, c.min-count.ensures))
                 (omega (arith, c.min-count.ensures, c.loop-done-test.true)) before.pieces.1,
-            chain-more (λ w p r. goal.P-post g c.args.put.now w p r) before.pieces.0 (puts (bytes_in hs b (from + done) n) ∷ []) _ _ _ _ _ _
+            chain-more (λ w p r. goal.P-post g c.args.put.now w p r) before.pieces.0
+                (puts (buffer_bytes hs b (from + done) n) ∷ []) _ _ _ _ _ _
                 before.pieces.2
                 (subst
                 (λ piece. Chain (λ w q r. goal.P-post g c.args.put.now w q r) (λ w r. ⊥) (puts piece ∷ [])

@@ -1,7 +1,7 @@
 use Rattle.std.proofs.Common.{◌-◌, ◌*◌, ◌≡◌, ◌≤◌, ℕ, List, ◌⊎◌}
-use Rattle.any_wire.specs.Sends.{Step, Chain}
+use Rattle.any_wire.specs.Sends.{WireStep, Chain}
 use Rattle.device_model.specs.Pieces.{AreCuts}
-use Rattle.reply_planner.specs.Places.{bytes_in}
+use Rattle.reply_planner.specs.Places.{buffer_bytes}
 use Rattle.device_model.specs.Devices.{PutsText}
 use Rattle.device_model.proofs.sending.send_segment.Given as goal
 
@@ -9,8 +9,9 @@ abbrev pub invariant-loop-done : goal.invariant-loop-done
 invariant-loop-done g l = record {
   within : l.done ≤ l.segment.len;
   parcel : l.parcel ≡ l.fn.parcel;
-  sends : PutsText (λ w p r. goal.P-post g l.put w p r) l.failed l.has_failed (bytes_in l.fn.parcel.holds l.buffer l.from l.done) l.fn.wire l.wire;
-  pieces : (steps : List Step) × AreCuts steps (bytes_in l.fn.parcel.holds l.buffer l.from l.done)
+  sends : PutsText (λ w p r. goal.P-post g l.put w p r) l.failed l.has_failed
+      (buffer_bytes l.fn.parcel.holds l.buffer l.from l.done) l.fn.wire l.wire;
+  pieces : (steps : List WireStep) × AreCuts steps (buffer_bytes l.fn.parcel.holds l.buffer l.from l.done)
       × Chain (λ w p r. goal.P-post g l.put w p r) (λ w r. ⊥) steps l.failed l.has_failed l.fn.wire l.wire;
   whole : (l.done ≡ l.segment.len) ⊎ ((k : ℕ) × (l.done ≡ 512 * k));
 }

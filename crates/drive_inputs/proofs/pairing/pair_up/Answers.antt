@@ -3,21 +3,23 @@ use Rattle.std.proofs.lemmas.List.{nil_from_length}
 use Rattle.std.specs.Vec.Iter.{into_iter_items}
 use Rattle.session_serve.specs.Working.{IsFresh}
 use Rattle.drive_script.specs.Driving.{driving_of, IsNew}
-use Rattle.serve_house.specs.Opened.{IsDesk}
-use Rattle.serve_house.proofs.Lists.{all_of_none, all_as, all_more, all_first, all_rest, all_given, given_on, moves_on, both_more}
+use Rattle.run_resources.specs.Opened.{IsSessionSlot}
+use Rattle.run_resources.proofs.Lists.{all_of_none, all_as, all_more, all_first, all_rest, all_given, given_on}
+use Rattle.run_resources.proofs.Lists.{moves_on}
+use Rattle.run_resources.proofs.Lists.{both_more}
 use Rattle.drive_inputs.proofs.Beginning.{new_driving}
 use Rattle.drive_inputs.proofs.pairing.pair_up.Goals as goal
 
-pub loop-desk-init : goal.loop-desk-init
-loop-desk-init g c =
-    let gives = c.into_iter-desk-iterator.ensures.into_iter_gives in
+pub loop-slot-init : goal.loop-slot-init
+loop-slot-init g c =
+    let gives = c.into_iter-slot-iterator.ensures.into_iter_gives in
     let long = ap length gives.0 in
     let none = c.requires.room.0 in
     let sources = c.into_iter-more_sources.ensures.rest in
     let wires = c.into_iter-more_wires.ensures.rest in
     record {
       all = gives.0;
-      left = omega (arith, gives.1, long, c.args.desks.ok.0);
+      left = omega (arith, gives.1, long, c.args.slots.ok.0);
       fresh = all_of_none c.args.drivings.items (λ d. IsNew g.P.PoolName.sizes (driving_of d.lane.session
           d.lane.device.failed d.lane.device.end d.asking.kept d.asking.end d.asking.pump d.wire)
           × IsFresh g.P.PoolName.sizes d.lane.session d.asking.pump) none;
@@ -25,44 +27,52 @@ loop-desk-init g c =
       lefts = rw none (ap (map (λ s. g.S.Source.left s)) sources);
       faults = rw none (ap (map (λ s. g.S.Source.read_faults s)) sources);
       wires = rw none (ap (map Some) wires);
-      rest = all_as _ c.args.desks.items (λ d. IsDesk g.P.PoolName.sizes d.session d.device.end d.device.failed)
-          gives.0 c.requires.desks;
+      rest = all_as _ c.args.slots.items
+          (λ d. IsSessionSlot g.P.PoolName.sizes d.session d.device.end d.device.failed)
+          gives.0 c.requires.slots;
       source_count = omega (arith, long, ap length sources, c.requires.sources);
       wire_count = omega (arith, long, ap length wires, c.requires.wires);
       room = omega (arith, long, c.requires.room.1, ap length none, c.args.drivings.ok.0);
     }
 
-pub loop-desk-preserved : goal.loop-desk-preserved
-loop-desk-preserved g c =
+pub loop-slot-preserved : goal.loop-slot-preserved
+loop-slot-preserved g c =
     let z = g.P.PoolName.sizes in
-    let before = c.loop-desk.invariant in
-    let drivings = c.loop-desk.drivings.items in
-    let desk = c.in-Some.desk in
+    let before = c.loop-slot.invariant in
+    let drivings = c.loop-slot.drivings.items in
+    let slot = c.in-Some.slot in
     let steps = c.in-Some.ensures.steps in
     let items = c.push_reserved.ensures.items in
     let sources = c.in-Some-next.ensures.items in
     let wires = c.in-Some-next-2.ensures.items in
     let own = c.new-pump.ensures.source in
-    let is = all_first _ _ desk (λ d. IsDesk z d.session d.device.end d.device.failed) steps.0 before.rest in
+    let is = all_first _ _ slot (λ d. IsSessionSlot z d.session d.device.end d.device.failed) steps.0
+    before.rest in
     record {
-      all = given_on c.loop-desk.yielded _ _ _ _ before.all steps.0;
+      all = given_on c.loop-slot.yielded _ _ _ _ before.all steps.0;
       left = omega (arith, before.left, steps.1, ap length steps.0);
-      fresh = all_more drivings _ _ (λ d. IsNew z (driving_of d.lane.session d.lane.device.failed d.lane.device.end d.asking.kept
+      fresh = all_more drivings _ _
+          (λ d. IsNew z (driving_of d.lane.session d.lane.device.failed d.lane.device.end d.asking.kept
           d.asking.end d.asking.pump d.wire) × IsFresh z d.lane.session d.asking.pump) items before.fresh
-          (new_driving z desk.session desk.device.end desk.device.failed c.new-pump.result _ _ c.in-Some-next-2.wire is
+          (new_driving z slot.session slot.device.end slot.device.failed c.new-pump.result _ _
+          c.in-Some-next-2.wire is
           c.new-pump.ensures.pump own);
-      sessions = both_more drivings _ _ c.loop-desk.yielded desk (λ d. d.lane.session) (λ d. d.session) items
+      sessions = both_more drivings _ _ c.loop-slot.yielded slot (λ d. d.lane.session)
+          (λ d. d.session) items
           before.sessions refl;
       lefts = moves_on drivings _ _ (λ d. d.asking.pump.left) _ _ _ items
           (ap (map (λ s. g.S.Source.left s)) sources
-          ∙ ap (λ l. l ∷ map (λ s. g.S.Source.left s) (into_iter_items c.next-in-loop-desk.new.self)) (sym own.0))
+          ∙ ap (λ l. l ∷ map (λ s. g.S.Source.left s) (into_iter_items c.next-in-loop-slot.new.self))
+          (sym own.0))
           before.lefts;
       faults = moves_on drivings _ _ (λ d. d.asking.pump.faults) _ _ _ items
           (ap (map (λ s. g.S.Source.read_faults s)) sources
-          ∙ ap (λ l. l ∷ map (λ s. g.S.Source.read_faults s) (into_iter_items c.next-in-loop-desk.new.self)) (sym own.1))
+          ∙ ap (λ l. l ∷ map (λ s. g.S.Source.read_faults s) (into_iter_items c.next-in-loop-slot.new.self))
+          (sym own.1))
           before.faults;
       wires = moves_on drivings _ _ (λ d. d.wire) _ _ _ items (ap (map Some) wires) before.wires;
-      rest = all_rest _ _ desk (λ d. IsDesk z d.session d.device.end d.device.failed) steps.0 before.rest;
+      rest = all_rest _ _ slot (λ d. IsSessionSlot z d.session d.device.end d.device.failed) steps.0
+          before.rest;
       source_count = omega (arith, before.source_count, ap length sources, ap length steps.0);
       wire_count = omega (arith, before.wire_count, ap length wires, ap length steps.0);
       room = omega (
@@ -76,32 +86,35 @@ loop-desk-preserved g c =
 
 pub returns-clause-sessions : goal.returns-clause-sessions
 returns-clause-sessions g c =
-    let before = c.loop-desk.invariant in
+    let before = c.loop-slot.invariant in
     before.sessions ∙ ap (map (λ d. d.session))
-    (all_given c.loop-desk.yielded _ c.args.desks.items _ before.all before.left c.in-None.ensures.steps.0)
+    (all_given c.loop-slot.yielded _ c.args.slots.items _ before.all before.left
+    c.in-None.ensures.steps.0)
 
 pub returns-clause-lefts : goal.returns-clause-lefts
 returns-clause-lefts g c =
-    let before = c.loop-desk.invariant in
-    let none = nil_from_length (into_iter_items c.loop-desk.more_sources) (omega (
+    let before = c.loop-slot.invariant in
+    let none = nil_from_length (into_iter_items c.loop-slot.more_sources) (omega (
       arith,
       before.source_count,
       before.left,
       c.in-None.ensures.steps.0,
     )) in
     sym (append-nil _)
-    ∙ ap (λ l. map (λ d. d.asking.pump.left) c.loop-desk.drivings.items ++ map (λ s. g.S.Source.left s) l) (sym none)
+    ∙ ap (λ l. map (λ d. d.asking.pump.left) c.loop-slot.drivings.items ++ map (λ s. g.S.Source.left s) l)
+    (sym none)
     ∙ before.lefts
 
 pub returns-clause-faults : goal.returns-clause-faults
 returns-clause-faults g c =
-    let before = c.loop-desk.invariant in
-    let none = nil_from_length (into_iter_items c.loop-desk.more_sources) (omega (
+    let before = c.loop-slot.invariant in
+    let none = nil_from_length (into_iter_items c.loop-slot.more_sources) (omega (
       arith,
       before.source_count,
       before.left,
       c.in-None.ensures.steps.0,
     )) in
     sym (append-nil _)
-    ∙ ap (λ l. map (λ d. d.asking.pump.faults) c.loop-desk.drivings.items ++ map (λ s. g.S.Source.read_faults s) l)
+    ∙ ap (λ l. map (λ d. d.asking.pump.faults) c.loop-slot.drivings.items
+    ++ map (λ s. g.S.Source.read_faults s) l)
     (sym none) ∙ before.faults

@@ -2,11 +2,11 @@ use Rattle.std.proofs.Common.{◌≡◌, ◌+◌, ◌≤◌, ◌++◌, All, Some
 use Rattle.std.specs.Vec.Iter.{into_iter_items, into_iter_len}
 use Rattle.session_serve.specs.Working.{IsFresh}
 use Rattle.drive_script.specs.Driving.{driving_of, IsNew}
-use Rattle.serve_house.specs.Opened.{IsDesk}
+use Rattle.run_resources.specs.Opened.{IsSessionSlot}
 use Rattle.drive_inputs.proofs.pairing.pair_up.Given as goal
 
-abbrev pub invariant-loop-desk : goal.invariant-loop-desk
-invariant-loop-desk g l = record {
+abbrev pub invariant-loop-slot : goal.invariant-loop-slot
+invariant-loop-slot g l = record {
   fresh : All (λ d. IsNew g.P.PoolName.sizes (driving_of d.lane.session d.lane.device.failed d.lane.device.end
       d.asking.kept d.asking.end d.asking.pump d.wire) × IsFresh g.P.PoolName.sizes d.lane.session d.asking.pump)
       l.drivings.items;
@@ -18,10 +18,11 @@ invariant-loop-desk g l = record {
       ++ map (λ s. g.S.Source.read_faults s) (into_iter_items l.more_sources)
       ≡ map (λ s. g.S.Source.read_faults s) l.fn.sources.items;
   wires : map (λ d. d.wire) l.drivings.items ++ map Some (into_iter_items l.more_wires) ≡ map Some l.fn.wires.items;
-  rest : All (λ d. IsDesk g.P.PoolName.sizes d.session d.device.end d.device.failed) (into_iter_items l.desk-iterator);
-  all : l.yielded ++ into_iter_items l.desk-iterator ≡ l.fn.desks.items;
-  left : into_iter_len l.desk-iterator ≡ length (into_iter_items l.desk-iterator);
-  source_count : length (into_iter_items l.more_sources) ≡ length (into_iter_items l.desk-iterator);
-  wire_count : length (into_iter_items l.desk-iterator) ≤ length (into_iter_items l.more_wires);
-  room : vec_len l.drivings + length (into_iter_items l.desk-iterator) ≤ vec_capacity l.drivings;
+  rest : All (λ d. IsSessionSlot g.P.PoolName.sizes d.session d.device.end d.device.failed)
+      (into_iter_items l.slot-iterator);
+  all : l.yielded ++ into_iter_items l.slot-iterator ≡ l.fn.slots.items;
+  left : into_iter_len l.slot-iterator ≡ length (into_iter_items l.slot-iterator);
+  source_count : length (into_iter_items l.more_sources) ≡ length (into_iter_items l.slot-iterator);
+  wire_count : length (into_iter_items l.slot-iterator) ≤ length (into_iter_items l.more_wires);
+  room : vec_len l.drivings + length (into_iter_items l.slot-iterator) ≤ vec_capacity l.drivings;
 }

@@ -2,12 +2,12 @@ use Rattle.std.proofs.Common.{ℕ, ◌*◌, ◌<◌, All, refl, ap, sym, ◌∙�
 use Rattle.std.specs.List.{range_with_len}
 use Rattle.pin_core.specs.declared.sizes.Sizes.{Sizes}
 use Rattle.view_sums.specs.Total.{Each}
-use Rattle.schedule_text.specs.Text.{session_of}
+use Rattle.schedule_text.specs.Text.{line_session}
 use Rattle.drive_script.specs.Driven.{leaving_of}
 use Rattle.drive_script.specs.Driving.{driving_of}
-use Rattle.serve_house.specs.Opened.{IsDesk}
-use Rattle.serve_house.proofs.Desks.{HasCredits, desk_credits}
-use Rattle.serve_house.proofs.Lists.{count_of, same_count, count_as}
+use Rattle.run_resources.specs.Opened.{IsSessionSlot}
+use Rattle.run_resources.proofs.SessionSlots.{HasCredits, slot_credits}
+use Rattle.run_resources.proofs.Lists.{count_of, same_count, count_as}
 use Rattle.drive_inputs.proofs.Each.{AreFit, all_fit}
 use Rattle.drive_inputs.proofs.Together.{as_many, wires_past, reads, credits, credits_of, drove_inputs}
 use Rattle.drive_inputs.proofs.whole.drive_opened.Goals as goal
@@ -15,14 +15,15 @@ use Rattle.drive_inputs.proofs.whole.drive_opened.Goals as goal
 pub returns-clause-drove : goal.returns-clause-drove
 returns-clause-drove g c =
     let z = g.P.PoolName.sizes in
-    let desks = c.args.house.desks.items in
-    let many = count_of desks _ _ c.requires.numbers in
-    let rows = same_count c.pair_up-drivings.result.0.items desks _ _ c.pair_up-drivings.ensures.sessions in
+    let slots = c.args.resources.slots.items in
+    let many = count_of slots _ _ c.requires.numbers in
+    let rows = same_count c.pair_up-drivings.result.0.items slots _ _ c.pair_up-drivings.ensures.sessions in
     let left = as_many _ _ z _ _ _ _ _ c.pair_up-drivings.result.0.items c.drive-accounts.result.accounts.items _ _
     c.drive-accounts.ensures.driven in
     let lists = count_as _ c.drive-accounts.result.accounts.items _ c.bring_in-ends.ensures.lists in
-    let fit = all_fit z _ _ 0 (λ d. IsDesk z d.session d.device.end d.device.failed) (λ d. d.session) desks
-    (λ d is. is.pass) c.requires.desks c.requires.ring c.requires.threshold
+    let fit = all_fit z _ _ 0 (λ d. IsSessionSlot z d.session d.device.end d.device.failed)
+    (λ d. d.session) slots
+    (λ d is. is.pass) c.requires.slots c.requires.ring c.requires.threshold
     (c.requires.numbers ∙ ap (λ (n : ℕ). range_with_len 0 n) (sym many)) in
     drove_inputs _ _ z g.N.BookName.sizes.shards (λ d. driving_of d.lane.session d.lane.device.failed d.lane.device.end
     d.asking.kept d.asking.end d.asking.pump d.wire) (λ a. leaving_of a.end a.mine a.seat a.pump a.wire) _ _
@@ -42,55 +43,55 @@ returns-clause-reads g c =
 
 pub pair_up-drivings-requires-clause-sources : goal.pair_up-drivings-requires-clause-sources
 pair_up-drivings-requires-clause-sources g c = λ _ _.
-    sym (count_of c.args.house.desks.items _ _ c.requires.numbers)
+    sym (count_of c.args.resources.slots.items _ _ c.requires.numbers)
 
 pub pair_up-drivings-requires-clause-wires : goal.pair_up-drivings-requires-clause-wires
 pair_up-drivings-requires-clause-wires g c =
-    omega (arith, count_of c.args.house.desks.items _ _ c.requires.numbers, c.requires.wires)
+    omega (arith, count_of c.args.resources.slots.items _ _ c.requires.numbers, c.requires.wires)
 
 pub pair_up-drivings-requires-clause-room : goal.pair_up-drivings-requires-clause-room
 pair_up-drivings-requires-clause-room g c = λ _ _. (
   c.requires.drivings.0,
-  omega (arith, count_of c.args.house.desks.items _ _ c.requires.numbers, c.requires.drivings.1),
+  omega (arith, count_of c.args.resources.slots.items _ _ c.requires.numbers, c.requires.drivings.1),
 )
 
 pub drive-accounts-requires-clause-there : goal.drive-accounts-requires-clause-there
 drive-accounts-requires-clause-there g c = λ _ _.
-    let desks = c.args.house.desks.items in
-    let rows = same_count c.pair_up-drivings.result.0.items desks _ _ c.pair_up-drivings.ensures.sessions in
-    subst (λ (n : ℕ). All (λ line. session_of line < n) c.args.schedule.now)
-    (sym (rows ∙ count_of desks _ _ c.requires.numbers)) c.requires.there
+    let slots = c.args.resources.slots.items in
+    let rows = same_count c.pair_up-drivings.result.0.items slots _ _ c.pair_up-drivings.ensures.sessions in
+    subst (λ (n : ℕ). All (λ line. line_session line < n) c.args.schedule.now)
+    (sym (rows ∙ count_of slots _ _ c.requires.numbers)) c.requires.there
 
 pub drive-accounts-requires-clause-room : goal.drive-accounts-requires-clause-room
 drive-accounts-requires-clause-room g c = λ _ _.
-    let desks = c.args.house.desks.items in
-    let many = count_of desks _ _ c.requires.numbers in
-    let rows = same_count c.pair_up-drivings.result.0.items desks _ _ c.pair_up-drivings.ensures.sessions in
+    let slots = c.args.resources.slots.items in
+    let many = count_of slots _ _ c.requires.numbers in
+    let rows = same_count c.pair_up-drivings.result.0.items slots _ _ c.pair_up-drivings.ensures.sessions in
     (c.requires.accounts.0, omega (arith, many, rows, c.requires.accounts.1))
 
 pub bring_in-ends-requires-clause-ends : goal.bring_in-ends-requires-clause-ends
 bring_in-ends-requires-clause-ends g c =
-    let desks = c.args.house.desks.items in
-    let many = count_of desks _ _ c.requires.numbers in
-    let rows = same_count c.pair_up-drivings.result.0.items desks _ _ c.pair_up-drivings.ensures.sessions in
+    let slots = c.args.resources.slots.items in
+    let many = count_of slots _ _ c.requires.numbers in
+    let rows = same_count c.pair_up-drivings.result.0.items slots _ _ c.pair_up-drivings.ensures.sessions in
     let left = as_many _ _ g.P.PoolName.sizes _ _ _ _ _ c.pair_up-drivings.result.0.items
     c.drive-accounts.result.accounts.items _ _ c.drive-accounts.ensures.driven in
     (c.requires.ends.0, omega (arith, many, rows, left, c.requires.ends.1))
 
 pub bring_in-ends-requires-clause-lists : goal.bring_in-ends-requires-clause-lists
 bring_in-ends-requires-clause-lists g c =
-    let desks = c.args.house.desks.items in
-    let many = count_of desks _ _ c.requires.numbers in
-    let rows = same_count c.pair_up-drivings.result.0.items desks _ _ c.pair_up-drivings.ensures.sessions in
+    let slots = c.args.resources.slots.items in
+    let many = count_of slots _ _ c.requires.numbers in
+    let rows = same_count c.pair_up-drivings.result.0.items slots _ _ c.pair_up-drivings.ensures.sessions in
     let left = as_many _ _ g.P.PoolName.sizes _ _ _ _ _ c.pair_up-drivings.result.0.items
     c.drive-accounts.result.accounts.items _ _ c.drive-accounts.ensures.driven in
     (c.requires.lists.0, omega (arith, many, rows, left, c.requires.lists.1))
 
 pub bring_in-ends-requires-clause-sources : goal.bring_in-ends-requires-clause-sources
 bring_in-ends-requires-clause-sources g c =
-    let desks = c.args.house.desks.items in
-    let many = count_of desks _ _ c.requires.numbers in
-    let rows = same_count c.pair_up-drivings.result.0.items desks _ _ c.pair_up-drivings.ensures.sessions in
+    let slots = c.args.resources.slots.items in
+    let many = count_of slots _ _ c.requires.numbers in
+    let rows = same_count c.pair_up-drivings.result.0.items slots _ _ c.pair_up-drivings.ensures.sessions in
     let left = as_many _ _ g.P.PoolName.sizes _ _ _ _ _ c.pair_up-drivings.result.0.items
     c.drive-accounts.result.accounts.items _ _ c.drive-accounts.ensures.driven in
     (c.requires.room.0, omega (arith, many, rows, left, c.requires.room.1))
@@ -104,9 +105,9 @@ bring_in-ends-requires-clause-wires g c =
 
 pub close_all-journal-requires-clause-lists : goal.close_all-journal-requires-clause-lists
 close_all-journal-requires-clause-lists g c =
-    let desks = c.args.house.desks.items in
-    let many = count_of desks _ _ c.requires.numbers in
-    let rows = same_count c.pair_up-drivings.result.0.items desks _ _ c.pair_up-drivings.ensures.sessions in
+    let slots = c.args.resources.slots.items in
+    let many = count_of slots _ _ c.requires.numbers in
+    let rows = same_count c.pair_up-drivings.result.0.items slots _ _ c.pair_up-drivings.ensures.sessions in
     let left = as_many _ _ g.P.PoolName.sizes _ _ _ _ _ c.pair_up-drivings.result.0.items
     c.drive-accounts.result.accounts.items _ _ c.drive-accounts.ensures.driven in
     let lists = count_as _ c.drive-accounts.result.accounts.items _ c.bring_in-ends.ensures.lists in
@@ -115,11 +116,11 @@ close_all-journal-requires-clause-lists g c =
 pub close_all-journal-requires-clause-credits : goal.close_all-journal-requires-clause-credits
 close_all-journal-requires-clause-credits g c =
     let z = g.P.PoolName.sizes in
-    let desks = c.args.house.desks.items in
-    let many = count_of desks _ _ c.requires.numbers in
-    let rows = same_count c.pair_up-drivings.result.0.items desks _ _ c.pair_up-drivings.ensures.sessions in
-    let own = credits_of (λ d. IsDesk z d.session d.device.end d.device.failed) (λ d. d.session)
-    (λ d is. desk_credits z _ _ _ is) desks c.requires.desks in
+    let slots = c.args.resources.slots.items in
+    let many = count_of slots _ _ c.requires.numbers in
+    let rows = same_count c.pair_up-drivings.result.0.items slots _ _ c.pair_up-drivings.ensures.sessions in
+    let own = credits_of (λ d. IsSessionSlot z d.session d.device.end d.device.failed) (λ d. d.session)
+    (λ d is. slot_credits z _ _ _ is) slots c.requires.slots in
     let all = credits _ _ z _ (λ d. driving_of d.lane.session d.lane.device.failed d.lane.device.end d.asking.kept
     d.asking.end d.asking.pump d.wire) (λ a. leaving_of a.end a.mine a.seat a.pump a.wire) _ _
     c.pair_up-drivings.result.0.items c.drive-accounts.result.accounts.items _ _ _ _ c.drive-accounts.ensures.driven

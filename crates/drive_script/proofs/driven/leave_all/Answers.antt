@@ -12,12 +12,16 @@ loop-session-init g c =
       all = gives.0;
       left = omega (arith, gives.1, long, c.args.sessions.ok.0);
       done = rw c.requires.room.0 tt;
-      rest = same_go _ _ _ _ c.args.sessions.items (λ d. driving_of d.lane.session d.lane.device.failed d.lane.device.end d.asking.kept d.asking.end d.asking.pump d.wire) gives.0 c.requires.going;
+      rest = same_go _ _ _ _ c.args.sessions.items
+          (λ d. driving_of d.lane.session d.lane.device.failed d.lane.device.end d.asking.kept d.asking.end
+          d.asking.pump d.wire) gives.0 c.requires.going;
       room = omega (arith, long, c.requires.room.1, ap length c.requires.room.0, c.args.accounts.ok.0);
     }
 
 pub leave-requires-clause-going : goal.leave-requires-clause-going
-leave-requires-clause-going g c = λ _ _. first_goes _ _ _ (into_iter_items c.loop-session.session-iterator) _ c.in-Some.session (λ d. driving_of d.lane.session d.lane.device.failed d.lane.device.end d.asking.kept d.asking.end d.asking.pump d.wire) c.in-Some.ensures.steps.0 c.loop-session.invariant.rest
+leave-requires-clause-going g c = λ _ _. first_goes _ _ _ (into_iter_items c.loop-session.session-iterator) _
+    c.in-Some.session (λ d. driving_of d.lane.session d.lane.device.failed d.lane.device.end d.asking.kept d.asking.end
+    d.asking.pump d.wire) c.in-Some.ensures.steps.0 c.loop-session.invariant.rest
 
 pub loop-session-preserved : goal.loop-session-preserved
 loop-session-preserved g c =
@@ -26,12 +30,23 @@ loop-session-preserved g c =
     record {
       all = given_on c.loop-session.yielded _ _ _ _ before.all steps.0;
       left = omega (arith, before.left, steps.1, ap length steps.0);
-      done = zip_more c.loop-session.yielded c.loop-session.accounts.items _ c.in-Some.session _ _ c.push_reserved.ensures.items before.done (λ first events is. (c.leave.ensures.left first events is, c.leave.ensures.driven first events is));
-      rest = rest_goes _ _ _ (into_iter_items c.loop-session.session-iterator) _ c.in-Some.session (λ d. driving_of d.lane.session d.lane.device.failed d.lane.device.end d.asking.kept d.asking.end d.asking.pump d.wire) steps.0 before.rest;
-      room = omega (arith, before.room, ap length steps.0, c.push_reserved.ensures.len, c.push_reserved.ensures.capacity);
+      done = zip_more c.loop-session.yielded c.loop-session.accounts.items _ c.in-Some.session _ _
+          c.push_reserved.ensures.items before.done
+          (λ first events is. (c.leave.ensures.left first events is, c.leave.ensures.driven first events is));
+      rest = rest_goes _ _ _ (into_iter_items c.loop-session.session-iterator) _ c.in-Some.session
+          (λ d. driving_of d.lane.session d.lane.device.failed d.lane.device.end d.asking.kept d.asking.end
+          d.asking.pump d.wire) steps.0 before.rest;
+      room = omega (
+        arith,
+        before.room,
+        ap length steps.0,
+        c.push_reserved.ensures.len,
+        c.push_reserved.ensures.capacity,
+      );
     }
 
 pub returns : goal.returns
 returns g c =
     let before = c.loop-session.invariant in
-    zip_as c.loop-session.yielded _ c.loop-session.accounts.items _ (all_given c.loop-session.yielded _ _ _ before.all before.left c.in-None.ensures.steps.0) before.done
+    zip_as c.loop-session.yielded _ c.loop-session.accounts.items _
+    (all_given c.loop-session.yielded _ _ _ before.all before.left c.in-None.ensures.steps.0) before.done

@@ -7,10 +7,13 @@ use Rattle.drive_script.proofs.lines.drive_lines.Given as goal
 
 abbrev pub invariant-loop-line : goal.invariant-loop-line
 invariant-loop-line g l = record {
-  driven : WereDriven (sends_by (λ w p r. goal.PUT-post g l.put w p r) (λ w r. goal.FLUSH-post g l.flush w r)) g.P.PoolName.sizes g.N.BookName.sizes.shards
-      (map (λ d. driving_of d.lane.session d.lane.device.failed d.lane.device.end d.asking.kept d.asking.end d.asking.pump d.wire) l.fn.sessions.items)
+  driven : WereDriven (sends_by (λ w p r. goal.PUT-post g l.put w p r) (λ w r. goal.FLUSH-post g l.flush w r))
+      g.P.PoolName.sizes g.N.BookName.sizes.shards
+      (map (λ d. driving_of d.lane.session d.lane.device.failed d.lane.device.end d.asking.kept d.asking.end
+      d.asking.pump d.wire) l.fn.sessions.items)
       (take l.line-index l.schedule)
-      (map (λ d. driving_of d.lane.session d.lane.device.failed d.lane.device.end d.asking.kept d.asking.end d.asking.pump d.wire) l.sessions.items)
+      (map (λ d. driving_of d.lane.session d.lane.device.failed d.lane.device.end d.asking.kept d.asking.end
+      d.asking.pump d.wire) l.sessions.items)
       l.failed (g.H.Host.host_told l.fn.host) (g.H.Host.host_told l.host);
   room : text_room ≤ vec_capacity l.room.text;
 }

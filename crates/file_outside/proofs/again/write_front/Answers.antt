@@ -10,7 +10,8 @@ writes-preserved g c =
     elim c.match-write.branch [
       | in-Ok w ↦ rw w.count-is (record {
         within = omega (arith, w.in-Ok.ensures.bound, length-take {A = ℕ}, length-drop {A = ℕ});
-        text = Appends-further _ _ _ c.args.bytes.now c.writes.count w.in-Ok.more c.writes.invariant.text w.in-Ok.ensures.bytes;
+        text = Appends-further _ _ _ c.args.bytes.now c.writes.count w.in-Ok.more c.writes.invariant.text
+            w.in-Ok.ensures.bytes;
       })
       | in-Err w ↦ rw w.count-is (record {
         within = c.writes.invariant.within;

@@ -1,10 +1,10 @@
 use Rattle.std.proofs.Common.{◌≡◌, ◌≤◌, [], Some, IfSome, length, map, arith, sym, ap, ◌∙◌, subst}
 use Rattle.std.specs.Option.{option_map}
 use Rattle.std.proofs.lemmas.List.{length-map}
-use Rattle.check_files.specs.File.{lefts_of}
+use Rattle.check_files.specs.File.{file_lefts}
 use Rattle.check_files.specs.Named.{named}
 use Rattle.serve_words.specs.Check.{check_of, shown_check}
-use Rattle.serve_words.specs.Task.{texts_of}
+use Rattle.serve_words.specs.Task.{word_texts}
 use Rattle.flake_run.specs.Checked.{Checked, ConcludesBy}
 use Rattle.flake_run.specs.Outcome.{done}
 use Rattle.flake_run.specs.Outside.{outside}
@@ -14,7 +14,8 @@ use Rattle.flake_run.proofs.check.check.Goals as goal
 
 pub returns-in-Ok-None : goal.returns-in-Ok-None
 returns-in-Ok-None g c =
-    refused_words _ _ _ _ (sym c.in-Ok-None.ensures.value ∙ ap (option_map shown_check) c.in-Ok-None.field-0-is) c.refuse.ensures
+    refused_words _ _ _ _ (sym c.in-Ok-None.ensures.value ∙ ap (option_map shown_check) c.in-Ok-None.field-0-is)
+    c.refuse.ensures
 
 pub returns-in-Err : goal.returns-in-Err
 returns-in-Err g c = refused_memory _ _ _ _ c.refuse-in-Err.ensures
@@ -25,18 +26,25 @@ returns-in_default g c = refused_memory _ _ _ _ c.refuse-in_default.ensures
 pub opened_of-requires-clause-room : goal.opened_of-requires-clause-room
 opened_of-requires-clause-room g c =
     let files = c.check_named-answer.result.1.items in
-    let count : length (map named c.as_slice.result.now) ≡ length c.in-Ok-Some.task.files.items = length-map c.as_slice.result.now named ∙ ap length c.as_slice.ensures.value in
+    let count : length (map named c.as_slice.result.now) ≡ length c.in-Ok-Some.task.files.items =
+    length-map c.as_slice.result.now named ∙ ap length c.as_slice.ensures.value in
     let said = c.check_named-answer.ensures in
-    let few = as_many_files c.check_named-answer.result.0 (map named c.as_slice.result.now) (g.H.Host.host_told c.args.host.now) (g.H.Host.host_told c.check_named-answer.new.host) files (lefts_of (λ s. g.H.In.Source.left s) files) said.verdict said.err in
+    let few = as_many_files c.check_named-answer.result.0 (map named c.as_slice.result.now)
+    (g.H.Host.host_told c.args.host.now) (g.H.Host.host_told c.check_named-answer.new.host) files
+    (file_lefts (λ s. g.H.In.Source.left s) files) said.verdict said.err in
     (c.in-Ok-Ok.ensures'.items, omega (arith, few, count, c.in-Ok-Ok.ensures'.capacity))
 
 pub opened_of-requires-clause-few : goal.opened_of-requires-clause-few
 opened_of-requires-clause-few g c =
     let files = c.check_named-answer.result.1.items in
-    let count : length (map named c.as_slice.result.now) ≡ length c.in-Ok-Some.task.files.items = length-map c.as_slice.result.now named ∙ ap length c.as_slice.ensures.value in
+    let count : length (map named c.as_slice.result.now) ≡ length c.in-Ok-Some.task.files.items =
+    length-map c.as_slice.result.now named ∙ ap length c.as_slice.ensures.value in
     let said = c.check_named-answer.ensures in
-    let few = as_many_files c.check_named-answer.result.0 (map named c.as_slice.result.now) (g.H.Host.host_told c.args.host.now) (g.H.Host.host_told c.check_named-answer.new.host) files (lefts_of (λ s. g.H.In.Source.left s) files) said.verdict said.err in
-    let most = subst (λ o. IfSome o (λ t. length t.files.items ≤ 33)) c.in-Ok-Some.field-0-is c.in-Ok-Some.ensures.few in
+    let few = as_many_files c.check_named-answer.result.0 (map named c.as_slice.result.now)
+    (g.H.Host.host_told c.args.host.now) (g.H.Host.host_told c.check_named-answer.new.host) files
+    (file_lefts (λ s. g.H.In.Source.left s) files) said.verdict said.err in
+    let most = subst (λ o. IfSome o (λ t. length t.files.items ≤ 33)) c.in-Ok-Some.field-0-is c.in-Ok-Some.ensures.few
+    in
     omega (arith, few, count, most)
 
 pub returns : goal.returns
@@ -44,18 +52,30 @@ returns g c =
     let task = c.in-Ok-Some.task in
     let files = c.check_named-answer.result.1.items in
     let words : map named c.as_slice.result.now ≡ shown_check task = ap (map named) c.as_slice.ensures.value in
-    let task_is : check_of (texts_of c.args.words.now) ≡ Some (map named c.as_slice.result.now) =
+    let task_is : check_of (word_texts c.args.words.now) ≡ Some (map named c.as_slice.result.now) =
     sym c.in-Ok-Some.ensures.value ∙ ap (option_map shown_check) c.in-Ok-Some.field-0-is ∙ ap Some (sym words) in
     let said = c.check_named-answer.ensures in
     let so = c.conclude-outcome in
-    let concluded = subst (λ finding. ConcludesBy finding (outside (g.H.Host.host_told c.check_named-answer.new.host) c.args.wires.items (λ w. (g.dyn-1.0.entry w.vtable).1.wire_told w.value))
-    (outside (g.H.Host.host_told so.new.host) so.result.wires.items (λ w. (g.dyn-1.0.entry w.vtable).1.wire_told w.value))
-    (done so.result.status so.result.detail so.result.ends.items so.result.journal.items so.result.held so.result.pool [])) c.found_by.ensures so.ensures.concluded in
-    subst (λ opened. Checked (check_of (texts_of c.args.words.now)) (outside (g.H.Host.host_told c.args.host.now) c.args.wires.items (λ w. (g.dyn-1.0.entry w.vtable).1.wire_told w.value))
-    (outside (g.H.Host.host_told so.new.host) so.result.wires.items (λ w. (g.dyn-1.0.entry w.vtable).1.wire_told w.value))
+    let concluded = subst
+    (λ finding. ConcludesBy finding
+    (outside (g.H.Host.host_told c.check_named-answer.new.host) c.args.wires.items
+    (λ w. (g.dyn-1.0.entry w.vtable).1.wire_told w.value))
+    (outside (g.H.Host.host_told so.new.host) so.result.wires.items
+    (λ w. (g.dyn-1.0.entry w.vtable).1.wire_told w.value))
+    (done so.result.status so.result.detail so.result.ends.items so.result.journal.items so.result.held so.result.pool
+    [])) c.found_by.ensures so.ensures.concluded in
+    subst (λ opened. Checked (check_of (word_texts c.args.words.now))
+    (outside (g.H.Host.host_told c.args.host.now) c.args.wires.items
+    (λ w. (g.dyn-1.0.entry w.vtable).1.wire_told w.value))
+    (outside (g.H.Host.host_told so.new.host) so.result.wires.items
+    (λ w. (g.dyn-1.0.entry w.vtable).1.wire_told w.value))
     (done so.result.status so.result.detail so.result.ends.items so.result.journal.items so.result.held so.result.pool
     (told_of (λ s. g.H.In.Source.left s) (λ s. g.H.In.Source.read_faults s) opened))) (sym c.opened_of.ensures)
-    (checked_all (λ s. g.H.In.Source.left s) (λ s. g.H.In.Source.read_faults s) (λ w. (g.dyn-1.0.entry w.vtable).1.wire_told w.value) (check_of (texts_of c.args.words.now)) (map named c.as_slice.result.now) c.check_named-answer.result.0
-    (g.H.Host.host_told c.args.host.now) (g.H.Host.host_told c.check_named-answer.new.host) (g.H.Host.host_told so.new.host) c.args.wires.items so.result.wires.items
-    (done so.result.status so.result.detail so.result.ends.items so.result.journal.items so.result.held so.result.pool []) files
+    (checked_all (λ s. g.H.In.Source.left s) (λ s. g.H.In.Source.read_faults s)
+    (λ w. (g.dyn-1.0.entry w.vtable).1.wire_told w.value) (check_of (word_texts c.args.words.now))
+    (map named c.as_slice.result.now) c.check_named-answer.result.0
+    (g.H.Host.host_told c.args.host.now) (g.H.Host.host_told c.check_named-answer.new.host)
+    (g.H.Host.host_told so.new.host) c.args.wires.items so.result.wires.items
+    (done so.result.status so.result.detail so.result.ends.items so.result.journal.items so.result.held so.result.pool
+    []) files
     task_is said.verdict said.none_failed said.err said.failed said.said said.say_faults so.ensures.files concluded)

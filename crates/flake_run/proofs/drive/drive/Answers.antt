@@ -4,7 +4,7 @@ use Rattle.std.specs.Option.{option_map}
 use Rattle.std.proofs.lemmas.List.{length-map}
 use Rattle.serve_words.specs.Drive.{shown_drive}
 use Rattle.flake_run.specs.Driven.{CameOf}
-use Rattle.flake_run.specs.DriveTask.{IsUndrivable, drive_job, drive_of, shown_job}
+use Rattle.flake_run.specs.DriveTask.{IsUndrivable, drive_job, drive_job_of, shown_job}
 use Rattle.flake_run.specs.Opening.{AreOpened, FailsToOpen}
 use Rattle.flake_run.specs.Outcome.{done, source_told}
 use Rattle.flake_run.specs.Outside.{outside}
@@ -15,8 +15,12 @@ use Rattle.flake_run.proofs.drive.drive.Goals as goal
 
 pub returns-in-Ok-None : goal.returns-in-Ok-None
 returns-in-Ok-None g c =
-    let before = outside (g.H.Host.host_told c.args.host.now) c.args.wires.items (λ w. (g.dyn-1.0.entry w.vtable).1.wire_told w.value) in
-    drove_refused _ _ _ _ (subst (λ t. IsUndrivable t before) (ap (option_map drive_job) (ap (option_map shown_drive) (sym c.in-Ok-None.field-0-is) ∙ c.in-Ok-None.ensures.value)) tt) c.refuse.ensures
+    let before = outside (g.H.Host.host_told c.args.host.now) c.args.wires.items
+    (λ w. (g.dyn-1.0.entry w.vtable).1.wire_told w.value) in
+    drove_refused _ _ _ _
+    (subst (λ t. IsUndrivable t before)
+    (ap (option_map drive_job)
+    (ap (option_map shown_drive) (sym c.in-Ok-None.field-0-is) ∙ c.in-Ok-None.ensures.value)) tt) c.refuse.ensures
 
 pub returns-in-Err : goal.returns-in-Err
 returns-in-Err g c = drove_wanting _ _ _ _ c.refuse-in-Err.ensures
@@ -25,11 +29,23 @@ pub returns-then-len-count : goal.returns-then-len-count
 returns-then-len-count g c =
     let task = c.in-Ok-Some.task in
     let job = shown_job task in
-    let before = outside (g.H.Host.host_told c.args.host.now) c.args.wires.items (λ w. (g.dyn-1.0.entry w.vtable).1.wire_told w.value) in
-    let task_is : drive_of c.args.words.now ≡ Some job = ap (option_map drive_job) (sym c.in-Ok-Some.ensures.value ∙ ap (option_map shown_drive) c.in-Ok-Some.field-0-is) in
-    let count : length job.names ≡ length task.files.items = length-map task.files.items (λ (file : Bor (List ℕ)). file.now) in
+    let before = outside (g.H.Host.host_told c.args.host.now) c.args.wires.items
+    (λ w. (g.dyn-1.0.entry w.vtable).1.wire_told w.value) in
+    let task_is : drive_job_of c.args.words.now ≡ Some job = ap (option_map drive_job)
+    (sym c.in-Ok-Some.ensures.value ∙ ap (option_map shown_drive) c.in-Ok-Some.field-0-is) in
+    let count : length job.names ≡ length task.files.items = length-map task.files.items
+    (λ (file : Bor (List ℕ)). file.now) in
     drove_refused _ _ _ _ (subst (λ t. IsUndrivable t before) (sym task_is)
-    (omega (arith, c.if-len-count.true, c.len.ensures, c.len-count.ensures, count, behind_one job.names, c.args.wires.ok.0, task.files.ok.0))) c.refuse-then-len-count.ensures
+    (omega (
+      arith,
+      c.if-len-count.true,
+      c.len.ensures,
+      c.len-count.ensures,
+      count,
+      behind_one job.names,
+      c.args.wires.ok.0,
+      task.files.ok.0,
+    ))) c.refuse-then-len-count.ensures
 
 pub returns-in_default : goal.returns-in_default
 returns-in_default g c = drove_wanting _ _ _ _ c.refuse-in_default.ensures
@@ -39,16 +55,23 @@ drive_opened-requires-clause-fresh g c =
     let sources = c.in-Ok.sources in
     let names = map (λ (file : Bor (List ℕ)). file.now) c.as_slice.result.now in
     let split : sources.items ≡ c.remove-schedule.result ∷ c.remove-schedule.new.self.items =
-    split_first sources.items c.remove-schedule.new.self.items c.remove-schedule.result (omega (arith, c.remove-schedule.ensures.len, sources.ok.0)) c.remove-schedule.ensures.value c.remove-schedule.ensures.items in
-    λ _ _. (zeros_are (λ s. g.H.In.Source.read_faults s) (c.remove-schedule.result ∷ c.remove-schedule.new.self.items) names (ap (map (λ s. g.H.In.Source.read_faults s)) (sym split) ∙ c.in-Ok.ensures.opened.fresh)).0
+    split_first sources.items c.remove-schedule.new.self.items c.remove-schedule.result
+    (omega (arith, c.remove-schedule.ensures.len, sources.ok.0)) c.remove-schedule.ensures.value
+    c.remove-schedule.ensures.items in
+    λ _ _. (zeros_are (λ s. g.H.In.Source.read_faults s) (c.remove-schedule.result ∷ c.remove-schedule.new.self.items)
+    names (ap (map (λ s. g.H.In.Source.read_faults s)) (sym split) ∙ c.in-Ok.ensures.opened.fresh)).0
 
 pub drive_opened-requires-clause-all_fresh : goal.drive_opened-requires-clause-all_fresh
 drive_opened-requires-clause-all_fresh g c =
     let sources = c.in-Ok.sources in
     let names = map (λ (file : Bor (List ℕ)). file.now) c.as_slice.result.now in
     let split : sources.items ≡ c.remove-schedule.result ∷ c.remove-schedule.new.self.items =
-    split_first sources.items c.remove-schedule.new.self.items c.remove-schedule.result (omega (arith, c.remove-schedule.ensures.len, sources.ok.0)) c.remove-schedule.ensures.value c.remove-schedule.ensures.items in
-    λ _ _. same_zeros (λ s. g.H.In.Source.read_faults s) c.remove-schedule.new.self.items (drop 1 names) (ap (drop 1) (ap (map (λ s. g.H.In.Source.read_faults s)) (sym split) ∙ c.in-Ok.ensures.opened.fresh) ∙ drop_zeros names)
+    split_first sources.items c.remove-schedule.new.self.items c.remove-schedule.result
+    (omega (arith, c.remove-schedule.ensures.len, sources.ok.0)) c.remove-schedule.ensures.value
+    c.remove-schedule.ensures.items in
+    λ _ _. same_zeros (λ s. g.H.In.Source.read_faults s) c.remove-schedule.new.self.items (drop 1 names)
+    (ap (drop 1) (ap (map (λ s. g.H.In.Source.read_faults s)) (sym split) ∙ c.in-Ok.ensures.opened.fresh)
+    ∙ drop_zeros names)
 
 pub returns-in-Ok : goal.returns-in-Ok
 returns-in-Ok g c =
@@ -59,23 +82,48 @@ returns-in-Ok g c =
     let now = g.H.Host.host_told c.drive_opened.new.host in
     let so = c.drive_opened.result in
     let sources = c.in-Ok.sources in
-    let task_is : drive_of c.args.words.now ≡ Some job = ap (option_map drive_job) (sym c.in-Ok-Some.ensures.value ∙ ap (option_map shown_drive) c.in-Ok-Some.field-0-is) in
-    let count : length job.names ≡ length task.files.items = length-map task.files.items (λ (file : Bor (List ℕ)). file.now) in
+    let task_is : drive_job_of c.args.words.now ≡ Some job = ap (option_map drive_job)
+    (sym c.in-Ok-Some.ensures.value ∙ ap (option_map shown_drive) c.in-Ok-Some.field-0-is) in
+    let count : length job.names ≡ length task.files.items = length-map task.files.items
+    (λ (file : Bor (List ℕ)). file.now) in
     let split : sources.items ≡ c.remove-schedule.result ∷ c.remove-schedule.new.self.items =
-    split_first sources.items c.remove-schedule.new.self.items c.remove-schedule.result (omega (arith, c.remove-schedule.ensures.len, sources.ok.0)) c.remove-schedule.ensures.value c.remove-schedule.ensures.items in
-    let opened : AreOpened job.names host mid (map (λ s. g.H.In.Source.left s) sources.items) (map (λ s. g.H.In.Source.read_faults s) sources.items) =
-    subst (λ files. AreOpened (map (λ (file : Bor (List ℕ)). file.now) files) host mid (map (λ s. g.H.In.Source.left s) sources.items) (map (λ s. g.H.In.Source.read_faults s) sources.items)) c.as_slice.ensures.value c.in-Ok.ensures.opened in
-    drove_opened (λ w. (g.dyn-1.0.entry w.vtable).1.wire_told w.value) (drive_of c.args.words.now) job host mid now c.args.wires.items so.wires.items
+    split_first sources.items c.remove-schedule.new.self.items c.remove-schedule.result
+    (omega (arith, c.remove-schedule.ensures.len, sources.ok.0)) c.remove-schedule.ensures.value
+    c.remove-schedule.ensures.items in
+    let opened : AreOpened job.names host mid (map (λ s. g.H.In.Source.left s) sources.items)
+    (map (λ s. g.H.In.Source.read_faults s) sources.items) =
+    subst (λ files. AreOpened (map (λ (file : Bor (List ℕ)). file.now) files) host mid
+    (map (λ s. g.H.In.Source.left s) sources.items) (map (λ s. g.H.In.Source.read_faults s) sources.items))
+    c.as_slice.ensures.value c.in-Ok.ensures.opened in
+    drove_opened (λ w. (g.dyn-1.0.entry w.vtable).1.wire_told w.value) (drive_job_of c.args.words.now) job host mid now
+    c.args.wires.items so.wires.items
     (record {
       task_is = task_is;
-      enough = omega (arith, c.if-len-count.false, c.len.ensures, c.len-count.ensures, count, behind_one job.names, c.args.wires.ok.0, task.files.ok.0);
+      enough = omega (
+        arith,
+        c.if-len-count.false,
+        c.len.ensures,
+        c.len-count.ensures,
+        count,
+        behind_one job.names,
+        c.args.wires.ok.0,
+        task.files.ok.0,
+      );
     })
-    (g.H.In.Source.left c.remove-schedule.result) (map (λ s. g.H.In.Source.left s) c.remove-schedule.new.self.items) (map (λ s. g.H.In.Source.read_faults s) (c.remove-schedule.result ∷ c.remove-schedule.new.self.items))
-    (done so.status so.detail so.ends.items so.journal.items so.held so.pool (map (λ s. source_told s.file (g.H.In.Source.left s.source) (g.H.In.Source.read_faults s.source)) so.sources.items))
-    (subst (λ ss. AreOpened job.names host mid (map (λ s. g.H.In.Source.left s) ss) (map (λ s. g.H.In.Source.read_faults s) ss)) split opened)
-    (subst (λ sizes. CameOf sizes (g.H.In.Source.left c.remove-schedule.result) (map (λ s. g.H.In.Source.left s) c.remove-schedule.new.self.items)
-    (outside mid c.args.wires.items (λ w. (g.dyn-1.0.entry w.vtable).1.wire_told w.value)) (outside now so.wires.items (λ w. (g.dyn-1.0.entry w.vtable).1.wire_told w.value))
-    (done so.status so.detail so.ends.items so.journal.items so.held so.pool (map (λ s. source_told s.file (g.H.In.Source.left s.source) (g.H.In.Source.read_faults s.source)) so.sources.items))) c.sizes_of-sizes.ensures c.drive_opened.ensures)
+    (g.H.In.Source.left c.remove-schedule.result) (map (λ s. g.H.In.Source.left s) c.remove-schedule.new.self.items)
+    (map (λ s. g.H.In.Source.read_faults s) (c.remove-schedule.result ∷ c.remove-schedule.new.self.items))
+    (done so.status so.detail so.ends.items so.journal.items so.held so.pool
+    (map (λ s. source_told s.file (g.H.In.Source.left s.source) (g.H.In.Source.read_faults s.source))
+    so.sources.items))
+    (subst (λ ss. AreOpened job.names host mid (map (λ s. g.H.In.Source.left s) ss)
+    (map (λ s. g.H.In.Source.read_faults s) ss)) split opened)
+    (subst (λ sizes. CameOf sizes (g.H.In.Source.left c.remove-schedule.result)
+    (map (λ s. g.H.In.Source.left s) c.remove-schedule.new.self.items)
+    (outside mid c.args.wires.items (λ w. (g.dyn-1.0.entry w.vtable).1.wire_told w.value))
+    (outside now so.wires.items (λ w. (g.dyn-1.0.entry w.vtable).1.wire_told w.value))
+    (done so.status so.detail so.ends.items so.journal.items so.held so.pool
+    (map (λ s. source_told s.file (g.H.In.Source.left s.source) (g.H.In.Source.read_faults s.source))
+    so.sources.items))) c.sizes_of-sizes.ensures c.drive_opened.ensures)
 
 pub returns : goal.returns
 returns g c =
@@ -86,19 +134,39 @@ returns g c =
     let now = g.H.Host.host_told c.conclude-outcome.new.host in
     let so = c.conclude-outcome.result in
     let sources = c.in-Err-open_files.sources in
-    let told = map (λ s. source_told s.file (g.H.In.Source.left s.source) (g.H.In.Source.read_faults s.source)) c.numbered.result.items in
+    let told = map (λ s. source_told s.file (g.H.In.Source.left s.source) (g.H.In.Source.read_faults s.source))
+    c.numbered.result.items in
     let lefts = map (λ s. g.H.In.Source.left s) sources.items in
-    let task_is : drive_of c.args.words.now ≡ Some job = ap (option_map drive_job) (sym c.in-Ok-Some.ensures.value ∙ ap (option_map shown_drive) c.in-Ok-Some.field-0-is) in
-    let count : length job.names ≡ length task.files.items = length-map task.files.items (λ (file : Bor (List ℕ)). file.now) in
-    let as_many : length sources.items ≡ length (map (λ s. g.H.In.Source.left s) sources.items) = sym (length-map sources.items (λ s. g.H.In.Source.left s)) in
-    let numbers = are_numbered (λ s. g.H.In.Source.left s) (λ s. g.H.In.Source.read_faults s) c.numbered.result.items sources.items c.numbered.ensures.files c.numbered.ensures.sources in
-    let fails : FailsToOpen job.names host mid (map (λ s. g.H.In.Source.left s) sources.items) (map (λ s. g.H.In.Source.read_faults s) sources.items) =
-    subst (λ files. FailsToOpen (map (λ (file : Bor (List ℕ)). file.now) files) host mid (map (λ s. g.H.In.Source.left s) sources.items) (map (λ s. g.H.In.Source.read_faults s) sources.items)) c.as_slice.ensures.value c.in-Err-open_files.ensures.failed in
-    drove_unopened_by (λ w. (g.dyn-1.0.entry w.vtable).1.wire_told w.value) (drive_of c.args.words.now) job host mid now c.args.wires.items so.wires.items
+    let task_is : drive_job_of c.args.words.now ≡ Some job = ap (option_map drive_job)
+    (sym c.in-Ok-Some.ensures.value ∙ ap (option_map shown_drive) c.in-Ok-Some.field-0-is) in
+    let count : length job.names ≡ length task.files.items = length-map task.files.items
+    (λ (file : Bor (List ℕ)). file.now) in
+    let as_many : length sources.items ≡ length (map (λ s. g.H.In.Source.left s) sources.items) =
+    sym (length-map sources.items (λ s. g.H.In.Source.left s)) in
+    let numbers = are_numbered (λ s. g.H.In.Source.left s) (λ s. g.H.In.Source.read_faults s) c.numbered.result.items
+    sources.items c.numbered.ensures.files c.numbered.ensures.sources in
+    let fails : FailsToOpen job.names host mid (map (λ s. g.H.In.Source.left s) sources.items)
+    (map (λ s. g.H.In.Source.read_faults s) sources.items) =
+    subst (λ files. FailsToOpen (map (λ (file : Bor (List ℕ)). file.now) files) host mid
+    (map (λ s. g.H.In.Source.left s) sources.items) (map (λ s. g.H.In.Source.read_faults s) sources.items))
+    c.as_slice.ensures.value c.in-Err-open_files.ensures.failed in
+    drove_unopened_by (λ w. (g.dyn-1.0.entry w.vtable).1.wire_told w.value) (drive_job_of c.args.words.now) job host mid
+    now c.args.wires.items so.wires.items
     (record {
       task_is = task_is;
-      enough = omega (arith, c.if-len-count.false, c.len.ensures, c.len-count.ensures, count, behind_one job.names, c.args.wires.ok.0, task.files.ok.0);
+      enough = omega (
+        arith,
+        c.if-len-count.false,
+        c.len.ensures,
+        c.len-count.ensures,
+        count,
+        behind_one job.names,
+        c.args.wires.ok.0,
+        task.files.ok.0,
+      );
     })
-    lefts c.len-in-Err-open_files.result (done so.status so.detail so.ends.items so.journal.items so.held so.pool []) told
-    (subst (FailsToOpen job.names host mid lefts) (sym numbers.faults_are) fails) numbers.lefts (omega (arith, c.len-in-Err-open_files.ensures, as_many, sources.ok.0)) c.conclude-outcome.ensures.files
+    lefts c.len-in-Err-open_files.result (done so.status so.detail so.ends.items so.journal.items so.held so.pool [])
+    told
+    (subst (FailsToOpen job.names host mid lefts) (sym numbers.faults_are) fails) numbers.lefts
+    (omega (arith, c.len-in-Err-open_files.ensures, as_many, sources.ok.0)) c.conclude-outcome.ensures.files
     (numbers.files ∙ ap (range_with_len 0) as_many) c.conclude-outcome.ensures.concluded

@@ -1,8 +1,8 @@
 use Rattle.std.proofs.Common.{◌≡◌, inr, Some, IfSome, map, arith, refl, sym, ap, ◌∙◌, subst}
 use Rattle.std.proofs.lemmas.List.{length-map}
 use Rattle.flake_base.specs.Told.{raised}
-use Rattle.serve_words.specs.Task.{texts_of}
-use Rattle.gen_words.specs.Task.{IsAllowed, task_of}
+use Rattle.serve_words.specs.Task.{word_texts}
+use Rattle.gen_words.specs.Task.{IsAllowedGenerated, generated_task_of}
 use Rattle.flake_run.specs.declared.outcome.Detail.TheVariants.{Nothing}
 use Rattle.flake_run.specs.Generated.{Generated, IsUngenerated, sum_of}
 use Rattle.flake_run.specs.Outcome.{done, source_told}
@@ -15,14 +15,19 @@ returns-in-Err g c = wanting_all _ _ _ _ c.refuse-in-Err.ensures
 
 pub returns-in-Err-Memory-default : goal.returns-in-Err-Memory-default
 returns-in-Err-Memory-default g c =
-    wanting_all _ _ _ _ (refused_as _ _ _ _ _ _ _ _ c.in-Err-Memory-default.ensures.back c.refuse-in-Err-Memory-default.ensures)
+    wanting_all _ _ _ _ (refused_as _ _ _ _ _ _ _ _ c.in-Err-Memory-default.ensures.back
+    c.refuse-in-Err-Memory-default.ensures)
 
 pub returns-in-Err-TooMuch-default : goal.returns-in-Err-TooMuch-default
 returns-in-Err-TooMuch-default g c =
-    let before = outside (g.H.Host.host_told c.args.host.now) c.args.wires.items (λ w. (g.dyn-1.0.entry w.vtable).1.wire_told w.value) in
-    let task_is : task_of (texts_of c.args.words.now) ≡ Some c.in-Ok-Some.task = sym c.in-Ok-Some.ensures.value ∙ c.in-Ok-Some.field-0-is in
-    refused_all _ _ _ _ (refused_as _ _ _ _ _ _ _ _ c.in-Err-TooMuch-default.ensures.back c.refuse-in-Err-TooMuch-default.ensures)
-    (subst (λ t. IsUngenerated t before) (sym task_is) (inr (c.in-Err-TooMuch-default.ensures.too_much c.in-Err-TooMuch-default.field-0-0-is)))
+    let before = outside (g.H.Host.host_told c.args.host.now) c.args.wires.items
+    (λ w. (g.dyn-1.0.entry w.vtable).1.wire_told w.value) in
+    let task_is : generated_task_of (word_texts c.args.words.now) ≡ Some c.in-Ok-Some.task =
+    sym c.in-Ok-Some.ensures.value ∙ c.in-Ok-Some.field-0-is in
+    refused_all _ _ _ _ (refused_as _ _ _ _ _ _ _ _ c.in-Err-TooMuch-default.ensures.back
+    c.refuse-in-Err-TooMuch-default.ensures)
+    (subst (λ t. IsUngenerated t before) (sym task_is)
+    (inr (c.in-Err-TooMuch-default.ensures.too_much c.in-Err-TooMuch-default.field-0-0-is)))
 
 pub returns-in-Ok : goal.returns-in-Ok
 returns-in-Ok g c =
@@ -31,22 +36,31 @@ returns-in-Ok g c =
     let said = c.in-Ok.ensures in
     let host = g.H.Host.host_told c.args.host.now in
     let now = g.H.Host.host_told c.report_total.new.host in
-    let task_is : task_of (texts_of c.args.words.now) ≡ Some task = sym c.in-Ok-Some.ensures.value ∙ c.in-Ok-Some.field-0-is in
-    let allowed : IsAllowed task = subst (λ o. IfSome o IsAllowed) c.in-Ok-Some.field-0-is c.in-Ok-Some.ensures.allowed in
-    let bytes : c.sum_of-bytes.result ≡ raised 0 (sum_of ran.sent.items) = c.sum_of-bytes.ensures ∙ ap (λ ns. raised 0 (sum_of ns)) c.as_slice.ensures.value in
-    let reported : Reported host now c.report_total.result ran.ends.items (raised 0 (sum_of ran.sent.items)) c.held-held.result =
+    let task_is : generated_task_of (word_texts c.args.words.now) ≡ Some task = sym c.in-Ok-Some.ensures.value
+    ∙ c.in-Ok-Some.field-0-is in
+    let allowed : IsAllowedGenerated task = subst (λ o. IfSome o IsAllowedGenerated) c.in-Ok-Some.field-0-is
+    c.in-Ok-Some.ensures.allowed in
+    let bytes : c.sum_of-bytes.result ≡ raised 0 (sum_of ran.sent.items) = c.sum_of-bytes.ensures
+    ∙ ap (λ ns. raised 0 (sum_of ns)) c.as_slice.ensures.value in
+    let reported : Reported host now c.report_total.result ran.ends.items (raised 0 (sum_of ran.sent.items))
+    c.held-held.result =
     subst (λ n. Reported host now c.report_total.result ran.ends.items n c.held-held.result) bytes
-    (subst (λ ends. Reported host now c.report_total.result ends c.sum_of-bytes.result c.held-held.result) c.as_slice-in-Ok.ensures (record {
+    (subst (λ ends. Reported host now c.report_total.result ends c.sum_of-bytes.result c.held-held.result)
+    c.as_slice-in-Ok.ensures (record {
       said = c.report_total.ensures.said;
       by_end = c.report_total.ensures.by_end;
       failed = c.report_total.ensures.failed;
       statuses = c.report_total.ensures.statuses;
     })) in
-    let sources = map (λ s. source_told s.file (g.H.In.Source.left s.source) (g.H.In.Source.read_faults s.source)) c.new.result.items in
-    let all = answered_all task (λ w. (g.dyn-1.0.entry w.vtable).1.wire_told w.value) host now c.args.wires.items ran.wires.items
-    (done c.report_total.result Nothing ran.ends.items ran.journal.items c.held-held.result (Some ran.pool) sources) (record {
+    let sources = map (λ s. source_told s.file (g.H.In.Source.left s.source) (g.H.In.Source.read_faults s.source))
+    c.new.result.items in
+    let all = answered_all task (λ w. (g.dyn-1.0.entry w.vtable).1.wire_told w.value) host now c.args.wires.items
+    ran.wires.items
+    (done c.report_total.result Nothing ran.ends.items ran.journal.items c.held-held.result (Some ran.pool) sources)
+    (record {
       detail_is = refl;
-      sources = ap (map (λ s. source_told s.file (g.H.In.Source.left s.source) (g.H.In.Source.read_faults s.source))) c.new.ensures.items;
+      sources = ap (map (λ s. source_told s.file (g.H.In.Source.left s.source) (g.H.In.Source.read_faults s.source)))
+          c.new.ensures.items;
       some = allowed.sessions.0;
       enough = omega (arith, c.if-len-from.false, c.len.ensures, c.from.ensures, c.args.wires.ok.0);
       fits = said.fits;
@@ -60,5 +74,7 @@ returns-in-Ok g c =
       files = c.report_total.ensures.files;
       reported = reported;
     }) in
-    subst (λ t. Generated t (outside host c.args.wires.items (λ w. (g.dyn-1.0.entry w.vtable).1.wire_told w.value)) (outside now ran.wires.items (λ w. (g.dyn-1.0.entry w.vtable).1.wire_told w.value))
-    (done c.report_total.result Nothing ran.ends.items ran.journal.items c.held-held.result (Some ran.pool) sources)) (sym task_is) all
+    subst (λ t. Generated t (outside host c.args.wires.items (λ w. (g.dyn-1.0.entry w.vtable).1.wire_told w.value))
+    (outside now ran.wires.items (λ w. (g.dyn-1.0.entry w.vtable).1.wire_told w.value))
+    (done c.report_total.result Nothing ran.ends.items ran.journal.items c.held-held.result (Some ran.pool) sources))
+    (sym task_is) all

@@ -4,7 +4,8 @@ use Rattle.flake_run.proofs.opening.open_files.Given as goal
 
 abbrev pub invariant-loop-file : goal.invariant-loop-file
 invariant-loop-file g l = record {
-  opened : AreOpened (map (λ file. file.now) (take l.file-index l.files)) (g.H.Host.host_told l.fn.host) (g.H.Host.host_told l.host)
+  opened : AreOpened (map (λ file. file.now) (take l.file-index l.files)) (g.H.Host.host_told l.fn.host)
+      (g.H.Host.host_told l.host)
       (map (λ s. g.H.In.Source.left s) l.sources.items) (map (λ s. g.H.In.Source.read_faults s) l.sources.items);
   room : vec_capacity l.fn.room ≤ vec_capacity l.sources;
 }

@@ -5,12 +5,15 @@ use Rattle.flake_run.proofs.source.serve_sources.Goals as goal
 
 pub returns-in-Ok-clause-run : goal.returns-in-Ok-clause-run
 returns-in-Ok-clause-run g c =
-    served_to _ _ (λ w. (g.dyn-1.0.entry w.vtable).1.wire_told w.value) (record { put = λ w p r some post. search of_calls; flush = λ w r post. search of_calls })
+    served_to _ _ (λ w. (g.dyn-1.0.entry w.vtable).1.wire_told w.value)
+    (record { put = λ w p r some post. search of_calls; flush = λ w r post. search of_calls })
     _ _ _ _ _ _ _ _ _ c.in-Ok.ensures.ran
 
 pub returns-in-Ok-clause-sources : goal.returns-in-Ok-clause-sources
 returns-in-Ok-clause-sources g c =
-    sym (length-map c.in-Ok.served.sources.items (λ s. g.S.Source.left s)) ∙ lefts_count _ _ _ _ _ _ _ _ _ (returns-in-Ok-clause-run g c) ∙ length-map c.args.sources.items (λ s. g.S.Source.left s)
+    sym (length-map c.in-Ok.served.sources.items (λ s. g.S.Source.left s)) ∙ lefts_count _ _ _ _ _ _ _ _ _
+    (returns-in-Ok-clause-run g c) ∙ length-map c.args.sources.items (λ s. g.S.Source.left s)
 
 pub returns-in-Ok-clause-ends : goal.returns-in-Ok-clause-ends
-returns-in-Ok-clause-ends g c = ends_count _ _ _ _ _ _ _ _ _ (returns-in-Ok-clause-run g c) ∙ length-map c.args.sources.items (λ s. g.S.Source.left s)
+returns-in-Ok-clause-ends g c = ends_count _ _ _ _ _ _ _ _ _ (returns-in-Ok-clause-run g c)
+    ∙ length-map c.args.sources.items (λ s. g.S.Source.left s)

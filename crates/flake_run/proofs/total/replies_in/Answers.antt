@@ -11,7 +11,8 @@ pub loop-end-preserved : goal.loop-end-preserved
 loop-end-preserved c =
     let small : c.from-replies.result ≤ 4294967295 = search rules in
     record {
-      sum = replies_step c.args.ends.now c.loop-end.end-index _ _ _ c.loop-end.invariant.sum (ap (λ n. c.loop-end.replies + n) c.from-replies.ensures) c.loop-end-test.true;
+      sum = replies_step c.args.ends.now c.loop-end.end-index _ _ _ c.loop-end.invariant.sum
+          (ap (λ n. c.loop-end.replies + n) c.from-replies.ensures) c.loop-end-test.true;
       few = omega (arith, c.loop-end.invariant.few, small);
     }
 

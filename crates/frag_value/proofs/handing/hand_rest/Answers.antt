@@ -16,15 +16,21 @@ loop-taker-init g c = record {
 
 pub take_over-requires-clause-held : goal.take_over-requires-clause-held
 take_over-requires-clause-held g c =
-    first_held g.N.PoolName.sizes c.args.value.now c.args.owner.now c.loop-taker.owner c.is_seat.ensures c.is_value.ensures c.requires.value (g.T.Taker.begun c.loop-taker.taker) c.loop-taker.value (omega (arith, c.loop-taker-test.true, c.count.ensures)) c.loop-taker.invariant.far
+    first_held g.N.PoolName.sizes c.args.value.now c.args.owner.now c.loop-taker.owner c.is_seat.ensures
+    c.is_value.ensures c.requires.value (g.T.Taker.begun c.loop-taker.taker) c.loop-taker.value
+    (omega (arith, c.loop-taker-test.true, c.count.ensures)) c.loop-taker.invariant.far
 
 pub take_over-requires-clause-filled : goal.take_over-requires-clause-filled
 take_over-requires-clause-filled g c =
-    first_filled g.N.PoolName.sizes c.args.value.now c.args.owner.now c.loop-taker.owner c.is_seat.ensures c.is_value.ensures c.requires.value (g.T.Taker.begun c.loop-taker.taker) c.loop-taker.value (omega (arith, c.loop-taker-test.true, c.count.ensures)) c.loop-taker.invariant.far
+    first_filled g.N.PoolName.sizes c.args.value.now c.args.owner.now c.loop-taker.owner c.is_seat.ensures
+    c.is_value.ensures c.requires.value (g.T.Taker.begun c.loop-taker.taker) c.loop-taker.value
+    (omega (arith, c.loop-taker-test.true, c.count.ensures)) c.loop-taker.invariant.far
 
 pub take_over-requires-clause-next : goal.take_over-requires-clause-next
 take_over-requires-clause-next g c =
-    first_next g.N.PoolName.sizes c.args.value.now c.args.owner.now c.loop-taker.owner c.is_seat.ensures c.is_value.ensures c.requires.value (g.T.Taker.begun c.loop-taker.taker) c.loop-taker.value (omega (arith, c.loop-taker-test.true, c.count.ensures)) c.loop-taker.invariant.far
+    first_next g.N.PoolName.sizes c.args.value.now c.args.owner.now c.loop-taker.owner c.is_seat.ensures
+    c.is_value.ensures c.requires.value (g.T.Taker.begun c.loop-taker.taker) c.loop-taker.value
+    (omega (arith, c.loop-taker-test.true, c.count.ensures)) c.loop-taker.invariant.far
 
 pub loop-taker-preserved : goal.loop-taker-preserved
 loop-taker-preserved g c =
@@ -32,8 +38,12 @@ loop-taker-preserved g c =
     let e = c.take_over.ensures in
     let z = g.N.PoolName.sizes in
     record {
-      far = subst (λ l. OverSoFar z c.args.value.now l c.args.owner.now c.take_over.new.owner (g.T.Taker.begun c.take_over.new.self) (λ b. Some b)) (sym e.value)
-          (first_over z c.args.value.now c.args.owner.now c.loop-taker.owner c.is_seat.ensures c.is_value.ensures c.requires.value (g.T.Taker.begun c.loop-taker.taker) c.loop-taker.value c.take_over.new.owner (g.T.Taker.begun c.take_over.new.self) (omega (arith, c.loop-taker-test.true, c.count.ensures)) i.far e.begun e.owner);
+      far = subst (λ l. OverSoFar z c.args.value.now l c.args.owner.now c.take_over.new.owner
+          (g.T.Taker.begun c.take_over.new.self) (λ b. Some b)) (sym e.value)
+          (first_over z c.args.value.now c.args.owner.now c.loop-taker.owner c.is_seat.ensures c.is_value.ensures
+          c.requires.value (g.T.Taker.begun c.loop-taker.taker) c.loop-taker.value c.take_over.new.owner
+          (g.T.Taker.begun c.take_over.new.self) (omega (arith, c.loop-taker-test.true, c.count.ensures)) i.far
+          e.begun e.owner);
       taken = e.taken ∙ i.taken;
       base = e.base ∙ i.base;
       room = omega (arith, e.room, i.room);
@@ -44,15 +54,22 @@ shorter [] ys some is = absurd (omega arith)
 shorter (x ∷ xs) ys some is = omega (arith, ap length is)
 
 pub loop-taker-smaller : goal.loop-taker-smaller
-loop-taker-smaller g c = shorter c.loop-taker.value c.take_over.new.value (omega (arith, c.loop-taker-test.true, c.count.ensures)) c.take_over.ensures.value
+loop-taker-smaller g c = shorter c.loop-taker.value c.take_over.new.value
+    (omega (arith, c.loop-taker-test.true, c.count.ensures)) c.take_over.ensures.value
 
 pub returns : goal.returns
 returns g c =
     let i = c.loop-taker.invariant in
-    let all = all_of c.args.value.now i.far.over c.loop-taker.value i.far.parts (nil_from_length c.loop-taker.value (omega (arith, c.loop-taker-test.false, c.count.ensures))) in
+    let all = all_of c.args.value.now i.far.over c.loop-taker.value i.far.parts
+    (nil_from_length c.loop-taker.value (omega (arith, c.loop-taker-test.false, c.count.ensures))) in
     let z = g.N.PoolName.sizes in
     record {
-      begun = i.far.begun_is ∙ ap (λ v. Some (record { extent = entire; size = size_of c.args.value.now; frags = over_all z c.args.owner.now.holds v })) all;
+      begun = i.far.begun_is
+          ∙ ap (λ v. Some (record {
+            extent = entire;
+            size = size_of c.args.value.now;
+            frags = over_all z c.args.owner.now.holds v;
+          })) all;
       taken = i.taken;
       base = i.base;
       room = i.room;

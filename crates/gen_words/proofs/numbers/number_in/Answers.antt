@@ -4,12 +4,12 @@ use Rattle.flake_model.specs.Range.{signed_of}
 use Rattle.clap.specs.Matches.{found_of}
 use Rattle.clap.specs.Walk.{first_of, rows_of}
 use Rattle.clap.proofs.WalkLemmas.{first_value-rows}
-use Rattle.gen_words.specs.Numbers.{within}
+use Rattle.gen_words.specs.Numbers.{number_between}
 use Rattle.gen_words.proofs.numbers.number_in.Goals as goal
 
 -- the number that a text gives
 abbrev read_by : ℕ → Option (List ℕ) → Option ℕ
-read_by most text = option_and_then (λ t. within 0 most (signed_of t)) text
+read_by most text = option_and_then (λ t. number_between 0 most (signed_of t)) text
 
 pub returns : goal.returns
 returns c =
@@ -23,4 +23,7 @@ pub returns-in_err-text : goal.returns-in_err-text
 returns-in_err-text c =
     let name = c.args.name.now in
     let found = found_of c.args.matches.now in
-    record { value = c.from_residual.ensures ∙ ap (read_by c.args.most) (c.in_err-text.ensures ∙ first_value-rows found name) }
+    record {
+      value = c.from_residual.ensures
+          ∙ ap (read_by c.args.most) (c.in_err-text.ensures ∙ first_value-rows found name);
+    }

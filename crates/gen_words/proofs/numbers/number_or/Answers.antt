@@ -4,12 +4,12 @@ use Rattle.flake_model.specs.Range.{signed_of}
 use Rattle.clap.specs.Matches.{found_of}
 use Rattle.clap.specs.Walk.{first_of, rows_of}
 use Rattle.clap.proofs.WalkLemmas.{first_value-rows}
-use Rattle.gen_words.specs.Numbers.{within}
+use Rattle.gen_words.specs.Numbers.{number_between}
 use Rattle.gen_words.proofs.numbers.number_or.Goals as goal
 
 -- the number that the text of an option gives
 abbrev read_by : ℕ → ℕ → Option (List ℕ) → Option ℕ
-read_by most usual text = option_map_or (λ t. within 1 most (signed_of t)) text (Some usual)
+read_by most usual text = option_map_or (λ t. number_between 1 most (signed_of t)) text (Some usual)
 
 pub returns-in-Some-clause-value : goal.returns-in-Some-clause-value
 returns-in-Some-clause-value c =

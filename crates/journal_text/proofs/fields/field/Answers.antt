@@ -13,7 +13,8 @@ returns-in_err-n-clause-none c =
     let found = c.in_ok-end.ensures in
     let line = c.args.line.now in
     let end = c.in_ok-end.end in
-    λ none. no_field c.args.limit line end (parts_at 32 line end found.0.high found.1) (none_before 32 line end found.0.before) (c.in_err-n.ensures.none refl)
+    λ none. no_field c.args.limit line end (parts_at 32 line end found.0.high found.1)
+    (none_before 32 line end found.0.before) (c.in_err-n.ensures.none refl)
 
 pub returns-clause-some : goal.returns-clause-some
 returns-clause-some c =

@@ -9,7 +9,9 @@ returns-in-Some-clause-some c =
     let text = c.args.text.now in
     let end = c.in-Some.end in
     let found = c.in-Some.ensures in
-    ap lines_of (parts_at 10 text end found.0.high found.1) ∙ first_of (take end text) (behind end text) (none_before 10 text end found.0.before)
+    ap lines_of (parts_at 10 text end found.0.high found.1) ∙ first_of (take end text) (behind end text)
+    (none_before 10 text end found.0.before)
 
 pub returns-in-None-clause-some : goal.returns-in-None-clause-some
-returns-in-None-clause-some c = last_line c.args.text.now (sym c.if-is_empty.ensures) (none_at_all 10 c.args.text.now c.in-None.ensures)
+returns-in-None-clause-some c = last_line c.args.text.now (sym c.if-is_empty.ensures)
+    (none_at_all 10 c.args.text.now c.in-None.ensures)

@@ -27,12 +27,14 @@ loop-byte-init c =
 pub returns-in_err-n-2-clause-none : goal.returns-in_err-n-2-clause-none
 returns-in_err-n-2-clause-none c = λ none n below is.
     let all : c.in_ok-first.first.now ∷ c.in_ok-first.rest.now ≡ c.args.word.now = search rules in
-    no_more_at c.args.limit c.args.word.now c.in_ok-first.rest.now c.in_ok-first.first.now c.loop-byte.n c.loop-byte.byte-index all (omega arith) c.loop-byte.invariant.came (c.in_err-n-2.ensures.none refl) n below is
+    no_more_at c.args.limit c.args.word.now c.in_ok-first.rest.now c.in_ok-first.first.now c.loop-byte.n
+    c.loop-byte.byte-index all (omega arith) c.loop-byte.invariant.came (c.in_err-n-2.ensures.none refl) n below is
 
 pub returns-else-n-limit-clause-none : goal.returns-else-n-limit-clause-none
 returns-else-n-limit-clause-none c = λ none n below is.
     let all : c.in_ok-first.first.now ∷ c.in_ok-first.rest.now ≡ c.args.word.now = search rules in
     let whole : decimal c.loop-byte.n ≡ c.args.word.now =
-    whole_word c.args.word.now c.in_ok-first.rest.now c.in_ok-first.first.now c.loop-byte.n c.loop-byte.byte-index all (omega (arith, c.loop-byte-test.false)) c.loop-byte.invariant.came in
+    whole_word c.args.word.now c.in_ok-first.rest.now c.in_ok-first.first.now c.loop-byte.n c.loop-byte.byte-index all
+    (omega (arith, c.loop-byte-test.false)) c.loop-byte.invariant.came in
     let same : c.loop-byte.n ≡ n = same_decimal c.loop-byte.n n (omega arith) (whole ∙ is) in
     omega arith

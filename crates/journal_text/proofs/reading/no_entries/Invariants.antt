@@ -1,5 +1,5 @@
 use Rattle.std.proofs.Common.{◌≡◌, [], replicate}
-use Rattle.journal_text.specs.Histories.{histories}
+use Rattle.flake_base.specs.Histories.{histories}
 use Rattle.journal_text.proofs.reading.no_entries.Given as goal
 
 abbrev pub invariant-loop-shard : goal.invariant-loop-shard

@@ -1,6 +1,6 @@
 use Rattle.std.proofs.Common.{◌++◌, ◌∷◌, [], ◌∙◌, sym, ap, append_assoc, length, take, List}
 use Rattle.flake_base.specs.declared.journal.Entry.{Entry}
-use Rattle.journal_text.specs.Histories.{histories}
+use Rattle.flake_base.specs.Histories.{histories}
 use Rattle.journal_text.specs.Text.{placed_from, head_line}
 use Rattle.journal_text.proofs.Placing.{at_shard}
 use Rattle.journal_text.proofs.Written.{entries_text, one_shard_more}

@@ -5,4 +5,5 @@ use Rattle.journal_text.proofs.writing.put_history.Given as goal
 
 -- the lines so far
 abbrev pub invariant-loop-entry : goal.invariant-loop-entry
-invariant-loop-entry l = l.text.items ≡ l.fn.text.items ++ entries_text (at_shard l.shard (take l.entry-index l.history))
+invariant-loop-entry l = l.text.items ≡ l.fn.text.items
+    ++ entries_text (at_shard l.shard (take l.entry-index l.history))

@@ -1,6 +1,6 @@
 use Rattle.std.proofs.Common.{◌≡◌, [], List, sym, ◌∙◌, ap, refl, subst}
 use Rattle.view_sums.specs.Total.{Each}
-use Rattle.order_book.specs.Plays.{joined}
+use Rattle.order_book.specs.Plays.{joined_pages}
 use Rattle.order_book.specs.Named.{view_in, IsLive, all_before}
 use Rattle.order_book.specs.declared.place.Place.{Place}
 use Rattle.order_book.proofs.Owned.{view_of}
@@ -20,10 +20,12 @@ loop-place-preserved c =
     let inv = c.loop-place.invariant in
     let P : Place → Type 0 = IsLive c.args.table.now.shared.table_id in
     let live = all_but_last P _ _ (subst (Each P) c.in-Some.ensures.some inv.3) in
-    let own : c.into_seat-next.result.me.0 ≡ view_in c.in-Some.place.badge.views = view_of _ _ _ _ refl c.into_seat-next.ensures.2 live.1.one in
-    let now = ap (λ m. m.0) c.join_seat.ensures.2 ∙ ap (λ v. joined v c.loop-place.all.me.0) own in (
+    let own : c.into_seat-next.result.me.0 ≡ view_in c.in-Some.place.badge.views =
+    view_of _ _ _ _ refl c.into_seat-next.ensures.2 live.1.one in
+    let now = ap (λ m. m.0) c.join_seat.ensures.2 ∙ ap (λ v. joined_pages v c.loop-place.all.me.0) own in (
       c.join_seat.ensures.0 ∙ c.into_seat-next.ensures.0 ∙ live.1.named,
-      ap (all_before c.pop.new.self.items) now ∙ sym (last_before c.pop.new.self.items c.in-Some.place c.loop-place.all.me.0)
+      ap (all_before c.pop.new.self.items) now
+          ∙ sym (last_before c.pop.new.self.items c.in-Some.place c.loop-place.all.me.0)
           ∙ ap (λ l. all_before l c.loop-place.all.me.0) (sym c.in-Some.ensures.some) ∙ inv.1,
       ap (λ m. m.1) c.join_seat.ensures.2 ∙ c.into_seat-next.ensures.3,
       live.0,

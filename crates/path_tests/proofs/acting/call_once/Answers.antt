@@ -2,14 +2,14 @@ use Rattle.std.proofs.Common.{◌≡◌, ℕ}
 use Rattle.pin_core.specs.declared.sizes.Sizes.{Sizes}
 use Rattle.flake_model.specs.Command.{Command}
 use Rattle.session_pass.specs.Views.{SessionView}
-use Rattle.session_pass.specs.Refused.{WhyRefused}
+use Rattle.session_pass.specs.Refused.{WhyCallRefused}
 use Rattle.session_pass.specs.declared.error.CallError.{CallError}
 use Rattle.session_pass.specs.declared.error.CallError.TheVariants.{RingFull, StageFull, Memory}
 use Rattle.path_tests.proofs.acting.call_once.Goals as goal
 
 -- whatever refuses a call leaves what was opened
 stays_opened : (z : Sizes) (shards : ℕ) (command : Command) (old new : SessionView) (error : CallError)
-    → WhyRefused z shards command old new error → new.opened ≡ old.opened
+    → WhyCallRefused z shards command old new error → new.opened ≡ old.opened
 stays_opened z shards command old new (RingFull need room) why = why.reaps.keeps.rest.opened
 stays_opened z shards command old new (StageFull need free) why = why.reaps.keeps.rest.opened
 stays_opened z shards command old new Memory why = why.rest.opened

@@ -12,13 +12,14 @@ use Rattle.path_tests.proofs.plans.give_up.Goals as goal
 pub cancel-requires-clause-own : goal.cancel-requires-clause-own
 cancel-requires-clause-own g c =
     let e = c.in_ok-plan.ensures in
-    let hs = c.args.desk.seat.holds in
-    let s = c.args.desk.stage in
+    let hs = c.args.slot.seat.holds in
+    let s = c.args.slot.stage in
     let n = c.values-need.result.stage in
-    let base = ap (λ (t : Terms). t.stage) (c.begin.ensures.base ∙ c.hand.ensures.base) ∙ ap (λ (p : Planned). p.base.stage) e.plan in
+    let base = ap (λ (t : Terms). t.stage) (c.begin.ensures.base ∙ c.hand.ensures.base)
+    ∙ ap (λ (p : Planned). p.base.stage) e.plan in
     subst (λ (v : View). AreOwn v.holds (c.start.new.stage ++ c.begin.new.self.base.stage)) (sym e.seat)
     (subst (λ l. AreOwn hs (l ++ c.begin.new.self.base.stage)) (sym e.stage)
-    (subst (λ l. AreOwn hs (drop n s ++ l)) (sym base) (lent_own hs s n c.args.desk.own)))
+    (subst (λ l. AreOwn hs (drop n s ++ l)) (sym base) (lent_own hs s n c.args.slot.own)))
 
 pub release-requires : goal.release-requires
 release-requires g c =
@@ -27,7 +28,7 @@ release-requires g c =
 pub invariant_of-result : goal.invariant_of-result
 invariant_of-result g c =
     let e = c.in_ok-plan.ensures in
-    let s = c.args.desk.stage in
+    let s = c.args.slot.stage in
     let n = c.values-need.result.stage in
     let kept = c.begin.ensures.base ∙ c.hand.ensures.base in
     let base = ap (λ (t : Terms). t.stage) kept ∙ ap (λ (p : Planned). p.base.stage) e.plan in
@@ -35,7 +36,7 @@ invariant_of-result g c =
     record {
       free = omega (
         arith,
-        c.args.desk.free,
+        c.args.slot.free,
         ap (λ (l : List ℕ). length l) c.cancel.ensures.stage,
         length-merged c.begin.new.self.base.stage c.start.new.stage,
         ap (λ (l : List ℕ). length l) base,
@@ -44,5 +45,13 @@ invariant_of-result g c =
         length-drop n s,
       );
       own = c.cancel.ensures.own;
-      rich = omega (arith, c.args.desk.rich, c.cancel.ensures.seat.credits, descriptors, ap (λ (v : View). v.credits) e.seat);
+      rich = omega (
+        arith,
+        c.args.slot.rich,
+        c.cancel.ensures.seat.credits,
+        descriptors,
+        ap
+            (λ (v : View). v.credits)
+            e.seat,
+      );
     }

@@ -1,6 +1,6 @@
 use Rattle.std.proofs.Common.{◌≡◌, ◌+◌, length}
 use Rattle.view_sums.specs.Total.{Each}
-use Rattle.shard_core.specs.Shelves.{IsBare}
+use Rattle.shard_core.specs.ShardMaps.{IsBare}
 use Rattle.path_tests.proofs.seats.seats_of.Given as goal
 
 abbrev pub invariant-loop-i : goal.invariant-loop-i

@@ -1,13 +1,13 @@
 use Rattle.std.proofs.Common.{◌≡◌, ◌≤◌, ◌<◌, length}
 use Rattle.view_sums.specs.Total.{total}
 use Rattle.pin_core.specs.Holding.{sole_at}
-use Rattle.pinned_pool.specs.Moves.{times, front_of}
+use Rattle.pinned_pool.specs.Moves.{meant_count, front_of}
 use Rattle.pool_tests.proofs.pool.fill.Given as goal
 
 abbrev pub invariant-loop-k : goal.invariant-loop-k
 invariant-loop-k g l = record {
   sole : 0 < total (sole_at l.hold.buffer) l.seat.holds;
   front : l.k ≤ length (front_of l.hold.buffer l.seat.holds);
-  held : 0 < times l.hold l.initial.seat.holds → 0 < times l.hold l.seat.holds;
+  held : 0 < meant_count l.hold l.initial.seat.holds → 0 < meant_count l.hold l.seat.holds;
   credits : l.seat.credits ≡ l.initial.seat.credits;
 }

@@ -10,6 +10,8 @@ returns c =
     sym c.ok_or.ensures.ok_part ∙
     elim c.match-strip_prefix.branch [
       | in-Some w ↦ w.number-is ∙ w.read_negative-number.ensures
-          ∙ ap (λ digits. option_and_then negative_of (plain_of digits)) w.in-Some.ensures.cases.1 ∙ sym (with_minus c.args.word.now w.in-Some.ensures.cases.0)
-      | in-None w ↦ w.number-is ∙ w.read_positive-number.ensures ∙ sym (without_minus c.args.word.now w.in-None.ensures.cases)
+          ∙ ap (λ digits. option_and_then negative_of (plain_of digits)) w.in-Some.ensures.cases.1
+          ∙ sym (with_minus c.args.word.now w.in-Some.ensures.cases.0)
+      | in-None w ↦ w.number-is ∙ w.read_positive-number.ensures
+          ∙ sym (without_minus c.args.word.now w.in-None.ensures.cases)
     ]

@@ -13,7 +13,9 @@ abbrev pub invariant-loop-command : goal.invariant-loop-command
 invariant-loop-command l = record {
   few : length l.rest ≡ length (flat_map parts (drop l.command-index l.commands));
   said : (found : List (Entry × Answer)) (session : ℕ) → slots_meant l.answers ≡ answers_by found session l.commands
-      → (slots_meant l.rest ≡ map (λ step. answer_at step.0 found) (session_steps session l.command-index (drop l.command-index l.commands)))
+      → (slots_meant l.rest ≡ map (λ step. answer_at step.0 found)
+      (session_steps session l.command-index (drop l.command-index l.commands)))
       × (flat_map reply_text (replies_from found session 0 l.commands)
-      ≡ l.text.items ++ flat_map reply_text (replies_from found session l.command-index (drop l.command-index l.commands)));
+      ≡ l.text.items ++ flat_map reply_text
+      (replies_from found session l.command-index (drop l.command-index l.commands)));
 }

@@ -14,6 +14,7 @@ use Rattle.replay_check.proofs.replies.texts_of.Given as goal
 abbrev pub invariant-loop-number : goal.invariant-loop-number
 invariant-loop-number l = record {
   count : length l.texts.items ≡ l.number;
-  each : (found : List (Entry × Answer)) → AreNoted (told l.sessions) found l.slots → (k : ℕ) (commands : List Command) → k < l.number → slice_get (told l.sessions) k ≡ Some commands
+  each : (found : List (Entry × Answer)) → AreNoted (told l.sessions) found l.slots → (k : ℕ) (commands : List Command)
+      → k < l.number → slice_get (told l.sessions) k ≡ Some commands
       → slice_get (contents l.texts.items) k ≡ Some (flat_map reply_text (replies_from found k 0 commands));
 }

@@ -12,5 +12,6 @@ loop-session-preserved c =
     let k = c.loop-session.session-index in
     let session = c.session-item.result in
     subst (AreNoted (told (take (k + 1) sessions)) []) (sym c.in_ok-push.ensures.items)
-    (one_empty c.args.shards k sessions session c.loop-session.slots.items c.in_ok-no_answers.field-0 c.len.result (slice_get_read sessions (length sessions) k session refl c.loop-session-test.true c.session-item.is) c.requires
+    (one_empty c.args.shards k sessions session c.loop-session.slots.items c.in_ok-no_answers.field-0 c.len.result
+    (slice_get_read sessions (length sessions) k session refl c.loop-session-test.true c.session-item.is) c.requires
     (c.len.ensures ∙ session.places.ok.0) c.in_ok-no_answers.ensures c.loop-session.invariant)

@@ -13,8 +13,10 @@ loop-session-preserved c =
     let expected = c.args.expected.now.items in
     let replies = c.args.replies.now.items in
     let session = c.loop-session.session in
-    let text = slice_get-map (λ (t : Roomy ℕ). t.items) expected session ∙ ap (option_map (λ (t : Roomy ℕ). t.items)) c.get.ensures.item in
-    let reply = slice_get-map (λ (t : Roomy ℕ). t.items) replies session ∙ ap (option_map (λ (t : Roomy ℕ). t.items)) c.get-in-loop-session.ensures.item in
+    let text = slice_get-map (λ (t : Roomy ℕ). t.items) expected session
+    ∙ ap (option_map (λ (t : Roomy ℕ). t.items)) c.get.ensures.item in
+    let reply = slice_get-map (λ (t : Roomy ℕ). t.items) replies session
+    ∙ ap (option_map (λ (t : Roomy ℕ). t.items)) c.get-in-loop-session.ensures.item in
     below_next (λ k. slice_get (contents expected) k ≡ slice_get (contents replies) k) session c.loop-session.invariant
     (text ∙ ap Some (sym c.as_slice-text.ensures ∙ c.in_default.ensures.none ∙ c.as_slice-reply.ensures) ∙ sym reply)
 
@@ -25,6 +27,7 @@ returns c =
     same_lists (contents expected) (contents replies)
     (λ k. ⊎_elim (λ below. c.loop-session.invariant k (omega (arith, below, c.loop-session-test.false)))
     (λ past.
-    slice_get_past (contents expected) k (omega (arith, past, c.requires.as_many, length-map expected (λ (t : Roomy ℕ). t.items)))
+    slice_get_past (contents expected) k
+    (omega (arith, past, c.requires.as_many, length-map expected (λ (t : Roomy ℕ). t.items)))
     ∙ sym (slice_get_past (contents replies) k (omega (arith, past, length-map replies (λ (t : Roomy ℕ). t.items)))))
     (below_or_not k (length replies)))

@@ -7,8 +7,10 @@ use Rattle.request_demand.proofs.demand.generated_demand.Given as goal
 
 -- the sessions so far, with the sessions to come, are all; and they are few
 pub record IsCounted (number sessions count session small large : ℕ) : Type 0 where
-  pub small_is : small + sessions_from Small number count session (sessions - session) ≡ demand_of Small (sessions_of number sessions count)
-  pub large_is : large + sessions_from Large number count session (sessions - session) ≡ demand_of Large (sessions_of number sessions count)
+  pub small_is : small + sessions_from Small number count session (sessions - session)
+      ≡ demand_of Small (sessions_of number sessions count)
+  pub large_is : large + sessions_from Large number count session (sessions - session)
+      ≡ demand_of Large (sessions_of number sessions count)
   pub stages : 128 * session ≤ small
   pub few_small : small ≤ 4128 * session
   pub few_large : large ≤ 12_000 * session

@@ -11,5 +11,8 @@ returns-clause-text c =
     let rest = c.in-Some.rest.now in
     let all : c.in-Some.first.now ∷ rest ≡ c.args.bytes.now = search rules in
     let first : decimal digit ++ rest ≡ c.args.bytes.now =
-    ap (λ (t : List ℕ). t ++ rest) (decimal_digit digit c.in-Some-digit_of.ensures.some.0 ∙ ap (λ b. b ∷ []) (sym c.in-Some-digit_of.ensures.some.1)) ∙ all in
-    subst (λ (b : List ℕ). IfSome c.more_line.result (λ found. b ≡ decimal found.0 ++ 13 ∷ 10 ∷ found.1.now)) first c.more_line.ensures.text
+    ap (λ (t : List ℕ). t ++ rest)
+    (decimal_digit digit c.in-Some-digit_of.ensures.some.0
+    ∙ ap (λ b. b ∷ []) (sym c.in-Some-digit_of.ensures.some.1)) ∙ all in
+    subst (λ (b : List ℕ). IfSome c.more_line.result (λ found. b ≡ decimal found.0 ++ 13 ∷ 10 ∷ found.1.now)) first
+    c.more_line.ensures.text

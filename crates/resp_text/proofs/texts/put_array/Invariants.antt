@@ -6,4 +6,5 @@ use Rattle.resp_text.proofs.texts.put_array.Given as goal
 
 -- the head and the texts of the items so far
 abbrev pub invariant-loop-item : goal.invariant-loop-item
-invariant-loop-item l = l.text.items ≡ (l.fn.text.items ++ 42 ∷ decimal (length l.items.items) ++ crlf) ++ first_items l.item-index l.items.items
+invariant-loop-item l = l.text.items ≡ (l.fn.text.items ++ 42 ∷ decimal (length l.items.items) ++ crlf)
+    ++ first_items l.item-index l.items.items

@@ -1,11 +1,11 @@
 use Rattle.std.proofs.Common.{◌≡◌, ◌+◌, ◌≤◌, ◌++◌, All, length, map, vec_len, vec_capacity}
 use Rattle.std.specs.Vec.Iter.{into_iter_items, into_iter_len}
 use Rattle.session_workers.specs.Jobs.{IsNewJob}
-use Rattle.serve_house.specs.Opened.{IsDesk}
+use Rattle.run_resources.specs.Opened.{IsSessionSlot}
 use Rattle.serve_inputs.proofs.jobs.line_up.Given as goal
 
-abbrev pub invariant-loop-desk : goal.invariant-loop-desk
-invariant-loop-desk g l = record {
+abbrev pub invariant-loop-slot : goal.invariant-loop-slot
+invariant-loop-slot g l = record {
   fresh : All (λ job. IsNewJob g.P.PoolName.sizes job.line.session job.line.pump job.line.device.end
       job.line.device.failed) l.jobs.items;
   sessions : map (λ job. job.line.session) l.jobs.items ≡ map (λ d. d.session) l.yielded;
@@ -16,10 +16,11 @@ invariant-loop-desk g l = record {
       ++ map (λ s. g.S.Source.read_faults s) (into_iter_items l.more_sources)
       ≡ map (λ s. g.S.Source.read_faults s) l.fn.sources.items;
   wires : map (λ job. job.wire) l.jobs.items ++ into_iter_items l.more_wires ≡ l.fn.wires.items;
-  rest : All (λ d. IsDesk g.P.PoolName.sizes d.session d.device.end d.device.failed) (into_iter_items l.desk-iterator);
-  all : l.yielded ++ into_iter_items l.desk-iterator ≡ l.fn.desks.items;
-  left : into_iter_len l.desk-iterator ≡ length (into_iter_items l.desk-iterator);
-  source_count : length (into_iter_items l.more_sources) ≡ length (into_iter_items l.desk-iterator);
-  wire_count : length (into_iter_items l.desk-iterator) ≤ length (into_iter_items l.more_wires);
-  room : vec_len l.jobs + length (into_iter_items l.desk-iterator) ≤ vec_capacity l.jobs;
+  rest : All (λ d. IsSessionSlot g.P.PoolName.sizes d.session d.device.end d.device.failed)
+      (into_iter_items l.slot-iterator);
+  all : l.yielded ++ into_iter_items l.slot-iterator ≡ l.fn.slots.items;
+  left : into_iter_len l.slot-iterator ≡ length (into_iter_items l.slot-iterator);
+  source_count : length (into_iter_items l.more_sources) ≡ length (into_iter_items l.slot-iterator);
+  wire_count : length (into_iter_items l.slot-iterator) ≤ length (into_iter_items l.more_wires);
+  room : vec_len l.jobs + length (into_iter_items l.slot-iterator) ≤ vec_capacity l.jobs;
 }

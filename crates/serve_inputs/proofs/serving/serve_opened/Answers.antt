@@ -1,8 +1,8 @@
 use Rattle.std.proofs.Common.{ℕ, ◌*◌, ap, sym, arith}
 use Rattle.pin_core.specs.declared.sizes.Sizes.{Sizes}
-use Rattle.serve_house.proofs.Lists.{count_of, same_count, count_past, count_as}
-use Rattle.serve_house.specs.Opened.{IsDesk}
-use Rattle.serve_house.proofs.Desks.{desk_credits}
+use Rattle.run_resources.proofs.Lists.{count_of, same_count, count_past, count_as}
+use Rattle.run_resources.specs.Opened.{IsSessionSlot}
+use Rattle.run_resources.proofs.SessionSlots.{slot_credits}
 use Rattle.serve_inputs.proofs.Whole.{ran_all, all_reads, all_ended, numbers_are, credits_are, as_many}
 use Rattle.serve_inputs.proofs.serving.serve_opened.Goals as goal
 
@@ -27,71 +27,88 @@ returns-clause-to_the_end g c =
     c.bring_in-ends.ensures.ends
 
 pub line_up-jobs-requires-clause-sources : goal.line_up-jobs-requires-clause-sources
-line_up-jobs-requires-clause-sources g c = λ _ _. sym (count_of c.args.house.desks.items _ _ c.requires.numbers)
+line_up-jobs-requires-clause-sources g c =
+    λ _ _. sym (count_of c.args.resources.slots.items _ _ c.requires.numbers)
 
 pub line_up-jobs-requires-clause-wires : goal.line_up-jobs-requires-clause-wires
 line_up-jobs-requires-clause-wires g c =
-    omega (arith, count_of c.args.house.desks.items _ _ c.requires.numbers, c.requires.wires)
+    omega (arith, count_of c.args.resources.slots.items _ _ c.requires.numbers, c.requires.wires)
 
 pub line_up-jobs-requires-clause-room : goal.line_up-jobs-requires-clause-room
-line_up-jobs-requires-clause-room g c = λ _ _.
-    (c.requires.jobs.0, omega (arith, count_of c.args.house.desks.items _ _ c.requires.numbers, c.requires.jobs.1))
+line_up-jobs-requires-clause-room g c = λ _ _. (
+  c.requires.jobs.0,
+  omega
+      (arith, count_of c.args.resources.slots.items _ _ c.requires.numbers, c.requires.jobs.1),
+)
 
 pub serve_jobs-dones-requires-clause-room : goal.serve_jobs-dones-requires-clause-room
 serve_jobs-dones-requires-clause-room g c = λ _ _.
-    let desks = count_of c.args.house.desks.items _ _ c.requires.numbers in
-    let jobs = same_count c.line_up-jobs.result.0.items c.args.house.desks.items _ _ c.line_up-jobs.ensures.sessions in
-    (c.requires.dones.0, omega (arith, desks, jobs, c.requires.dones.1))
+    let slots = count_of c.args.resources.slots.items _ _ c.requires.numbers in
+    let jobs = same_count c.line_up-jobs.result.0.items c.args.resources.slots.items _ _
+    c.line_up-jobs.ensures.sessions in
+    (c.requires.dones.0, omega (arith, slots, jobs, c.requires.dones.1))
 
 pub bring_in-ends-requires-clause-ends : goal.bring_in-ends-requires-clause-ends
 bring_in-ends-requires-clause-ends g c =
-    let desks = count_of c.args.house.desks.items _ _ c.requires.numbers in
-    let jobs = same_count c.line_up-jobs.result.0.items c.args.house.desks.items _ _ c.line_up-jobs.ensures.sessions in
-    let dones = as_many _ _ _ _ g.P.PoolName.sizes g.N.BookName.sizes.shards _ _ _ _ _ _ _ _ _ c.serve_jobs-dones.ensures in
-    (c.requires.ends.0, omega (arith, desks, jobs, dones, c.requires.ends.1))
+    let slots = count_of c.args.resources.slots.items _ _ c.requires.numbers in
+    let jobs = same_count c.line_up-jobs.result.0.items c.args.resources.slots.items _ _
+    c.line_up-jobs.ensures.sessions in
+    let dones = as_many _ _ _ _ g.P.PoolName.sizes g.N.BookName.sizes.shards _ _ _ _ _ _ _ _ _
+    c.serve_jobs-dones.ensures in
+    (c.requires.ends.0, omega (arith, slots, jobs, dones, c.requires.ends.1))
 
 pub bring_in-ends-requires-clause-sent : goal.bring_in-ends-requires-clause-sent
 bring_in-ends-requires-clause-sent g c =
-    let desks = count_of c.args.house.desks.items _ _ c.requires.numbers in
-    let jobs = same_count c.line_up-jobs.result.0.items c.args.house.desks.items _ _ c.line_up-jobs.ensures.sessions in
-    let dones = as_many _ _ _ _ g.P.PoolName.sizes g.N.BookName.sizes.shards _ _ _ _ _ _ _ _ _ c.serve_jobs-dones.ensures in
-    (c.requires.sent.0, omega (arith, desks, jobs, dones, c.requires.sent.1))
+    let slots = count_of c.args.resources.slots.items _ _ c.requires.numbers in
+    let jobs = same_count c.line_up-jobs.result.0.items c.args.resources.slots.items _ _
+    c.line_up-jobs.ensures.sessions in
+    let dones = as_many _ _ _ _ g.P.PoolName.sizes g.N.BookName.sizes.shards _ _ _ _ _ _ _ _ _
+    c.serve_jobs-dones.ensures in
+    (c.requires.sent.0, omega (arith, slots, jobs, dones, c.requires.sent.1))
 
 pub bring_in-ends-requires-clause-lists : goal.bring_in-ends-requires-clause-lists
 bring_in-ends-requires-clause-lists g c =
-    let desks = count_of c.args.house.desks.items _ _ c.requires.numbers in
-    let jobs = same_count c.line_up-jobs.result.0.items c.args.house.desks.items _ _ c.line_up-jobs.ensures.sessions in
-    let dones = as_many _ _ _ _ g.P.PoolName.sizes g.N.BookName.sizes.shards _ _ _ _ _ _ _ _ _ c.serve_jobs-dones.ensures in
-    (c.requires.lists.0, omega (arith, desks, jobs, dones, c.requires.lists.1))
+    let slots = count_of c.args.resources.slots.items _ _ c.requires.numbers in
+    let jobs = same_count c.line_up-jobs.result.0.items c.args.resources.slots.items _ _
+    c.line_up-jobs.ensures.sessions in
+    let dones = as_many _ _ _ _ g.P.PoolName.sizes g.N.BookName.sizes.shards _ _ _ _ _ _ _ _ _
+    c.serve_jobs-dones.ensures in
+    (c.requires.lists.0, omega (arith, slots, jobs, dones, c.requires.lists.1))
 
 pub bring_in-ends-requires-clause-sources : goal.bring_in-ends-requires-clause-sources
 bring_in-ends-requires-clause-sources g c =
-    let desks = count_of c.args.house.desks.items _ _ c.requires.numbers in
-    let jobs = same_count c.line_up-jobs.result.0.items c.args.house.desks.items _ _ c.line_up-jobs.ensures.sessions in
-    let dones = as_many _ _ _ _ g.P.PoolName.sizes g.N.BookName.sizes.shards _ _ _ _ _ _ _ _ _ c.serve_jobs-dones.ensures in
-    (c.requires.room.0, omega (arith, desks, jobs, dones, c.requires.room.1))
+    let slots = count_of c.args.resources.slots.items _ _ c.requires.numbers in
+    let jobs = same_count c.line_up-jobs.result.0.items c.args.resources.slots.items _ _
+    c.line_up-jobs.ensures.sessions in
+    let dones = as_many _ _ _ _ g.P.PoolName.sizes g.N.BookName.sizes.shards _ _ _ _ _ _ _ _ _
+    c.serve_jobs-dones.ensures in
+    (c.requires.room.0, omega (arith, slots, jobs, dones, c.requires.room.1))
 
 pub bring_in-ends-requires-clause-wires : goal.bring_in-ends-requires-clause-wires
 bring_in-ends-requires-clause-wires g c =
-    let dones = as_many _ _ _ _ g.P.PoolName.sizes g.N.BookName.sizes.shards _ _ _ _ _ _ _ _ _ c.serve_jobs-dones.ensures in
+    let dones = as_many _ _ _ _ g.P.PoolName.sizes g.N.BookName.sizes.shards _ _ _ _ _ _ _ _ _
+    c.serve_jobs-dones.ensures in
     let all = count_past c.line_up-jobs.result.0.items _ _ _ c.line_up-jobs.ensures.wires in
     (c.requires.wire_room.0, omega (arith, dones, all, c.requires.wire_room.1))
 
 pub close_all-journal-requires-clause-lists : goal.close_all-journal-requires-clause-lists
 close_all-journal-requires-clause-lists g c =
-    let desks = count_of c.args.house.desks.items _ _ c.requires.numbers in
-    let jobs = same_count c.line_up-jobs.result.0.items c.args.house.desks.items _ _ c.line_up-jobs.ensures.sessions in
-    let dones = as_many _ _ _ _ g.P.PoolName.sizes g.N.BookName.sizes.shards _ _ _ _ _ _ _ _ _ c.serve_jobs-dones.ensures in
+    let slots = count_of c.args.resources.slots.items _ _ c.requires.numbers in
+    let jobs = same_count c.line_up-jobs.result.0.items c.args.resources.slots.items _ _
+    c.line_up-jobs.ensures.sessions in
+    let dones = as_many _ _ _ _ g.P.PoolName.sizes g.N.BookName.sizes.shards _ _ _ _ _ _ _ _ _
+    c.serve_jobs-dones.ensures in
     let lists = count_as _ c.serve_jobs-dones.result.items _ c.bring_in-ends.ensures.lists in
-    omega (arith, desks, jobs, dones, lists, c.requires.book.1)
+    omega (arith, slots, jobs, dones, lists, c.requires.book.1)
 
 pub close_all-journal-requires-clause-credits : goal.close_all-journal-requires-clause-credits
 close_all-journal-requires-clause-credits g c =
     let z = g.P.PoolName.sizes in
-    let desks = count_of c.args.house.desks.items _ _ c.requires.numbers in
-    let credits = credits_are _ _ c.args.house.desks.items
-    (λ d. IsDesk z d.session d.device.end d.device.failed) (λ d. d.session) _ _ z g.N.BookName.sizes.shards _ _ _ _ _ _
-    _ _ _ _ _ c.serve_jobs-dones.ensures (λ d is. desk_credits z _ _ _ is) c.requires.desks
+    let slots = count_of c.args.resources.slots.items _ _ c.requires.numbers in
+    let credits = credits_are _ _ c.args.resources.slots.items
+    (λ d. IsSessionSlot z d.session d.device.end d.device.failed) (λ d. d.session) _ _ z g.N.BookName.sizes.shards _ _ _
+    _ _ _
+    _ _ _ _ _ c.serve_jobs-dones.ensures (λ d is. slot_credits z _ _ _ is) c.requires.slots
     c.line_up-jobs.ensures.sessions c.bring_in-ends.ensures.seats in
     omega (
       arith,
@@ -100,5 +117,5 @@ close_all-journal-requires-clause-credits g c =
       c.requires.main.1,
       c.requires.book.0,
       ap (λ (y : Sizes). y.credits) c.requires.pool,
-      ap (λ (n : ℕ). 8192 * n) desks,
+      ap (λ (n : ℕ). 8192 * n) slots,
     )

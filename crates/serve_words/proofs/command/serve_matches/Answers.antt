@@ -3,10 +3,11 @@ use Rattle.clap.specs.Matches.{found_of}
 use Rattle.clap.specs.Simple.{App}
 use Rattle.clap.specs.Walk.{rows_of}
 use Rattle.serve_words.specs.Command.{rows_by}
-use Rattle.serve_words.specs.Task.{texts_of}
+use Rattle.serve_words.specs.Task.{word_texts}
 use Rattle.serve_words.proofs.command.serve_matches.Goals as goal
 
 pub returns : goal.returns
 returns c =
-    subst (λ (a : App). IfOk c.matches_by.result (λ matches. option_map (λ m. rows_of (found_of m)) matches ≡ rows_by a (texts_of c.args.words.now)))
+    subst (λ (a : App). IfOk c.matches_by.result
+    (λ matches. option_map (λ m. rows_of (found_of m)) matches ≡ rows_by a (word_texts c.args.words.now)))
     c.in_ok-serve_command.ensures c.matches_by.ensures

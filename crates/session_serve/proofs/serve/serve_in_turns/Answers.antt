@@ -15,31 +15,39 @@ turns-init g c =
     let ends = c.both_ends.ensures in
     let fresh = c.requires.fresh in
     record {
-      gathered = gathered-starts first c.both_ends.new.session c.args.line.device.end c.both_ends.new.device.end fresh.none_posted ends.order.1 c.requires.ring ends.ring
+      gathered = gathered-starts first c.both_ends.new.session c.args.line.device.end c.both_ends.new.device.end
+          fresh.none_posted ends.order.1 c.requires.ring ends.ring
           (ap (λ v. v.completed) ends.device) ends.session;
       unstopped = ap (λ s. s.stopped) ends.session ∙ fresh.unstopped;
       working = (
         [],
         [],
-        subst (λ s. IsWorking _ _ first c.args.line.pump.left c.args.line.pump.faults [] [] s c.args.line.pump) (sym ends.session)
+        subst (λ s. IsWorking _ _ first c.args.line.pump.left c.args.line.pump.faults [] [] s c.args.line.pump)
+            (sym ends.session)
             (work-told _ _ first _ _ [] [] first _ c.args.line.pump (work-starts _ _ first c.args.line.pump fresh)),
       );
       forwards = forwards-as _ _ _ _ _ _ _ _ _ _ _ _ refl (sym (ends.failed ∙ c.requires.unfailed)) refl refl
-          (forwards-nothing _ _ _ [] c.both_ends.new.session.posted c.args.wire (ap (λ s. s.posted) ends.session ∙ fresh.none_posted));
-      whole = whole-start _ _ _ _ _ c.args.wire (ends.failed ∙ c.requires.unfailed) (ap (λ s. s.posted) ends.session ∙ fresh.none_posted) refl;
+          (forwards-nothing _ _ _ [] c.both_ends.new.session.posted c.args.wire
+          (ap (λ s. s.posted) ends.session ∙ fresh.none_posted));
+      whole = whole-start _ _ _ _ _ c.args.wire (ends.failed ∙ c.requires.unfailed)
+          (ap (λ s. s.posted) ends.session ∙ fresh.none_posted) refl;
     }
 
 pub turn-after-requires-clause-ready : goal.turn-after-requires-clause-ready
 turn-after-requires-clause-ready g c κs within =
     let before = c.turns.invariant in
     let w = before.working in
-    record { unstopped = before.unstopped; few = work-bounded _ _ _ _ _ w.0 w.1 c.turns.line.session c.turns.line.pump w.2 }
+    record {
+      unstopped = before.unstopped;
+      few = work-bounded _ _ _ _ _ w.0 w.1 c.turns.line.session c.turns.line.pump w.2;
+    }
 
 pub turns-smaller : goal.turns-smaller
 turns-smaller g c =
     let w = c.turns.invariant.working in
     let call = rw c.in-Ok.is at c.turn-after.ensures.call in
-    let more = work-longer _ _ c.args.line.session _ _ w.0 w.1 c.turns.line.session c.turn-after.new.self.session c.turns.line.pump c.turn-after.new.self.pump w.2
+    let more = work-longer _ _ c.args.line.session _ _ w.0 w.1 c.turns.line.session c.turn-after.new.self.session
+    c.turns.line.pump c.turn-after.new.self.pump w.2
     (call c.args.line.session _ _ w.0 w.1 w.2) in
     omega (arith, more.0, more.1)
 
@@ -67,9 +75,12 @@ returns-clause-served g c =
     let end = rw c.in-Err.is at c.turn-after.ensures.end in
     let none = rw c.in-Err.is at c.turn-after.ensures.none_sent in
     let stopped = end first _ _ w.0 w.1 w.2 in
-    served-so _ _ _ _ first c.turn-after.new.self.session c.args.line.pump c.turn-after.new.self.pump c.in-Err.end c.close.result.1.end _ c.turn-after.new.self.device.failed
-    c.close.result.1.seat c.close.result.1.mine _ c.args.wire c.turn-after.result.0 c.close.result.0 c.requires.fresh stopped c.close.ensures.left c.close.ensures.end
-    (ap (λ p. p.left) c.close.ensures.pump) (forwards-on _ _ _ _ _ _ _ _ _ _ _ before.forwards c.turn-after.ensures.forwards) c.close.ensures.flushed
+    served-so _ _ _ _ first c.turn-after.new.self.session c.args.line.pump c.turn-after.new.self.pump c.in-Err.end
+    c.close.result.1.end _ c.turn-after.new.self.device.failed
+    c.close.result.1.seat c.close.result.1.mine _ c.args.wire c.turn-after.result.0 c.close.result.0 c.requires.fresh
+    stopped c.close.ensures.left c.close.ensures.end
+    (ap (λ p. p.left) c.close.ensures.pump)
+    (forwards-on _ _ _ _ _ _ _ _ _ _ _ before.forwards c.turn-after.ensures.forwards) c.close.ensures.flushed
     (whole-closed _ _ _ _ _ _ _ _ _ c.args.wire _ _ _ before.whole none c.close.ensures.flushed c.close.ensures.sent)
 
 pub returns-clause-reads : goal.returns-clause-reads

@@ -13,9 +13,12 @@ invariant-turns g l = record {
   gathered : IsGathered l.line.session l.line.device.end;
   unstopped : l.line.session.stopped ≡ false;
   working : (given : List Command) × (calls : List Outcomes)
-      × IsWorking g.P.PoolName.sizes g.N.BookName.sizes.shards l.fn.line.session l.fn.line.pump.left l.fn.line.pump.faults given calls l.line.session l.line.pump;
-  forwards : Forwards (λ w p r. goal.PUT-post g l.put w p r) (λ w r. goal.FLUSH-post g l.flush w r) false l.line.device.failed [] l.line.session.posted l.fn.wire l.wire;
-  whole : SentWhole (λ w p r. goal.PUT-post g l.put w p r) (λ w r. goal.FLUSH-post g l.flush w r) l.line.device.failed (texts_in l.line.session.posted) l.sent l.fn.wire l.wire;
+      × IsWorking g.P.PoolName.sizes g.N.BookName.sizes.shards l.fn.line.session l.fn.line.pump.left
+      l.fn.line.pump.faults given calls l.line.session l.line.pump;
+  forwards : Forwards (λ w p r. goal.PUT-post g l.put w p r) (λ w r. goal.FLUSH-post g l.flush w r) false
+      l.line.device.failed [] l.line.session.posted l.fn.wire l.wire;
+  whole : SentWhole (λ w p r. goal.PUT-post g l.put w p r) (λ w r. goal.FLUSH-post g l.flush w r) l.line.device.failed
+      (texts_in l.line.session.posted) l.sent l.fn.wire l.wire;
 }
 
 abbrev pub decreases-turns : goal.decreases-turns

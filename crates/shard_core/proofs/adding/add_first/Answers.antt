@@ -20,22 +20,28 @@ returns-clause-done g c = λ t s p a.
     let key = c.args.key.now in
     let es = c.args.kept.now.values.entries in
     let now = c.place_first.new.kept.values.entries in
-    let none : finite.get s key ≡ None = sym (a.bytes key) ∙ ap (option_map (value_bytes c.args.kept.now.own.holds)) (missing_key key es c.requires.missing) in
-    add_done z key c.args.bytes.now s p now c.place_first.new.kept.own.holds c.args.stored.now.items c.place_first.new.stored.items t None none
+    let none : finite.get s key ≡ None = sym (a.bytes key) ∙ ap (option_map (value_bytes c.args.kept.now.own.holds))
+    (missing_key key es c.requires.missing) in
+    add_done z key c.args.bytes.now s p now c.place_first.new.kept.own.holds c.args.stored.now.items
+    c.place_first.new.stored.items t None none
     (length c.args.bytes.now) at.value refl c.requires.few at.cut refl at.segs_are (at.agrees s p a)
 
 pub returns-clause-paid : goal.returns-clause-paid
-returns-clause-paid g c = paid_row g.P.PoolName.sizes c.args.key.now c.args.bytes.now _ c.args.payer.now c.place_first.new.payer c.in-Ok.ensures.paid
+returns-clause-paid g c = paid_row g.P.PoolName.sizes c.args.key.now c.args.bytes.now _ c.args.payer.now
+    c.place_first.new.payer c.in-Ok.ensures.paid
 
 pub returns-in-Err-clause-paid : goal.returns-in-Err-clause-paid
-returns-in-Err-clause-paid g c = paid_row g.P.PoolName.sizes c.args.key.now c.args.bytes.now _ c.args.payer.now c.place_first.new.payer c.in-Err.ensures.paid
+returns-in-Err-clause-paid g c = paid_row g.P.PoolName.sizes c.args.key.now c.args.bytes.now _ c.args.payer.now
+    c.place_first.new.payer c.in-Err.ensures.paid
 
 pub returns-in-Err-clause-cause : goal.returns-in-Err-clause-cause
-returns-in-Err-clause-cause g c = none_row g.P.PoolName.sizes c.args.key.now c.args.bytes.now c.in-Err.error c.args.payer.now c.place_first.new.payer c.in-Err.ensures.cause
+returns-in-Err-clause-cause g c = none_row g.P.PoolName.sizes c.args.key.now c.args.bytes.now c.in-Err.error
+    c.args.payer.now c.place_first.new.payer c.in-Err.ensures.cause
 
 pub returns-in-Err-clause-pays : goal.returns-in-Err-clause-pays
 returns-in-Err-clause-pays g c = λ s p a stored.
     let key = c.args.key.now in
     let es = c.args.kept.now.values.entries in
-    let none : None ≡ finite.get s key = ap (option_map (value_bytes c.args.kept.now.own.holds)) (sym (missing_key key es c.requires.missing)) ∙ a.bytes key in
+    let none : None ≡ finite.get s key = ap (option_map (value_bytes c.args.kept.now.own.holds))
+    (sym (missing_key key es c.requires.missing)) ∙ a.bytes key in
     absurd (append_stores s key c.args.bytes.now None none c.requires.few stored)

@@ -7,8 +7,10 @@ lend-requires-clause-held g c = has_keys c.args.value.now c.args.payer.now.holds
 
 pub returns-clause-filled : goal.returns-clause-filled
 returns-clause-filled g c =
-    (came_value g.P.PoolName.sizes c.args.value.now c.args.own.now c.lend.new.into c.args.payer.now c.requires.value c.is_seat.ensures c.is_seat-2.ensures c.lend.ensures.into).0.filled
+    (came_value g.P.PoolName.sizes c.args.value.now c.args.own.now c.lend.new.into c.args.payer.now c.requires.value
+    c.is_seat.ensures c.is_seat-2.ensures c.lend.ensures.into).0.filled
 
 pub returns-clause-bytes : goal.returns-clause-bytes
 returns-clause-bytes g c =
-    (came_value g.P.PoolName.sizes c.args.value.now c.args.own.now c.lend.new.into c.args.payer.now c.requires.value c.is_seat.ensures c.is_seat-2.ensures c.lend.ensures.into).1
+    (came_value g.P.PoolName.sizes c.args.value.now c.args.own.now c.lend.new.into c.args.payer.now c.requires.value
+    c.is_seat.ensures c.is_seat-2.ensures c.lend.ensures.into).1

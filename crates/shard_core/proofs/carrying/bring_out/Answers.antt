@@ -7,8 +7,10 @@ fetch-requires-clause-held g c = has_keys c.args.value.now c.args.own.now.holds 
 
 pub returns-clause-value : goal.returns-clause-value
 returns-clause-value g c =
-    (came_value g.P.PoolName.sizes c.args.value.now c.args.payer.now c.fetch.new.into c.args.own.now c.requires.value c.is_seat.ensures c.is_seat-2.ensures c.fetch.ensures.into).0
+    (came_value g.P.PoolName.sizes c.args.value.now c.args.payer.now c.fetch.new.into c.args.own.now c.requires.value
+    c.is_seat.ensures c.is_seat-2.ensures c.fetch.ensures.into).0
 
 pub returns-clause-bytes : goal.returns-clause-bytes
 returns-clause-bytes g c =
-    (came_value g.P.PoolName.sizes c.args.value.now c.args.payer.now c.fetch.new.into c.args.own.now c.requires.value c.is_seat.ensures c.is_seat-2.ensures c.fetch.ensures.into).1
+    (came_value g.P.PoolName.sizes c.args.value.now c.args.payer.now c.fetch.new.into c.args.own.now c.requires.value
+    c.is_seat.ensures c.is_seat-2.ensures c.fetch.ensures.into).1

@@ -3,7 +3,7 @@ use Rattle.std.specs.Option.{option_map}
 use Rattle.view_sums.specs.Total.{Each}
 use Rattle.frag_value.specs.Values.{IsFilled, value_bytes}
 use Rattle.frag_value.specs.Taken.{entire}
-use Rattle.shard_core.specs.Kept.{frags_of, addresses_of}
+use Rattle.shard_core.specs.Kept.{frags_of, value_addresses}
 use Rattle.shard_core.specs.Answers.{old_answer}
 use Rattle.shard_core.specs.Pieces.{pieces_at}
 use Rattle.shard_core.proofs.Runs.{over-pieces, one-more}
@@ -18,9 +18,11 @@ returns-then-asks-clause-taken g c =
     let filled = subst (λ o. Each (IsFilled hs) (frags_of o)) is c.requires.value.filled in
     c.hand_over.ensures.taken
     ∙ ap (λ l. g.T.Taker.taken c.args.taker.now ++ l) (over-pieces z hs c.in-Some.old c.is_value.ensures filled
-    ∙ (λ i. pieces_at entire true (old_answer (sym yes i) (option_map (value_bytes hs) (sym is i))) (addresses_of z (frags_of (sym is i))) 0))
+    ∙ (λ i. pieces_at entire true (old_answer (sym yes i) (option_map (value_bytes hs) (sym is i)))
+    (value_addresses z (frags_of (sym is i))) 0))
 
 pub returns-then-asks-clause-room : goal.returns-then-asks-clause-room
 returns-then-asks-clause-room g c =
-    let more : length (g.T.Taker.taken c.hand_over.new.taker) ≡ length (g.T.Taker.taken c.args.taker.now) + 1 = one-more _ _ _ c.hand_over.ensures.taken in
+    let more : length (g.T.Taker.taken c.hand_over.new.taker) ≡ length (g.T.Taker.taken c.args.taker.now) + 1 =
+    one-more _ _ _ c.hand_over.ensures.taken in
     omega (arith, c.hand_over.ensures.room, more)

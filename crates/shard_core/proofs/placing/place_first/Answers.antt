@@ -21,5 +21,6 @@ returns-clause-placed g c =
     let put = put-insert es c.insert.new.values.entries c.args.key.now name v c.in-Ok.ensures.items
     (c.insert.ensures.entries ∙ ap (λ l. insert_entry key_eq l name v) same)
     (λ k. c.insert.ensures.changed k ∙ ap (λ l. cond (same_bytes name.items k) (Some v) (value_at k l)) same) in
-    placed g.P.PoolName.sizes c.args.key.now c.args.bytes.now es c.insert.new.values.entries v None c.args.kept.now.own c.bring.new.own c.args.stored.now.items c.show.new.stored.items
+    placed g.P.PoolName.sizes c.args.key.now c.args.bytes.now es c.insert.new.values.entries v None c.args.kept.now.own
+    c.bring.new.own c.args.stored.now.items c.show.new.stored.items
     c.requires.kept c.in_ok-value.ensures.brought put (sym c.requires.missing) c.show.ensures.items

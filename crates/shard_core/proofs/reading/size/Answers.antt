@@ -16,5 +16,7 @@ returns-in-Some g c = λ s p a.
     let key = c.args.key.now in
     let v = c.in-Some.value.now in
     let there : value_at key es ≡ Some v = sym c.in-Some.ensures.value in
-    let bytes : Some (value_bytes hs v) ≡ finite.get s key = sym (ap (option_map (value_bytes hs)) there) ∙ a.bytes key in
-    c.len.ensures.size ∙ size-text z hs v c.len.ensures.value (has_found z es _ hs c.requires.kept.held key v there).filled ∙ ap (λ o. length (bytes_of o)) bytes
+    let bytes : Some (value_bytes hs v) ≡ finite.get s key = sym (ap (option_map (value_bytes hs)) there)
+    ∙ a.bytes key in
+    c.len.ensures.size ∙ size-text z hs v c.len.ensures.value
+    (has_found z es _ hs c.requires.kept.held key v there).filled ∙ ap (λ o. length (bytes_of o)) bytes

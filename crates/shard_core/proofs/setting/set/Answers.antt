@@ -12,9 +12,12 @@ returns-then-setting-clause-done g c = λ s p a.
     let key = c.args.key.now in
     let es = c.args.kept.now.values.entries in
     let hs = c.args.kept.now.own.holds in
-    let there : c.is_some.result ≡ is_some (finite.get s key) = c.is_some.ensures ∙ c.get_index_of-found.ensures.found ∙ sym (is_there z es hs s p key a) in
-    let idle : stores (when_of c.args.setting.when) (finite.get s key) ≡ false = sym (c.stores.ensures (finite.get s key) there) ∙ c.if-stores.false in
-    asked_done z (when_of c.args.setting.when) c.args.setting.asks key c.args.bytes.now s p c.get.new.kept.values.entries c.get.new.kept.own.holds c.get.result
+    let there : c.is_some.result ≡ is_some (finite.get s key) = c.is_some.ensures ∙ c.get_index_of-found.ensures.found
+    ∙ sym (is_there z es hs s p key a) in
+    let idle : stores (when_of c.args.setting.when) (finite.get s key) ≡ false =
+    sym (c.stores.ensures (finite.get s key) there) ∙ c.if-stores.false in
+    asked_done z (when_of c.args.setting.when) c.args.setting.asks key c.args.bytes.now s p
+    c.get.new.kept.values.entries c.get.new.kept.own.holds c.get.result
     c.args.stored.now.items (g.T.Taker.taken c.args.taker.now) (g.T.Taker.taken c.get.new.taker) c.if-setting.true idle
     (c.get.ensures.says s p a) (c.get.ensures.agrees s p a) (c.get.ensures.taken s p a)
 

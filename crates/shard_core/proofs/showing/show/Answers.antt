@@ -10,7 +10,15 @@ use Rattle.shard_core.proofs.showing.show.Goals as goal
 pub unreachable-requires : goal.unreachable-requires
 unreachable-requires g c =
     let i = c.loop-i.invariant in
-    omega (arith, i.room, c.in_default.ensures.full, c.loop-i-test.true, c.count-i-end.ensures, length-value g.P.PoolName.sizes c.args.value.now c.is_value.ensures)
+    omega (
+      arith,
+      i.room,
+      c.in_default.ensures.full,
+      c.loop-i-test.true,
+      c.count-i-end.ensures,
+      length-value
+          g.P.PoolName.sizes c.args.value.now c.is_value.ensures,
+    )
 
 pub loop-i-preserved : goal.loop-i-preserved
 loop-i-preserved g c =
@@ -21,10 +29,19 @@ loop-i-preserved g c =
     let seg : ℕ × ℕ → Seg = λ q. record { address = address_of z q.0; len = q.1 } in
     let place : c.address.result ≡ address_of z p.0 = c.address.ensures ∙ ap (address_of z) c.buffer.ensures.buffer in
     let old : List Seg = c.args.stored.now.items in
-    let here : segs_of z (take (c.loop-i.i + 1) v) ≡ segs_of z (take c.loop-i.i v) ++ seg p ∷ [] = ap (segs_of z) (take-more v c.loop-i.i p c.frag-frag.ensures.part) ∙ map-more seg (take c.loop-i.i v) p in
+    let here : segs_of z (take (c.loop-i.i + 1) v) ≡ segs_of z (take c.loop-i.i v) ++ seg p ∷ [] =
+    ap (segs_of z) (take-more v c.loop-i.i p c.frag-frag.ensures.part) ∙ map-more seg (take c.loop-i.i v) p in
     let seg-here : Seg = record { address = c.address.result; len = p.1 } in
     record {
-      items = c.in-Ok.ensures.ok ∙ (λ j. i.items j ++ record { address = place j; len = p.1 } ∷ []) ∙ append_assoc old (segs_of z (take c.loop-i.i v)) (seg p ∷ []) ∙ ap (λ l. old ++ l) (sym here);
+      items = c.in-Ok.ensures.ok ∙ (λ j. i.items j ++ record { address = place j; len = p.1 } ∷ [])
+          ∙ append_assoc old (segs_of z (take c.loop-i.i v)) (seg p ∷ []) ∙ ap (λ l. old ++ l) (sym here);
       room = omega (arith, i.room, c.in-Ok.ensures.spare);
-      spare = omega (arith, i.spare, c.in-Ok.ensures.spare, ap length c.in-Ok.ensures.ok, length-append c.loop-i.stored.items (seg-here ∷ []));
+      spare = omega (
+        arith,
+        i.spare,
+        c.in-Ok.ensures.spare,
+        ap length c.in-Ok.ensures.ok,
+        length-append
+            c.loop-i.stored.items (seg-here ∷ []),
+      );
     }

@@ -6,4 +6,5 @@ use Rattle.store_tests.proofs.copier.copy.Goals as goal
 
 pub load_bytes-requires-clause-held : goal.load_bytes-requires-clause-held
 load_bytes-requires-clause-held g c =
-    subst (λ (n : ℕ). 0 < total (at n) c.args.owner.now.holds) (sym c.buffer-buffer.ensures.buffer) (some-at c.args.frag.now.hold c.args.owner.now.holds c.requires.held)
+    subst (λ (n : ℕ). 0 < total (at n) c.args.owner.now.holds) (sym c.buffer-buffer.ensures.buffer)
+    (some-at c.args.frag.now.hold c.args.owner.now.holds c.requires.held)

@@ -8,4 +8,10 @@ pub returns-clause-short : goal.returns-clause-short
 returns-clause-short g c =
     let z = g.N.PoolName.sizes in
     let b = c.args.frag.now.hold.buffer in
-    omega (arith, front-short z c.args.owner.now c.is_seat.ensures b (some-at c.args.frag.now.hold c.args.owner.now.holds c.requires.held), room-most z b, c.requires.filled)
+    omega (
+      arith,
+      front-short z c.args.owner.now c.is_seat.ensures b
+          (some-at c.args.frag.now.hold c.args.owner.now.holds c.requires.held),
+      room-most z b,
+      c.requires.filled,
+    )

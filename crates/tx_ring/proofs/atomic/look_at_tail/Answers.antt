@@ -3,4 +3,5 @@ use Rattle.tx_ring.proofs.Gathering.{look-call}
 use Rattle.tx_ring.proofs.atomic.look_at_tail.Goals as goal
 
 pub load-requires : goal.load-requires
-load-requires g c = let z = c.requires.table.1 in (c.requires.table.0, omega arith, look-call g.P.Framed.segs _ _ _ z.0 _ c.requires.rest)
+load-requires g c = let z = c.requires.table.1 in
+    (c.requires.table.0, omega arith, look-call g.P.Framed.segs _ _ _ z.0 _ c.requires.rest)

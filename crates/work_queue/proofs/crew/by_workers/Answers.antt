@@ -7,9 +7,10 @@ use Rattle.work_queue.proofs.crew.by_workers.Goals as goal
 
 pub returns-clause-slots : goal.returns-clause-slots
 returns-clause-slots g c =
-    let desks = c.worked-desks.result.items in
-    let taken : (view c.collect.new.pass).taken ≡ taken_of desks =
+    let worker_slots = c.worked-worker_slots.result.items in
+    let taken : (view c.collect.new.pass).taken ≡ taken_of worker_slots =
     ap (λ (v : Hand g.row.T.Denot). v.taken) c.collect.ensures.pass.is
-    ∙ ap (λ t. t ++ taken_of desks) (c.worked-desks.ensures.pass.taken ∙ c.requires.pass.2) in
-    filled-by (λ job r. goal.F-post g c.args.f.now job r) c.args.queue.now (view c.args.pass.now).all desks _ _ _ _
-    c.worked-desks.ensures.desks taken c.requires.slots c.collect.ensures.slots
+    ∙ ap (λ t. t ++ taken_of worker_slots) (c.worked-worker_slots.ensures.pass.taken ∙ c.requires.pass.2) in
+    filled-by (λ job r. goal.F-post g c.args.f.now job r) c.args.queue.now (view c.args.pass.now).all worker_slots _ _ _
+    _
+    c.worked-worker_slots.ensures.worker_slots taken c.requires.slots c.collect.ensures.slots

@@ -7,7 +7,7 @@ use Rattle.work_queue.proofs.crew.finish.Goals as goal
 
 pub place-requires : goal.place-requires
 place-requires g c =
-    let done = c.work.new.desk.done.items in
+    let done = c.work.new.worker_slot.done.items in
     let gives : g.row.T.Denot → g.row.X.Denot → Type 0 = λ job r. goal.F-post g c.args.f.now job r in
     let below = given-below gives (view c.args.pass).all done c.work.ensures.work.given in
     subst (λ n. All (λ (z : Done g.row.X.Denot). z.number < n) done) (sym c.requires.slots.len) below
@@ -16,5 +16,6 @@ pub returns : goal.returns
 returns g c =
     let gives : g.row.T.Denot → g.row.X.Denot → Type 0 = λ job r. goal.F-post g c.args.f.now job r in
     subst (AllFilled gives (view c.args.pass).all) (sym c.place.ensures)
-    (finished gives (view c.args.pass) (view c.work.new.desk.pass) c.work.new.desk.done.items c.args.slots.now
+    (finished gives (view c.args.pass) (view c.work.new.worker_slot.pass) c.work.new.worker_slot.done.items
+    c.args.slots.now
     c.requires.pass.1 c.requires.slots c.work.ensures.work)

@@ -7,17 +7,18 @@ use Rattle.work_queue.proofs.Placing.{lent-back}
 use Rattle.work_queue.proofs.Working.{gathered}
 use Rattle.work_queue.proofs.crew.worked.Goals as goal
 
-pub returns-clause-desks : goal.returns-clause-desks
-returns-clause-desks g c =
+pub returns-clause-worker_slots : goal.returns-clause-worker_slots
+returns-clause-worker_slots g c =
     let queue = c.args.queue.now in
     let all = (view c.args.pass.now).all in
-    let olds = c.seated-desks.result.items in
-    let news = c.all_work.new.desks in
+    let olds = c.seated-worker_slots.result.items in
+    let news = c.all_work.new.worker_slots in
     let gives : g.row.T.Denot → g.row.X.Denot → Type 0 = λ job r. goal.F-post g c.args.f.now job r in
     let left : AllZip (IsLeft queue gives) olds news =
     subst (λ t. AllZip (IsLeft queue gives) t news) c.as_mut_slice.ensures.value c.all_work.ensures in
-    let count : vec_len c.seated-desks.result ≡ length olds = search rules in
-    let back = lent-back news olds c.seated-desks.result.len (AllZip-long (IsLeft queue gives) olds news left) count in
-    let done = gathered gives queue all olds news c.seated-desks.ensures.desks left in
+    let count : vec_len c.seated-worker_slots.result ≡ length olds = search rules in
+    let back = lent-back news olds c.seated-worker_slots.result.len (AllZip-long (IsLeft queue gives) olds news left)
+    count in
+    let done = gathered gives queue all olds news c.seated-worker_slots.ensures.worker_slots left in
     subst (Gathered queue gives all (vec_len c.args.dones)) (sym back)
-    (subst (λ n. Gathered queue gives all n news) (sym count ∙ c.seated-desks.ensures.len) done)
+    (subst (λ n. Gathered queue gives all n news) (sym count ∙ c.seated-worker_slots.ensures.len) done)

@@ -20,7 +20,7 @@ use Rattle.std.proofs.Common.{
 use Rattle.std.proofs.lemmas.List.Elements.{All-rest}
 use Rattle.crossbeam_queue.specs.Passes.{view}
 use Rattle.work_queue.specs.Dealt.{hand, joined}
-use Rattle.work_queue.specs.Slots.{placed}
+use Rattle.work_queue.specs.Slots.{filled_slots}
 use Rattle.work_queue.specs.Work.{HasWorkBelow, parts_of, taken_of, all_done}
 use Rattle.work_queue.specs.declared.hand.Done.{Done}
 use Rattle.work_queue.specs.declared.hand.Hand.{Hand}
@@ -29,8 +29,8 @@ use Rattle.work_queue.proofs.Placing.{all-first, placed-length, placed-both}
 use Rattle.work_queue.proofs.Working.{parts-append, taken-append, done-append}
 use Rattle.work_queue.proofs.passes.collect.Goals as goal
 
-pub loop-desk-init : goal.loop-desk-init
-loop-desk-init g c =
+pub loop-worker_slot-init : goal.loop-worker_slot-init
+loop-worker_slot-init g c =
     let old = view c.args.pass.now in
     let parts : old.parts ≡ old.parts + 0 = omega arith in
     record {
@@ -40,33 +40,34 @@ loop-desk-init g c =
       };
       slots = refl;
       rest = subst (All (HasWorkBelow c.args.queue.now (length c.args.slots.now)))
-          (sym c.into_iter-desk-iterator.ensures.into_iter_gives.0) c.requires.desks;
+          (sym c.into_iter-worker_slot-iterator.ensures.into_iter_gives.0) c.requires.worker_slots;
     }
 
 pub absorb-requires-clause-rule : goal.absorb-requires-clause-rule
 absorb-requires-clause-rule g c =
-    let parts = ap (λ (v : Hand g.row.T.Denot). v.parts) c.loop-desk.invariant.pass.is in
+    let parts = ap (λ (v : Hand g.row.T.Denot). v.parts) c.loop-worker_slot.invariant.pass.is in
     merges _ _ _ _ (omega (arith, parts, c.requires.pass))
 
 pub absorb-requires-clause-queue : goal.absorb-requires-clause-queue
 absorb-requires-clause-queue g c =
     let fits = HasWorkBelow c.args.queue.now (length c.args.slots.now) in
-    let this = all-first fits _ _ _ c.loop-desk.invariant.rest c.in-Some.ensures.steps.0 in
-    (c.loop-desk.invariant.pass.pass, this.0)
+    let this = all-first fits _ _ _ c.loop-worker_slot.invariant.rest c.in-Some.ensures.steps.0 in
+    (c.loop-worker_slot.invariant.pass.pass, this.0)
 
 pub place-requires : goal.place-requires
 place-requires g c =
     let fits = HasWorkBelow c.args.queue.now (length c.args.slots.now) in
-    let this = all-first fits _ _ _ c.loop-desk.invariant.rest c.in-Some.ensures.steps.0 in
-    let long = ap length c.loop-desk.invariant.slots ∙ placed-length c.args.slots.now (all_done c.loop-desk.yielded) in
-    subst (λ n. All (λ (z : Done g.row.X.Denot). z.number < n) c.in-Some.desk.done.items) (sym long) this.1
+    let this = all-first fits _ _ _ c.loop-worker_slot.invariant.rest c.in-Some.ensures.steps.0 in
+    let long = ap length c.loop-worker_slot.invariant.slots ∙ placed-length c.args.slots.now
+    (all_done c.loop-worker_slot.yielded) in
+    subst (λ n. All (λ (z : Done g.row.X.Denot). z.number < n) c.in-Some.worker_slot.done.items) (sym long) this.1
 
-pub loop-desk-preserved : goal.loop-desk-preserved
-loop-desk-preserved g c =
-    let before = c.loop-desk.invariant in
-    let d = c.in-Some.desk in
+pub loop-worker_slot-preserved : goal.loop-worker_slot-preserved
+loop-worker_slot-preserved g c =
+    let before = c.loop-worker_slot.invariant in
+    let d = c.in-Some.worker_slot in
     let old = view c.args.pass.now in
-    let ys = c.loop-desk.yielded in
+    let ys = c.loop-worker_slot.yielded in
     let parts : (old.parts + parts_of ys) + (view d.pass).parts ≡ old.parts + parts_of (ys ++ d ∷ []) =
     omega (arith, parts-append ys (d ∷ [])) in
     let taken : (old.taken ++ taken_of ys) ++ (view d.pass).taken ≡ old.taken ++ taken_of (ys ++ d ∷ []) =
@@ -81,8 +82,8 @@ loop-desk-preserved g c =
         is = c.absorb.ensures.rule ∙ ap (λ v. joined v (view d.pass)) before.pass.is
             ∙ (λ i. hand (parts i) old.all (taken i));
       };
-      slots = c.place.ensures ∙ ap (λ t. placed t d.done.items) before.slots
-          ∙ sym (placed-both c.args.slots.now (all_done ys) d.done.items) ∙ ap (placed c.args.slots.now) done;
+      slots = c.place.ensures ∙ ap (λ t. filled_slots t d.done.items) before.slots
+          ∙ sym (placed-both c.args.slots.now (all_done ys) d.done.items) ∙ ap (filled_slots c.args.slots.now) done;
       rest = All-rest (HasWorkBelow c.args.queue.now (length c.args.slots.now)) _ _ _
           c.in-Some.ensures.steps.0 before.rest;
     }

@@ -3,7 +3,7 @@ use Rattle.std.proofs.lemmas.List.Elements.{All-push, All-rest}
 use Rattle.crossbeam_queue.specs.Passes.{view}
 use Rattle.work_queue.specs.Room.{IsRoomy}
 use Rattle.work_queue.specs.Work.{IsNew}
-use Rattle.work_queue.specs.declared.desk.Desk.{Desk}
+use Rattle.work_queue.specs.declared.worker_slot.WorkerSlot.{WorkerSlot}
 use Rattle.work_queue.specs.declared.hand.Hand.{Hand}
 use Rattle.work_queue.proofs.Deals.{forks}
 use Rattle.work_queue.proofs.Placing.{all-first}
@@ -17,7 +17,7 @@ loop-done-init g c =
       len = search rules;
       count = search rules;
       room = search rules;
-      desks = search rules;
+      worker_slots = search rules;
       rest = subst (All (IsRoomy (length (view c.args.pass.now).all))) items c.requires.dones;
     }
 
@@ -34,8 +34,9 @@ loop-done-preserved g c =
     let steps = c.in-Some.ensures.steps.0 in
     let all = (view c.args.pass.now).all in
     let longer = length-append c.loop-done.yielded (c.in-Some.done ∷ []) in
-    let desk : Desk g.row.T.Denot g.row.X.Denot = record { pass = c.another-mine.result; done = c.in-Some.done } in
-    let is : IsNew c.args.queue.now all desk = record {
+    let worker_slot : WorkerSlot g.row.T.Denot g.row.X.Denot =
+    record { pass = c.another-mine.result; done = c.in-Some.done } in
+    let is : IsNew c.args.queue.now all worker_slot = record {
       pass = search rules;
       is = right ∙ ap (λ a. record { parts = 1; all = a; taken = [] }) before.lent.all;
       done = all-first (IsRoomy (length all)) _ _ _ before.rest steps;
@@ -52,7 +53,7 @@ loop-done-preserved g c =
       len = omega (arith, longer, before.len, c.push_reserved.ensures.len);
       count = omega (arith, longer, before.count, ap length steps);
       room = search rules;
-      desks = subst (All (IsNew c.args.queue.now all)) (sym c.push_reserved.ensures.items)
-          (All-push (IsNew c.args.queue.now all) c.loop-done.desks.items desk before.desks is);
+      worker_slots = subst (All (IsNew c.args.queue.now all)) (sym c.push_reserved.ensures.items)
+          (All-push (IsNew c.args.queue.now all) c.loop-done.worker_slots.items worker_slot before.worker_slots is);
       rest = All-rest (IsRoomy (length all)) _ _ _ steps before.rest;
     }

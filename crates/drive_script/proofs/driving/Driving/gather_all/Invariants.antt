@@ -1,7 +1,7 @@
 use Rattle.std.proofs.Common.{◌≡◌, List}
 use Rattle.std.specs.Prelude.{IsSome}
 use Rattle.tx_ring.specs.Shown.{device_ring}
-use Rattle.transcript_model.specs.Lines.{Event}
+use Rattle.transcript_model.specs.Lines.{LineEvent}
 use Rattle.drive_script.specs.Driving.{Driving, driving_of, IsUnderWay}
 use Rattle.drive_script.specs.Lanes.{sends_by}
 use Rattle.drive_script.specs.Left.{GoesQuietly}
@@ -12,8 +12,13 @@ invariant-loop-i g l = record {
   ring : device_ring l.self.lane.device.end ≡ l.self.lane.session.ring;
   wire : IsSome l.self.wire;
   posted : l.self.lane.session.posted ≡ l.fn.self.lane.session.posted;
-  quietly : (first : Driving g.row.W.Denot) (events : List Event) → IsUnderWay (sends_by (λ w p r. goal.PUT-post g l.put w p r) (λ w r. goal.FLUSH-post g l.flush w r)) g.P.PoolName.sizes g.N.BookName.sizes.shards first events
-      (driving_of l.fn.self.lane.session l.fn.self.lane.device.failed l.fn.self.lane.device.end l.fn.self.asking.kept l.fn.self.asking.end l.fn.self.asking.pump l.fn.self.wire)
-      → GoesQuietly (sends_by (λ w p r. goal.PUT-post g l.put w p r) (λ w r. goal.FLUSH-post g l.flush w r)) g.P.PoolName.sizes g.N.BookName.sizes.shards first events l.i
-      (driving_of l.self.lane.session l.self.lane.device.failed l.self.lane.device.end l.self.asking.kept l.self.asking.end l.self.asking.pump l.self.wire);
+  quietly : (first : Driving g.row.W.Denot) (events : List LineEvent)
+      → IsUnderWay (sends_by (λ w p r. goal.PUT-post g l.put w p r) (λ w r. goal.FLUSH-post g l.flush w r))
+      g.P.PoolName.sizes g.N.BookName.sizes.shards first events
+      (driving_of l.fn.self.lane.session l.fn.self.lane.device.failed l.fn.self.lane.device.end l.fn.self.asking.kept
+      l.fn.self.asking.end l.fn.self.asking.pump l.fn.self.wire)
+      → GoesQuietly (sends_by (λ w p r. goal.PUT-post g l.put w p r) (λ w r. goal.FLUSH-post g l.flush w r))
+      g.P.PoolName.sizes g.N.BookName.sizes.shards first events l.i
+      (driving_of l.self.lane.session l.self.lane.device.failed l.self.lane.device.end l.self.asking.kept
+      l.self.asking.end l.self.asking.pump l.self.wire);
 }

@@ -11,16 +11,23 @@ returns-in-Call-clause-right g c = λ fixed start given events input before aske
     let z = g.P.PoolName.sizes in
     let was = c.args.self.now in
     let now = c.call-happened.new.self in
-    call_goes _ (puts_are_sending _ _) fixed start given events _ (session_shown z was.session) (session_shown z now.session) (device_shown was.device.failed was.device.end) (device_shown now.device.failed now.device.end) c.args.wire
-    c.call-happened.ensures.failed c.call-happened.ensures.posted.0 c.call-happened.ensures.posted.1 c.call-happened.ensures.posted.2
-    (λ list. RunsOn z g.N.BookName.sizes.shards given c.args.asking.now.end was.session list c.call-happened.new.asking.end now.session) input before _ _ _ c.args.asking.now.end _ lane
+    call_goes _ (puts_are_sending _ _) fixed start given events _ (session_shown z was.session)
+    (session_shown z now.session) (device_shown was.device.failed was.device.end)
+    (device_shown now.device.failed now.device.end) c.args.wire
+    c.call-happened.ensures.failed c.call-happened.ensures.posted.0 c.call-happened.ensures.posted.1
+    c.call-happened.ensures.posted.2
+    (λ list. RunsOn z g.N.BookName.sizes.shards given c.args.asking.now.end was.session list
+    c.call-happened.new.asking.end now.session) input before _ _ _ c.args.asking.now.end _ lane
     (c.call-happened.ensures.right fixed given lane.whole events input before asked lane.driven)
 
 pub returns-in-Gather-clause-right : goal.returns-in-Gather-clause-right
 returns-in-Gather-clause-right g c = λ fixed start given events input before asked lane.
     let was = c.args.self.now in
-    stays_asked input before given was.session.posted c.gather.new.self.session.posted _ _ _ _ c.gather.ensures.posted asked (
-      lane_same _ fixed start given _ events _ _ _ _ _ (c.gather.ensures.lists c.args.sent.now.items c.args.stored.now.items) (c.gather.ensures.right fixed start given c.args.asking.now.end events lane),
+    stays_asked input before given was.session.posted c.gather.new.self.session.posted _ _ _ _ c.gather.ensures.posted
+    asked (
+      lane_same _ fixed start given _ events _ _ _ _ _
+          (c.gather.ensures.lists c.args.sent.now.items c.args.stored.now.items)
+          (c.gather.ensures.right fixed start given c.args.asking.now.end events lane),
       c.gather.ensures.runs given c.args.asking.now.end,
     )
 
@@ -30,15 +37,21 @@ returns-in-Reap-clause-right g c = λ fixed start given events input before aske
     let was = c.args.self.now in
     let now = c.reap-happened.new.self in
     stays_asked input before given was.session.posted now.session.posted _ _ _ _ c.reap-happened.ensures.posted asked (
-      lane_same _ fixed start given _ events _ _ _ _ _ (c.reap-happened.ensures.lists c.args.sent.now.items c.args.stored.now.items)
-          (reap_goes _ (puts_are_sending _ _) fixed start given events _ (session_shown z was.session) (session_shown z now.session) (device_shown was.device.failed was.device.end) (device_shown now.device.failed now.device.end) c.args.wire
-          c.reap-happened.ensures.failed [] (c.reap-happened.ensures.posted ∙ sym (append-nil was.session.posted)) (omega arith) c.args.asking.now.end lane
+      lane_same _ fixed start given _ events _ _ _ _ _
+          (c.reap-happened.ensures.lists c.args.sent.now.items c.args.stored.now.items)
+          (reap_goes _ (puts_are_sending _ _) fixed start given events _ (session_shown z was.session)
+          (session_shown z now.session) (device_shown was.device.failed was.device.end)
+          (device_shown now.device.failed now.device.end) c.args.wire
+          c.reap-happened.ensures.failed [] (c.reap-happened.ensures.posted ∙ sym (append-nil was.session.posted))
+          (omega arith) c.args.asking.now.end lane
           (c.reap-happened.ensures.right fixed given c.args.asking.now.end lane.whole events lane.driven)),
       c.reap-happened.ensures.runs given c.args.asking.now.end,
     )
 
 pub returns-in-Call-clause-recycles : goal.returns-in-Call-clause-recycles
-returns-in-Call-clause-recycles g c = call_counts c.call-happened.result c.args.self.now.session c.call-happened.new.self.session (c.call-happened.ensures.answers 0 [] [])
+returns-in-Call-clause-recycles g c = call_counts c.call-happened.result c.args.self.now.session
+    c.call-happened.new.self.session (c.call-happened.ensures.answers 0 [] [])
 
 pub returns-in-Gather-clause-recycles : goal.returns-in-Gather-clause-recycles
-returns-in-Gather-clause-recycles g c = gather_counts c.gather.result.1 c.args.self.now.session c.gather.new.self.session (c.gather.ensures.answers 0)
+returns-in-Gather-clause-recycles g c = gather_counts c.gather.result.1 c.args.self.now.session
+    c.gather.new.self.session (c.gather.ensures.answers 0)

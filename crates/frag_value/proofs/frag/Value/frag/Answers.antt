@@ -14,7 +14,9 @@ returns-in-Some-get-clause-part g c =
     let rest = c.deref.result.now in
     let k = (c.args.i + 18446744073709551615) % 18446744073709551616 in
     let look = c.in-Some-get.ensures.lookup in
-    let whole : v ≡ pair c.in-Some.first ∷ map pair rest = sym c.self.view_is ∙ (λ t. map pair (cons_option (c.in-Some.is t) (sym c.deref.ensures.value t))) in
+    let whole : v ≡ pair c.in-Some.first ∷ map pair rest = sym c.self.view_is
+    ∙ (λ t. map pair (cons_option (c.in-Some.is t) (sym c.deref.ensures.value t))) in
     let few : length v ≤ 16 = length-value z v (subst (IsValue z) c.self.view_is c.self.invariant.1.value) in
     let next : c.args.i ≡ suc k = omega (arith, few, ap length whole, length-map pair rest, look.3.0, c.requires) in
-    (λ t. slice_get (whole t) (next t)) ∙ got-map pair rest k c.in-Some-get.frag.now (got rest k c.in-Some-get.frag.now look.3.0 look.1)
+    (λ t. slice_get (whole t) (next t)) ∙ got-map pair rest k c.in-Some-get.frag.now
+    (got rest k c.in-Some-get.frag.now look.3.0 look.1)

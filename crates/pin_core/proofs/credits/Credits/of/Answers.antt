@@ -8,10 +8,15 @@ use Rattle.pin_core.proofs.credits.Credits.of.Goals as goal
 
 pub returns-in-Some : goal.returns-in-Some
 returns-in-Some c =
-    let found : Some c.in-Some.k ≡ position (is_of c.args.holder) c.self.inside.accounts.items = sym c.in-Some.is ∙ c.find_account.ensures ∙ ap (position (is_of c.args.holder)) c.deref.ensures.value in
-    read_credits c.args.holder c.self.inside.accounts.items c.in-Some.k c.index.result.now found c.index.ensures c.self.invariant ∙ ap (credits_of c.args.holder) c.self.view_is
+    let found : Some c.in-Some.k ≡ position (is_of c.args.holder) c.self.inside.accounts.items = sym c.in-Some.is
+    ∙ c.find_account.ensures ∙ ap (position (is_of c.args.holder)) c.deref.ensures.value in
+    read_credits c.args.holder c.self.inside.accounts.items c.in-Some.k c.index.result.now found c.index.ensures
+    c.self.invariant ∙ ap (credits_of c.args.holder) c.self.view_is
 
 pub returns-in-None : goal.returns-in-None
 returns-in-None c =
-    let found : None ≡ position (is_of c.args.holder) c.self.inside.accounts.items = sym c.in-None.is ∙ c.find_account.ensures ∙ ap (position (is_of c.args.holder)) c.deref.ensures.value in
-    sym (credits_of-none c.args.holder c.self.inside.accounts.items (is_none (is_of c.args.holder) c.self.inside.accounts.items found)) ∙ ap (credits_of c.args.holder) c.self.view_is
+    let found : None ≡ position (is_of c.args.holder) c.self.inside.accounts.items = sym c.in-None.is
+    ∙ c.find_account.ensures ∙ ap (position (is_of c.args.holder)) c.deref.ensures.value in
+    sym (credits_of-none c.args.holder c.self.inside.accounts.items
+    (is_none (is_of c.args.holder) c.self.inside.accounts.items found))
+    ∙ ap (credits_of c.args.holder) c.self.view_is

@@ -21,5 +21,6 @@ overflow_cast-result c =
 pub returns : goal.returns
 returns c =
     let z = c.self.inside.sizes in
-    c.count_holds.ensures ∙ ap (count_by (λ (h : Hold). eqb h.buffer c.args.buffer)) c.deref.ensures.value ∙ count_by-weigh z c.self.inside.words.items c.args.buffer c.self.inside.holds.items
+    c.count_holds.ensures ∙ ap (count_by (λ (h : Hold). eqb h.buffer c.args.buffer)) c.deref.ensures.value
+    ∙ count_by-weigh z c.self.inside.words.items c.args.buffer c.self.inside.holds.items
     ∙ ap (λ (s : SizedPins). count_at c.args.buffer s.pins.holds) c.self.view_is

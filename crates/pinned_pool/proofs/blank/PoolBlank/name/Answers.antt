@@ -1,6 +1,6 @@
 use Rattle.std.proofs.Common.{sym, ap, ◌∙◌, subst}
 use Rattle.atomic_table.specs.Table.{Me}
-use Rattle.pinned_pool.specs.Blanks.{Blank}
+use Rattle.pinned_pool.specs.Blanks.{BlankPool}
 use Rattle.pinned_pool.specs.Named.{IsSeat}
 use Rattle.pinned_pool.specs.declared.view.View.{View}
 use Rattle.pinned_pool.proofs.Within.{seat_opened}
@@ -8,7 +8,8 @@ use Rattle.pinned_pool.proofs.blank.PoolBlank.name.Goals as goal
 
 pub invariant_of-seat : goal.invariant_of-seat
 invariant_of-seat g c = let was = c.self.invariant in record {
-  named = was.seated.0 ∙ ap (λ (b : Blank). b.table) c.self.view_is ∙ sym c.requires.0;
+  named = was.seated.0 ∙ ap (λ (b : BlankPool). b.table) c.self.view_is ∙ sym c.requires.0;
   no_slot = ap (λ (m : Me (Unit {0}) View). m.1) was.seated.1;
-  kept = subst (λ (m : Me (Unit {0}) View). IsSeat g.N.PoolName.sizes m.0) (sym was.seated.1) (seat_opened g.N.PoolName.sizes c.self.inside.table.shared.key.credits was.rich);
+  kept = subst (λ (m : Me (Unit {0}) View). IsSeat g.N.PoolName.sizes m.0) (sym was.seated.1)
+      (seat_opened g.N.PoolName.sizes c.self.inside.table.shared.key.credits was.rich);
 }

@@ -9,7 +9,8 @@ decreases-loop-class g l = l.all - vec_len l.holds
 
 abbrev pub invariant-loop-class : goal.invariant-loop-class
 invariant-loop-class g l = record {
-  claims : ClaimsMore g.N.PoolName.sizes l.class (vec_len l.holds - vec_len l.fn.holds) l.fn.holds.items l.holds.items l.fn.seat l.seat;
+  claims : ClaimsMore g.N.PoolName.sizes l.class (vec_len l.holds - vec_len l.fn.holds) l.fn.holds.items l.holds.items
+      l.fn.seat l.seat;
   sought : Sought g.N.PoolName.sizes (just l.class (vec_len l.holds - vec_len l.fn.holds)) 0 l.fn.seat l.seat;
   more : vec_len l.fn.holds ≤ vec_len l.holds;
   most : vec_len l.holds ≤ l.all;

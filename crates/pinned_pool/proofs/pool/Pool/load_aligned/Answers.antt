@@ -1,6 +1,7 @@
-use Rattle.std.proofs.Common.{◌≡◌, ℕ, ◌+◌, ◌-◌, ◌*◌, ◌/◌, ◌++◌, List, length, take, drop, refl, ap, ◌∙◌, length-append, arith}
+use Rattle.std.proofs.Common.{◌≡◌, ℕ, ◌+◌, ◌-◌, ◌*◌, ◌/◌, ◌++◌, List, length, take, drop, refl, ap, ◌∙◌, length-append}
+use Rattle.std.proofs.Common.{arith}
 use Rattle.std.proofs.lemmas.List.{length-take, length-drop}
-use Rattle.pinned_pool.specs.Bytes.{bytes_of}
+use Rattle.pinned_pool.specs.Bytes.{bytes_of_words}
 use Rattle.pinned_pool.specs.Moves.{front_of}
 use Rattle.pinned_pool.specs.declared.view.View.{View}
 use Rattle.pinned_pool.proofs.Within.{front-short}
@@ -9,11 +10,21 @@ use Rattle.pinned_pool.proofs.pool.Pool.load_aligned.Goals as goal
 
 pub overflow_cast-whole : goal.overflow_cast-whole
 overflow_cast-whole g c =
-    omega (arith, front-short g.N.PoolName.sizes c.args.seat.now c.is_seat.ensures c.args.buffer c.requires.held, room-most g.N.PoolName.sizes c.args.buffer, c.requires.inside)
+    omega (
+      arith,
+      front-short g.N.PoolName.sizes c.args.seat.now c.is_seat.ensures c.args.buffer c.requires.held,
+      room-most g.N.PoolName.sizes c.args.buffer,
+      c.requires.inside,
+    )
 
 pub overflow_add-index : goal.overflow_add-index
 overflow_add-index g c =
-    omega (arith, front-short g.N.PoolName.sizes c.args.seat.now c.is_seat.ensures c.args.buffer c.requires.held, room-most g.N.PoolName.sizes c.args.buffer, c.requires.inside)
+    omega (
+      arith,
+      front-short g.N.PoolName.sizes c.args.seat.now c.is_seat.ensures c.args.buffer c.requires.held,
+      room-most g.N.PoolName.sizes c.args.buffer,
+      c.requires.inside,
+    )
 
 pub returns-then-whole-room-clause-bytes : goal.returns-then-whole-room-clause-bytes
 returns-then-whole-room-clause-bytes g c =
@@ -22,12 +33,15 @@ returns-then-whole-room-clause-bytes g c =
     let whole = 8 * (n / 8) in
     let first = c.load_whole.new.room in
     let between : List ℕ = first ++ drop whole room in
-    let bytes : View → List ℕ = λ v. bytes_of (front_of c.args.buffer v.holds) in
+    let bytes : View → List ℕ = λ v. bytes_of_words (front_of c.args.buffer v.holds) in
     let size : length first ≡ whole = omega (arith, c.load_whole.auto.room, length-take whole room) in
-    let long : length between ≡ n = omega (arith, length-append first (drop whole room), size, length-drop whole room) in
-    let taken : length (take (length between - whole) (drop whole between)) ≡ n - whole = omega (arith, length-take (length between - whole) (drop whole between), length-drop whole between, long) in
+    let long : length between ≡ n = omega (arith, length-append first (drop whole room), size, length-drop whole room)
+    in
+    let taken : length (take (length between - whole) (drop whole between)) ≡ n - whole =
+    omega (arith, length-take (length between - whole) (drop whole between), length-drop whole between, long) in
     let from : 8 * (c.args.index + n / 8) + 0 ≡ 8 * c.args.index + whole = omega arith in
     let one : length (take whole room) ≡ whole = omega (arith, length-take whole room) in
-    both_read whole (n - whole) n whole (length between - whole) (8 * c.args.index) room (bytes c.args.seat.now) first c.load_part.new.room size refl (omega (arith, long)) (omega arith)
+    both_read whole (n - whole) n whole (length between - whole) (8 * c.args.index) room (bytes c.args.seat.now) first
+    c.load_part.new.room size refl (omega (arith, long)) (omega arith)
     (c.load_whole.ensures.bytes ∙ ap (λ k. take k (drop (8 * c.args.index) (bytes c.args.seat.now))) one)
     (c.load_part.ensures.bytes ∙ (λ i. take (taken i) (drop (from i) (bytes (c.load_whole.ensures.seat i)))))

@@ -7,14 +7,24 @@ use Rattle.pinned_pool.proofs.WordRuns.{room-most, next_read}
 use Rattle.pinned_pool.proofs.pool.Pool.load_words.Goals as goal
 
 pub first_word-first-requires : goal.first_word-first-requires
-first_word-first-requires g c = held-near g.N.PoolName.sizes c.args.seat.now c.is_seat.ensures c.args.buffer c.requires.held
+first_word-first-requires g c = held-near g.N.PoolName.sizes c.args.seat.now c.is_seat.ensures c.args.buffer
+    c.requires.held
 
 pub load_from-word-requires-clause-first : goal.load_from-word-requires-clause-first
-load_from-word-requires-clause-first g c = (held-near g.N.PoolName.sizes c.args.seat.now c.is_seat.ensures c.args.buffer c.requires.held, c.first_word-first.ensures)
+load_from-word-requires-clause-first g c = (
+  held-near g.N.PoolName.sizes c.args.seat.now c.is_seat.ensures c.args.buffer c.requires.held,
+  c.first_word-first.ensures,
+)
 
 pub overflow_add-index : goal.overflow_add-index
 overflow_add-index g c =
-    omega (arith, front-short g.N.PoolName.sizes c.args.seat.now c.is_seat.ensures c.args.buffer c.requires.held, room-most g.N.PoolName.sizes c.args.buffer, c.requires.inside, c.loop-k.auto.room)
+    omega (
+      arith,
+      front-short g.N.PoolName.sizes c.args.seat.now c.is_seat.ensures c.args.buffer c.requires.held,
+      room-most g.N.PoolName.sizes c.args.buffer,
+      c.requires.inside,
+      c.loop-k.auto.room,
+    )
 
 pub loop-k-preserved : goal.loop-k-preserved
 loop-k-preserved g c =
@@ -23,6 +33,7 @@ loop-k-preserved g c =
     let word = c.load_from-word.ensures.1 ∙ ap (λ v. get_or (front v) (c.args.index + k) 0) c.loop-k.invariant.seat in
     record {
       seat = c.load_from-word.ensures.0 ∙ c.loop-k.invariant.seat;
-      bytes = next_read c.loop-k.room (front c.args.seat.now) _ c.args.index k _ c.loop-k.invariant.bytes (omega (arith, c.requires.inside, c.loop-k.auto.room)) (omega arith)
+      bytes = next_read c.loop-k.room (front c.args.seat.now) _ c.args.index k _ c.loop-k.invariant.bytes
+          (omega (arith, c.requires.inside, c.loop-k.auto.room)) (omega arith)
           (c.copy_from_slice.ensures.after ∙ c.to_le_bytes.ensures ∙ ap (to_le_bytes w64) word);
     }

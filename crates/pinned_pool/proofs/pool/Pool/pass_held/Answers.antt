@@ -9,7 +9,8 @@ pub overflow_sub-count : goal.overflow_sub-count
 overflow_sub-count g c = c.loop-passed.invariant.few
 
 pub returns-then-more-lt16-clause-passed : goal.returns-then-more-lt16-clause-passed
-returns-then-more-lt16-clause-passed g c = passed_then _ _ _ _ _ _ c.loop-passed.invariant.passed c.pass_stretch-more.ensures.passed
+returns-then-more-lt16-clause-passed g c = passed_then _ _ _ _ _ _ c.loop-passed.invariant.passed
+    c.pass_stretch-more.ensures.passed
 
 pub loop-passed-smaller : goal.loop-passed-smaller
 loop-passed-smaller g c = omega (arith, c.loop-passed-test.true, c.if-more-lt16.false, c.pass_stretch-more.ensures.few)

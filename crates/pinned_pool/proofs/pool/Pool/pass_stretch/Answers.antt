@@ -12,4 +12,5 @@ pub loop-k-preserved : goal.loop-k-preserved
 loop-k-preserved g c = let t = c.if-seems_free.ensures in passed_more _ _ t.0 _ _ _ c.loop-k.invariant t.1 t.2
 
 pub returns-clause-passed : goal.returns-clause-passed
-returns-clause-passed g c = passed_so _ _ _ _ _ _ c.loop-k.invariant (omega (arith, c.loop-k-test.false, c.loop-k.auto.k-end)) refl
+returns-clause-passed g c = passed_so _ _ _ _ _ _ c.loop-k.invariant
+    (omega (arith, c.loop-k-test.false, c.loop-k.auto.k-end)) refl

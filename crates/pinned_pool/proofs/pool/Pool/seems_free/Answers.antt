@@ -8,8 +8,12 @@ use Rattle.pinned_pool.proofs.Within.{next_seat, seat_lost}
 use Rattle.pinned_pool.proofs.pool.Pool.seems_free.Goals as goal
 
 pub load-found-requires : goal.load-found-requires
-load-found-requires g c = let named = c.args.self.now.named in let b = near _ _ _ _ named c.args.buffer c.requires in
-    (c.seat.invariant.named ∙ sym named.table_is, b.1, looks_at _ _ _ _ c.args.buffer none b.0 c.seat.invariant.kept.live)
+load-found-requires g c = let named = c.args.self.now.named in let b = near _ _ _ _ named c.args.buffer c.requires in (
+  c.seat.invariant.named ∙ sym named.table_is,
+  b.1,
+  looks_at _ _ _ _ c.args.buffer none b.0
+      c.seat.invariant.kept.live,
+)
 
 pub invariant_of-seat : goal.invariant_of-seat
 invariant_of-seat g c =
@@ -19,4 +23,5 @@ invariant_of-seat g c =
     let me = c.seat.inside.seat.me in
     dite (ℕ_discrete c.load-found.result 0)
     (λ free. next_seat _ _ _ _ me _ _ was e.0 (e.2.0 free) was.kept)
-    (λ held. next_seat _ _ _ _ me _ _ was e.0 (e.2.1 held) (seat_lost z me.0 was.kept c.args.buffer c.load-found.result))
+    (λ held. next_seat _ _ _ _ me _ _ was e.0 (e.2.1 held)
+    (seat_lost z me.0 was.kept c.args.buffer c.load-found.result))

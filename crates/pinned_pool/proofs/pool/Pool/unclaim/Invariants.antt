@@ -12,6 +12,7 @@ abbrev pub invariant-loop-hold : goal.invariant-loop-hold
 invariant-loop-hold g l = record {
   loose : Each (λ (k : Key). k ≡ loose_key k.buffer) l.holds.items;
   some : (hs : List Holding) × (l.seat.holds ≡ with_claimed l.holds.items hs);
-  all : (hs : List Holding) → l.fn.seat.holds ≡ with_claimed l.fn.holds.items hs → l.seat.holds ≡ with_claimed l.holds.items hs;
+  all : (hs : List Holding) → l.fn.seat.holds ≡ with_claimed l.fn.holds.items hs → l.seat.holds
+      ≡ with_claimed l.holds.items hs;
   same : GivesBack l.fn.seat l.seat;
 }

@@ -5,8 +5,12 @@ use Rattle.pool_tests.proofs.values.keeping.keep_other.Goals as goal
 pub release-requires : goal.release-requires
 release-requires g c =
     let rest = c.requires.exactly.0 in
-    exactly_first _ _ c.args.old (c.in-Ok.value ∷ rest) (exactly_swap _ _ c.in-Ok.value c.args.old rest (c.in-Ok.ensures.one_more (c.args.old ∷ rest) c.requires.exactly.1))
+    exactly_first _ _ c.args.old (c.in-Ok.value ∷ rest)
+    (exactly_swap _ _ c.in-Ok.value c.args.old rest
+    (c.in-Ok.ensures.one_more (c.args.old ∷ rest) c.requires.exactly.1))
 
 pub returns-clause-other : goal.returns-clause-other
 returns-clause-other g c = λ values x.
-    exactly_released _ c.args.old (c.in-Ok.value ∷ values) _ _ _ c.is_seat.ensures (exactly_swap _ _ c.in-Ok.value c.args.old values (c.in-Ok.ensures.one_more (c.args.old ∷ values) x)) c.release.ensures
+    exactly_released _ c.args.old (c.in-Ok.value ∷ values) _ _ _ c.is_seat.ensures
+    (exactly_swap _ _ c.in-Ok.value c.args.old values (c.in-Ok.ensures.one_more (c.args.old ∷ values) x))
+    c.release.ensures

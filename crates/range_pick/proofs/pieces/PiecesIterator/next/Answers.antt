@@ -1,6 +1,6 @@
 use Rattle.std.proofs.Common.{sym, ◌∙◌, arith, length, ◌+◌, ◌-◌, subst, List, ◌≡◌, ◌<◌}
 use Rattle.range_pick.proofs.Fragments.{next_piece, bytes_here, fewer, span_at}
-use Rattle.range_pick.specs.Pieces.{pieces_of}
+use Rattle.range_pick.specs.Pieces.{span_pieces}
 use Rattle.range_pick.specs.declared.pieces.Piece.{Piece}
 use Rattle.range_pick.proofs.pieces.PiecesIterator.next.Goals as goal
 
@@ -16,7 +16,10 @@ returns-clause-goes c =
     let rest = c.self.inside.rest in
     let some : 0 < rest.len = omega arith in
     let here : c.min-here.result ≡ bytes_here rest.from rest.len = c.min-here.ensures in
-    let step : length (pieces_of (span_at (rest.from + c.min-here.result) (rest.len - c.min-here.result))) < length c.args.self.now =
-    subst (λ (list : List Piece). length (pieces_of (span_at (rest.from + c.min-here.result) (rest.len - c.min-here.result))) < length list) c.self.view_is
+    let step : length (span_pieces (span_at (rest.from + c.min-here.result) (rest.len - c.min-here.result)))
+    < length c.args.self.now =
+    subst (λ (list : List Piece). length
+    (span_pieces (span_at (rest.from + c.min-here.result) (rest.len - c.min-here.result))) < length list)
+    c.self.view_is
     (rw here (fewer rest.from rest.len some)) in
     record { on = λ finite. (tt, tt, step); keeps = tt; rests = λ finite. tt }

@@ -14,8 +14,10 @@ unpin-requires g c =
     let rest = c.pop.new.self.items in
     let hold = c.in-Some.hold in
     let last : free ≡ rest ++ hold ∷ [] = c.in-Some.ensures.items in
-    let here = (each-back (IsStaging g.N.PoolName.sizes) rest (hold ∷ []) (subst (Each (IsStaging g.N.PoolName.sizes)) last i.staging)).0 in
-    next_there c.args.self (shown free) (shown rest) hold.buffer hold c.args.seat.now c.loop-hold.seat i.closed (ap shown last ∙ shown-last rest hold) here.1
+    let here = (each-back (IsStaging g.N.PoolName.sizes) rest (hold ∷ [])
+    (subst (Each (IsStaging g.N.PoolName.sizes)) last i.staging)).0 in
+    next_there c.args.self (shown free) (shown rest) hold.buffer hold c.args.seat.now c.loop-hold.seat i.closed
+    (ap shown last ∙ shown-last rest hold) here.1
 
 pub loop-hold-preserved : goal.loop-hold-preserved
 loop-hold-preserved g c =
@@ -27,7 +29,8 @@ loop-hold-preserved g c =
     let staging = subst (Each (IsStaging g.N.PoolName.sizes)) last i.staging in
     record {
       staging = each-front (IsStaging g.N.PoolName.sizes) rest (hold ∷ []) staging;
-      closed = more_closed c.args.self (shown free) (shown rest) hold.buffer hold c.args.seat.now c.loop-hold.seat c.unpin.new.seat _ i.closed (ap shown last ∙ shown-last rest hold)
+      closed = more_closed c.args.self (shown free) (shown rest) hold.buffer hold c.args.seat.now c.loop-hold.seat
+          c.unpin.new.seat _ i.closed (ap shown last ∙ shown-last rest hold)
           (each-back (IsStaging g.N.PoolName.sizes) rest (hold ∷ []) staging).0.1 c.unpin.ensures.seat;
     }
 

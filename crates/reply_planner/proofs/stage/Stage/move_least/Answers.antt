@@ -21,9 +21,12 @@ loop-self-preserved-in-Some g c =
     let more : n + 1 ≡ vec_len c.push_reserved.new.self = sym c.push_reserved.ensures.len in
     record {
       few = omega (arith, c.push_reserved.ensures.len, c.loop-self-test.true, c.len.ensures);
-      taken = next_moved n (vec_len c.push_reserved.new.self) c.args.self.now c.loop-self.staged.items c.push_reserved.new.self.items hold i.taken c.push_reserved.ensures.items here.1 c.push_reserved.ensures.len next.0;
+      taken = next_moved n (vec_len c.push_reserved.new.self) c.args.self.now c.loop-self.staged.items
+          c.push_reserved.new.self.items hold i.taken c.push_reserved.ensures.items here.1 c.push_reserved.ensures.len
+          next.0;
       left = next.1 ∙ ap (λ (m : ℕ). drop m c.args.self.now) more;
-      moved = subst (Each (IsStaging g.N.PoolName.sizes)) (sym c.push_reserved.ensures.items) (each-append (IsStaging g.N.PoolName.sizes) c.loop-self.staged.items (hold ∷ []) i.moved (here, tt));
+      moved = subst (Each (IsStaging g.N.PoolName.sizes)) (sym c.push_reserved.ensures.items)
+          (each-append (IsStaging g.N.PoolName.sizes) c.loop-self.staged.items (hold ∷ []) i.moved (here, tt));
       staging = each-front (IsStaging g.N.PoolName.sizes) rest (hold ∷ []) staging;
       room = omega (arith, i.room, c.pop.ensures.capacity);
       capacity = c.push_reserved.ensures.capacity ∙ i.capacity;
@@ -35,10 +38,12 @@ invariant_of-self g c =
     let was = c.self.invariant in
     let n = vec_len c.loop-self.staged in
     let free = c.loop-self.self-inside.free.items in
-    let before : length c.args.self.now ≡ length c.self.inside.free.items = ap length (sym c.self.view_is) ∙ length-shown c.self.inside.free.items in
+    let before : length c.args.self.now ≡ length c.self.inside.free.items = ap length (sym c.self.view_is)
+    ∙ length-shown c.self.inside.free.items in
     record {
       staging = i.staging;
       room = i.room;
       few = omega (arith, was.few, before, length-shown free, ap length i.left, length-drop n c.args.self.now);
-      ordered = subst IsOrdered (sym i.left) (ordered-drop n c.args.self.now (subst IsOrdered c.self.view_is was.ordered));
+      ordered = subst IsOrdered (sym i.left)
+          (ordered-drop n c.args.self.now (subst IsOrdered c.self.view_is was.ordered));
     }

@@ -11,34 +11,50 @@ pub returns-then-len-self-clause-room : goal.returns-then-len-self-clause-room
 returns-then-len-self-clause-room g c =
     let p = c.args.self.now in
     let f = placed_part g.N.PoolName.sizes c.args.owner.now.holds c.args.frag.now.hold.buffer c.args.from c.args.len in
-    let threshold = subst (λ (q : Planned). (0 < q.base.threshold) × (q.base.threshold ≤ 512)) c.self.view_is c.self.invariant.0.threshold in
-    let small = subst (λ (q : Planned). IsSmall q.base.threshold q.begun) c.self.view_is c.self.invariant.0.fits.small in
-    let both = run_rooms p.base p.taken p.begun f c.args.from c.args.len threshold c.requires.next c.requires.filled.0 small (length-run c.args.from c.args.len (front_of c.args.frag.now.hold.buffer c.args.owner.now.holds) (omega (arith, c.requires.filled))) in
+    let threshold = subst (λ (q : Planned). (0 < q.base.threshold) × (q.base.threshold ≤ 512)) c.self.view_is
+    c.self.invariant.0.threshold in
+    let small = subst (λ (q : Planned). IsSmall q.base.threshold q.begun) c.self.view_is c.self.invariant.0.fits.small
+    in
+    let both = run_rooms p.base p.taken p.begun f c.args.from c.args.len threshold c.requires.next c.requires.filled.0
+    small (length-run c.args.from c.args.len (front_of c.args.frag.now.hold.buffer c.args.owner.now.holds)
+    (omega (arith, c.requires.filled))) in
     subst (λ q. room_of c.args.self.now ≤ room_of q) (sym c.copy_part.ensures.plan) both.0
 
 pub returns-then-len-self-clause-range_room : goal.returns-then-len-self-clause-range_room
 returns-then-len-self-clause-range_room g c =
     let p = c.args.self.now in
     let f = placed_part g.N.PoolName.sizes c.args.owner.now.holds c.args.frag.now.hold.buffer c.args.from c.args.len in
-    let threshold = subst (λ (q : Planned). (0 < q.base.threshold) × (q.base.threshold ≤ 512)) c.self.view_is c.self.invariant.0.threshold in
-    let small = subst (λ (q : Planned). IsSmall q.base.threshold q.begun) c.self.view_is c.self.invariant.0.fits.small in
-    let both = run_rooms p.base p.taken p.begun f c.args.from c.args.len threshold c.requires.next c.requires.filled.0 small (length-run c.args.from c.args.len (front_of c.args.frag.now.hold.buffer c.args.owner.now.holds) (omega (arith, c.requires.filled))) in
+    let threshold = subst (λ (q : Planned). (0 < q.base.threshold) × (q.base.threshold ≤ 512)) c.self.view_is
+    c.self.invariant.0.threshold in
+    let small = subst (λ (q : Planned). IsSmall q.base.threshold q.begun) c.self.view_is c.self.invariant.0.fits.small
+    in
+    let both = run_rooms p.base p.taken p.begun f c.args.from c.args.len threshold c.requires.next c.requires.filled.0
+    small (length-run c.args.from c.args.len (front_of c.args.frag.now.hold.buffer c.args.owner.now.holds)
+    (omega (arith, c.requires.filled))) in
     subst (λ q. range_room_of c.args.self.now ≤ range_room_of q) (sym c.copy_part.ensures.plan) both.1
 
 pub returns-else-len-self-clause-room : goal.returns-else-len-self-clause-room
 returns-else-len-self-clause-room g c =
     let p = c.args.self.now in
     let f = placed_part g.N.PoolName.sizes c.args.owner.now.holds c.args.frag.now.hold.buffer c.args.from c.args.len in
-    let threshold = subst (λ (q : Planned). (0 < q.base.threshold) × (q.base.threshold ≤ 512)) c.self.view_is c.self.invariant.0.threshold in
-    let small = subst (λ (q : Planned). IsSmall q.base.threshold q.begun) c.self.view_is c.self.invariant.0.fits.small in
-    let both = run_rooms p.base p.taken p.begun f c.args.from c.args.len threshold c.requires.next c.requires.filled.0 small (length-run c.args.from c.args.len (front_of c.args.frag.now.hold.buffer c.args.owner.now.holds) (omega (arith, c.requires.filled))) in
+    let threshold = subst (λ (q : Planned). (0 < q.base.threshold) × (q.base.threshold ≤ 512)) c.self.view_is
+    c.self.invariant.0.threshold in
+    let small = subst (λ (q : Planned). IsSmall q.base.threshold q.begun) c.self.view_is c.self.invariant.0.fits.small
+    in
+    let both = run_rooms p.base p.taken p.begun f c.args.from c.args.len threshold c.requires.next c.requires.filled.0
+    small (length-run c.args.from c.args.len (front_of c.args.frag.now.hold.buffer c.args.owner.now.holds)
+    (omega (arith, c.requires.filled))) in
     subst (λ q. room_of c.args.self.now ≤ room_of q) (sym c.pin_part.ensures.plan) both.0
 
 pub returns-else-len-self-clause-range_room : goal.returns-else-len-self-clause-range_room
 returns-else-len-self-clause-range_room g c =
     let p = c.args.self.now in
     let f = placed_part g.N.PoolName.sizes c.args.owner.now.holds c.args.frag.now.hold.buffer c.args.from c.args.len in
-    let threshold = subst (λ (q : Planned). (0 < q.base.threshold) × (q.base.threshold ≤ 512)) c.self.view_is c.self.invariant.0.threshold in
-    let small = subst (λ (q : Planned). IsSmall q.base.threshold q.begun) c.self.view_is c.self.invariant.0.fits.small in
-    let both = run_rooms p.base p.taken p.begun f c.args.from c.args.len threshold c.requires.next c.requires.filled.0 small (length-run c.args.from c.args.len (front_of c.args.frag.now.hold.buffer c.args.owner.now.holds) (omega (arith, c.requires.filled))) in
+    let threshold = subst (λ (q : Planned). (0 < q.base.threshold) × (q.base.threshold ≤ 512)) c.self.view_is
+    c.self.invariant.0.threshold in
+    let small = subst (λ (q : Planned). IsSmall q.base.threshold q.begun) c.self.view_is c.self.invariant.0.fits.small
+    in
+    let both = run_rooms p.base p.taken p.begun f c.args.from c.args.len threshold c.requires.next c.requires.filled.0
+    small (length-run c.args.from c.args.len (front_of c.args.frag.now.hold.buffer c.args.owner.now.holds)
+    (omega (arith, c.requires.filled))) in
     subst (λ q. range_room_of c.args.self.now ≤ range_room_of q) (sym c.pin_part.ensures.plan) both.1

@@ -12,6 +12,7 @@ invariant_of-self-2 c =
 pub returns-clause-ok : goal.returns-clause-ok
 returns-clause-ok c =
     let room = c.self.inside in
-    ap (λ b. held (words_to 0 room.ends.items b) (drop (last_end 0 room.ends.items) b)) c.in_ok-extend_from_slice.ensures.items
+    ap (λ b. held (words_to 0 room.ends.items b) (drop (last_end 0 room.ends.items) b))
+    c.in_ok-extend_from_slice.ensures.items
     ∙ appended room.ends.items room.bytes.items c.args.bytes.now c.self.invariant
     ∙ ap (λ r. held r.words (r.word ++ c.args.bytes.now)) (c.self.view_is ∙ c.make_room.ensures)

@@ -10,6 +10,8 @@ use Rattle.session_pass.proofs.session.Session.left.Goals as goal
 pub returns : goal.returns
 returns g c =
     let left : Need = record { descriptors = c.room.result; stage = c.free.result } in
-    subst (λ (s : SessionView). left ≡ need (room_left s.ring (waiting s 0)) (length (free_of s.pass.stage (waiting s 0)))) c.self.view_is
-    (left_is c.self.inside.pass c.self.inside.opened.value.seat (driver_ring c.self.inside.driver) (driver_view c.self.inside.driver) c.self.inside.stopped
+    subst (λ (s : SessionView). left ≡ need (room_left s.ring (waiting s 0))
+    (length (free_of s.pass.stage (waiting s 0)))) c.self.view_is
+    (left_is c.self.inside.pass c.self.inside.opened.value.seat (driver_ring c.self.inside.driver)
+    (driver_view c.self.inside.driver) c.self.inside.stopped
     c.room.result c.free.result c.self.invariant.is c.room.ensures.value c.free.ensures)

@@ -1,8 +1,8 @@
 use Rattle.std.proofs.Common.{◌-◌, ◌^◌, ◌<◌, [], true, length, sym, subst}
 use Rattle.reply_layout.specs.Need.{need_of}
 use Rattle.tx_ring.specs.Shown.{driver_ring, driver_view}
-use Rattle.session_pass.specs.Views.{SessionView, session_of}
-use Rattle.session_pass.specs.Waiting.{waiting, Fits}
+use Rattle.session_pass.specs.Views.{SessionView, whole_view}
+use Rattle.session_pass.specs.Waiting.{waiting, FitsBeside}
 use Rattle.session_pass.specs.Calls.{CallPosts, CallRefused}
 use Rattle.session_pass.proofs.Opening.{reply_fits}
 use Rattle.session_pass.proofs.Telling.{no_way}
@@ -12,49 +12,66 @@ use Rattle.session_pass.proofs.session.Session.post.Goals as goal
 pub run-requires-clause-credits : goal.run-requires-clause-credits
 run-requires-clause-credits g c =
     credits_enough c.args.command.now
-    (session_of c.self.inside.pass c.self.inside.opened.value.seat (driver_ring c.self.inside.driver) (driver_view c.self.inside.driver) c.self.inside.stopped)
+    (whole_view c.self.inside.pass c.self.inside.opened.value.seat (driver_ring c.self.inside.driver)
+    (driver_view c.self.inside.driver) c.self.inside.stopped)
     c.self.invariant.is
-    (subst (λ (s : SessionView). Fits s.ring s.pass.stage (waiting s 0) (need_of c.args.command.now)) (sym c.self.view_is) c.requires.fits)
+    (subst (λ (s : SessionView). FitsBeside s.ring s.pass.stage (waiting s 0) (need_of c.args.command.now))
+    (sym c.self.view_is) c.requires.fits)
 
 pub unreachable-requires : goal.unreachable-requires
 unreachable-requires g c =
     no_way (c.in-Err-post.ensures.when.1
-    (reply_fits c.self.inside.pass c.self.inside.opened.value.seat (driver_ring c.self.inside.driver) (driver_view c.self.inside.driver)
+    (reply_fits c.self.inside.pass c.self.inside.opened.value.seat (driver_ring c.self.inside.driver)
+    (driver_view c.self.inside.driver)
     c.self.inside.stopped c.args.command.now c.in-Ok.parcel c.self.invariant.is
-    (subst (λ (s : SessionView). Fits s.ring s.pass.stage (waiting s 0) (need_of c.args.command.now)) (sym c.self.view_is) c.requires.fits)
+    (subst (λ (s : SessionView). FitsBeside s.ring s.pass.stage (waiting s 0) (need_of c.args.command.now))
+    (sym c.self.view_is) c.requires.fits)
     c.in-Ok.ensures.reply.executes.in_ring))
 
 pub invariant_of-self : goal.invariant_of-self
 invariant_of-self g c =
-    post_keeps g.P.PoolName.sizes g.N.BookName.sizes.shards c.self.inside.calls c.args.command.now c.self.inside.pass c.run.new.pass
+    post_keeps g.P.PoolName.sizes g.N.BookName.sizes.shards c.self.inside.calls c.args.command.now c.self.inside.pass
+    c.run.new.pass
     c.self.inside.opened.value.seat (driver_ring c.self.inside.driver) (driver_ring c.post.new.self)
-    (driver_view c.self.inside.driver) (driver_view c.post.new.self) c.self.inside.stopped c.in-Ok.parcel [] c.run.new.stored.items
+    (driver_view c.self.inside.driver) (driver_view c.post.new.self) c.self.inside.stopped c.in-Ok.parcel []
+    c.run.new.stored.items
     c.self.inside.calls c.self.inside.number
-    c.is_pass.ensures.pass c.is_pass.ensures.seat c.in-Ok.ensures.reply.executes c.post.ensures.ring c.in-Ok-post.ensures.ok
-    (subst (λ (s : SessionView). Fits s.ring s.pass.stage (waiting s 0) (need_of c.args.command.now)) (sym c.self.view_is) c.requires.fits)
+    c.is_pass.ensures.pass c.is_pass.ensures.seat c.in-Ok.ensures.reply.executes c.post.ensures.ring
+    c.in-Ok-post.ensures.ok
+    (subst (λ (s : SessionView). FitsBeside s.ring s.pass.stage (waiting s 0) (need_of c.args.command.now))
+    (sym c.self.view_is) c.requires.fits)
     (subst (λ (s : SessionView). length s.posted < 2 ^ 32 - 1) (sym c.self.view_is) c.requires.few)
     c.self.invariant
 
 pub returns-in-Ok-post-clause-posted : goal.returns-in-Ok-post-clause-posted
 returns-in-Ok-post-clause-posted g c =
-    let s' = session_of c.run.new.pass c.self.inside.opened.value.seat (driver_ring c.post.new.self) (driver_view c.post.new.self) c.self.inside.stopped in
+    let s' = whole_view c.run.new.pass c.self.inside.opened.value.seat (driver_ring c.post.new.self)
+    (driver_view c.post.new.self) c.self.inside.stopped in
     subst
-    (λ (s : SessionView). CallPosts g.P.PoolName.sizes g.N.BookName.sizes.shards c.args.command.now s s' c.self.inside.calls 0
+    (λ (s : SessionView). CallPosts g.P.PoolName.sizes g.N.BookName.sizes.shards c.args.command.now s s'
+    c.self.inside.calls 0
     c.run.new.sent.items c.run.new.stored.items)
     c.self.view_is
-    (call_posts g.P.PoolName.sizes g.N.BookName.sizes.shards c.self.inside.calls c.args.command.now c.self.inside.pass c.run.new.pass
+    (call_posts g.P.PoolName.sizes g.N.BookName.sizes.shards c.self.inside.calls c.args.command.now c.self.inside.pass
+    c.run.new.pass
     c.self.inside.opened.value.seat (driver_ring c.self.inside.driver) (driver_ring c.post.new.self)
     (driver_view c.self.inside.driver) (driver_view c.post.new.self) c.self.inside.stopped c.in-Ok.parcel
     c.run.new.sent.items c.run.new.stored.items
-    c.in-Ok.ensures.reply.executes c.in-Ok.ensures.reply.sent_is c.post.ensures.ring c.in-Ok-post.ensures.ok c.self.invariant.calls_are
-    (subst (λ (s : SessionView). Fits s.ring s.pass.stage (waiting s 0) (need_of c.args.command.now)) (sym c.self.view_is) c.requires.fits)
+    c.in-Ok.ensures.reply.executes c.in-Ok.ensures.reply.sent_is c.post.ensures.ring c.in-Ok-post.ensures.ok
+    c.self.invariant.calls_are
+    (subst (λ (s : SessionView). FitsBeside s.ring s.pass.stage (waiting s 0) (need_of c.args.command.now))
+    (sym c.self.view_is) c.requires.fits)
     c.self.invariant.is)
 
 pub returns-in-Err-clause-refused : goal.returns-in-Err-clause-refused
 returns-in-Err-clause-refused g c =
-    let s' = session_of c.run.new.pass c.self.inside.opened.value.seat (driver_ring c.self.inside.driver) (driver_view c.self.inside.driver) true in
+    let s' = whole_view c.run.new.pass c.self.inside.opened.value.seat (driver_ring c.self.inside.driver)
+    (driver_view c.self.inside.driver) true in
     subst
-    (λ (s : SessionView). CallRefused g.P.PoolName.sizes g.N.BookName.sizes.shards c.args.command.now s s') c.self.view_is
-    (call_refused g.P.PoolName.sizes g.N.BookName.sizes.shards c.self.inside.calls c.args.command.now c.self.inside.pass c.run.new.pass
-    c.self.inside.opened.value.seat (driver_ring c.self.inside.driver) (driver_view c.self.inside.driver) c.self.inside.stopped
+    (λ (s : SessionView). CallRefused g.P.PoolName.sizes g.N.BookName.sizes.shards c.args.command.now s s')
+    c.self.view_is
+    (call_refused g.P.PoolName.sizes g.N.BookName.sizes.shards c.self.inside.calls c.args.command.now c.self.inside.pass
+    c.run.new.pass
+    c.self.inside.opened.value.seat (driver_ring c.self.inside.driver) (driver_view c.self.inside.driver)
+    c.self.inside.stopped
     c.in-Err.ensures.memory c.self.invariant.calls_are)

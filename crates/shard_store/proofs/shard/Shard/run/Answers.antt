@@ -7,9 +7,10 @@ use Rattle.flake_model.specs.Store.{key_of, change_by}
 use Rattle.order_book.specs.Pages.{ShardList, SessionList}
 use Rattle.shard_core.specs.declared.answer.PartAnswer.TheVariants as say
 use Rattle.shard_part.specs.Parts.{operation_of}
-use Rattle.call_model.specs.Outcomes.{Done}
+use Rattle.call_model.specs.Outcomes.{PartOutcome}
 use Rattle.shard_store.specs.Shards.{IsShard, answer_after, found_after, first_after}
-use Rattle.shard_store.proofs.Histories.{grows, stored_are, entered_shard, entered_session, pieces-found, stays, only_writes, key-part, refused, on_err}
+use Rattle.shard_store.proofs.Histories.{grows, stored_are, entered_shard, entered_session, pieces-found, stays}
+use Rattle.shard_store.proofs.Histories.{only_writes, key-part, refused, on_err}
 use Rattle.shard_store.proofs.Reached.{reaches}
 use Rattle.shard_store.proofs.Stored.{in_buffers}
 use Rattle.shard_store.proofs.Unstored.{unstored}
@@ -17,7 +18,8 @@ use Rattle.shard_store.proofs.shard.Shard.run.Goals as goal
 
 pub returns-in_err-reserve-clause-untold : goal.returns-in_err-reserve-clause-untold
 returns-in_err-reserve-clause-untold g c =
-    on_err _ c.from_residual.result (record { list = refl; taken_is = refl; segs_are = refl; sought = stays g.P.PoolName.sizes _ c.args.payer.now })
+    on_err _ c.from_residual.result
+    (record { list = refl; taken_is = refl; segs_are = refl; sought = stays g.P.PoolName.sizes _ c.args.payer.now })
 
 pub invariant_of-self-in-Ok : goal.invariant_of-self-in-Ok
 invariant_of-self-in-Ok g c =
@@ -26,11 +28,17 @@ invariant_of-self-in-Ok g c =
     let list : ShardList = inside.seat in
     let op = operation_of c.args.part.now in
     let d = c.in-Ok.ensures.done (final_store list.told) (final_places list.told) c.self.invariant.agrees in
-    let all = stored_are c.args.stored.now.items c.apply.new.stored.items c.as_slice.result.now c.len-from.result _ d.stored c.as_slice.ensures c.len-from.ensures d.segs_are in
+    let all = stored_are c.args.stored.now.items c.apply.new.stored.items c.as_slice.result.now c.len-from.result _
+    d.stored c.as_slice.ensures c.len-from.ensures d.segs_are in
     subst (λ (y : ShardList × List Entry). IsShard z g.row.I c.apply.new.self y.0 y.1)
-    (λ i. (sym (entered_shard list c.meet.new.shard _ c.args.at op _ d.stored c.meet.ensures.shard c.of.ensures all) i, sym (c.push_reserved.ensures.items ∙ ap (λ l. l ++ c.args.at ∷ []) c.in_ok-reserve.ensures.items) i))
-    (grows z g.row.I inside.shelf c.apply.new.self list inside.journal.items c.args.at op c.in-Ok.answer
-    c.args.stored.now.items c.apply.new.stored.items (g.T.Taker.taken c.args.taker.now) (g.T.Taker.taken c.apply.new.taker) c.self.invariant d c.is_shelf-in-Ok.ensures.kept c.is_shelf-in-Ok.ensures.seat)
+    (λ i. (
+      sym (entered_shard list c.meet.new.shard _ c.args.at op _ d.stored c.meet.ensures.shard c.of.ensures all) i,
+      sym (c.push_reserved.ensures.items ∙ ap (λ l. l ++ c.args.at ∷ []) c.in_ok-reserve.ensures.items) i,
+    ))
+    (grows z g.row.I inside.shard_map c.apply.new.self list inside.journal.items c.args.at op c.in-Ok.answer
+    c.args.stored.now.items c.apply.new.stored.items (g.T.Taker.taken c.args.taker.now)
+    (g.T.Taker.taken c.apply.new.taker) c.self.invariant d c.is_shard_map-in-Ok.ensures.kept
+    c.is_shard_map-in-Ok.ensures.seat)
 
 pub returns-in-Ok-clause-told : goal.returns-in-Ok-clause-told
 returns-in-Ok-clause-told g c =
@@ -43,21 +51,37 @@ returns-in-Ok-clause-told g c =
     let s = final_store list.told in
     let p = final_places list.told in
     let d = c.in-Ok.ensures.done s p c.self.invariant.agrees in
-    let all = stored_are c.args.stored.now.items c.apply.new.stored.items c.as_slice.result.now c.len-from.result _ d.stored c.as_slice.ensures c.len-from.ensures d.segs_are in
-    let here = c.self.invariant.number_is ∙ sym c.requires.here ∙ ap (shard_of shards) (sym (key-part part.op part.key.now part.value.now)) in
-    let met = entered_session c.args.mine.now c.meet.new.session list _ (shard_of shards (key_of op)) c.args.at op _ d.stored c.meet.ensures.session c.of.ensures all here in
-    let outcome : Done = record { answer = answer_after list.told op; found = found_after list.told op; first = first_after list.told op; stored = d.stored } in
+    let all = stored_are c.args.stored.now.items c.apply.new.stored.items c.as_slice.result.now c.len-from.result _
+    d.stored c.as_slice.ensures c.len-from.ensures d.segs_are in
+    let here = c.self.invariant.number_is ∙ sym c.requires.here
+    ∙ ap (shard_of shards) (sym (key-part part.op part.key.now part.value.now)) in
+    let met = entered_session c.args.mine.now c.meet.new.session list _ (shard_of shards (key_of op)) c.args.at op _
+    d.stored c.meet.ensures.session c.of.ensures all here in
+    let outcome : PartOutcome = record {
+      answer = answer_after list.told op;
+      found = found_after list.told op;
+      first = first_after list.told op;
+      stored = d.stored;
+    } in
     record {
       outcome = Some outcome;
       run = record { is = tt; told = ap (λ (l : SessionList). l.told) met; sought = c.in-Ok.ensures.paid.sought };
       number = ap (λ (l : SessionList). l.number) met;
       looks = ap (λ (l : SessionList). l.looks) met;
       says = d.says;
-      pieces = d.pieces ∙ ap (λ l. g.T.Taker.taken c.args.taker.now ++ l) (pieces-found op (answer_after list.told op) (places_at p (key_of op)) (first_after list.told op));
-      reaches = reaches z inside.shelf.entries inside.shelf.seat c.is_shelf.ensures.kept s p c.self.invariant.agrees op;
-      answered = record { had = finite.get s (key_of op); answer_is = refl; first_is = refl; stored_is = unstored (change_by s op) _ _ d.stored d.stored_is };
+      pieces = d.pieces ∙ ap (λ l. g.T.Taker.taken c.args.taker.now ++ l)
+          (pieces-found op (answer_after list.told op) (places_at p (key_of op)) (first_after list.told op));
+      reaches = reaches z inside.shard_map.entries inside.shard_map.seat c.is_shard_map.ensures.kept s p
+          c.self.invariant.agrees op;
+      answered = record {
+        had = finite.get s (key_of op);
+        answer_is = refl;
+        first_is = refl;
+        stored_is = unstored (change_by s op) _ _ d.stored d.stored_is;
+      };
       segs_are = d.segs_are;
-      in_buffers = in_buffers z c.apply.new.self.entries c.apply.new.self.seat c.is_shelf-in-Ok.ensures.kept s p op d.stored d.agrees _ _ d.stored_is;
+      in_buffers = in_buffers z c.apply.new.self.entries c.apply.new.self.seat c.is_shard_map-in-Ok.ensures.kept s p op
+          d.stored d.agrees _ _ d.stored_is;
     }
 
 pub returns-in-Err-NoBuffer-clause-told : goal.returns-in-Err-NoBuffer-clause-told
@@ -65,10 +89,15 @@ returns-in-Err-NoBuffer-clause-told g c =
     let z = g.P.PoolName.sizes in
     let op = operation_of c.args.part.now in
     let here = c.in-Err-NoBuffer in
-    let none = refused z op here.field-0 here.none c.args.payer.now c.apply.new.payer here.field-0-is here.ensures.paid here.ensures.cause in
+    let none = refused z op here.field-0 here.none c.args.payer.now c.apply.new.payer here.field-0-is here.ensures.paid
+    here.ensures.cause in
     record {
       outcome = None;
-      run = record { is = only_writes z op c.args.payer.now c.apply.new.payer none.0; told = sym (append-nil c.args.mine.now.told); sought = none.0.sought };
+      run = record {
+        is = only_writes z op c.args.payer.now c.apply.new.payer none.0;
+        told = sym (append-nil c.args.mine.now.told);
+        sought = none.0.sought;
+      };
       number = refl;
       looks = refl;
       says = (here.none, ap say.NoBuffer here.none-is, none.1);

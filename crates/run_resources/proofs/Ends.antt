@@ -1,0 +1,102 @@
+-- What the end of a run shows.
+use Rattle.std.proofs.Common.{◌≡◌, ℕ, Bool, List, [], ◌∷◌, ◌++◌, Option, map, length, ap, sym, ◌∙◌, subst, append-nil}
+use Rattle.std.specs.List.{flat_map}
+use Rattle.std.proofs.lemmas.List.{length-map}
+use Rattle.std.proofs.lemmas.List.FromFn.{length-range_with_len}
+use Rattle.flake_base.specs.Roomy.{Roomy}
+use Rattle.flake_base.specs.declared.journal.Entry.{Entry}
+use Rattle.flake_base.specs.declared.session.SessionEnd.{SessionEnd}
+use Rattle.flake_model.specs.Deed.{entries_of}
+use Rattle.flake_model.specs.Run.{wire_texts}
+use Rattle.pin_core.specs.declared.sizes.Sizes as pool_sizes
+use Rattle.pinned_pool.specs.Moves.{joined_views}
+use Rattle.pinned_pool.specs.Views.{IsLoose}
+use Rattle.pinned_pool.specs.Ends.{End, pool_end, LooksClaimed}
+use Rattle.pinned_pool.specs.declared.view.View.{View}
+use Rattle.order_book.specs.Closed.{AreClosed}
+use Rattle.order_book.specs.Pages.{ShardList, SessionList}
+use Rattle.order_book.specs.declared.rule.Sizes as book_sizes
+use Rattle.call_model.specs.Stock.{AreParts}
+use Rattle.serve_model.specs.Handed.{OneRun, IsLastSeat}
+use Rattle.serve_model.specs.Seats.{HasAll}
+use Rattle.serve_model.specs.Replies.{all_replies}
+use Rattle.serve_model.specs.Shown.{WasRun}
+use Rattle.serve_model.specs.Whole.{ServedTogether, WholeRun}
+use Rattle.serve_model.proofs.Seats.{joins_add}
+use Rattle.flake_base.specs.Histories.{histories}
+use Rattle.run_resources.specs.Closed.{WasClosed}
+use Rattle.run_resources.specs.Ran.{no_wires}
+use Rattle.run_resources.specs.Together.{AreRuns, HaveShown}
+
+-- a run with these texts and replies, whatever its wires and its end are called
+abbrev Texts : pool_sizes.Sizes → List (Option (List ℕ)) → List (Option (List ℕ)) → List SessionEnd → List (List Entry)
+    → List (Bool × List ℕ) → List (Bool × List (List ℕ)) → List (Option (List ℕ)) × List (Option (List ℕ)) × End
+    → Type 0
+Texts z inputs lefts ends journal texts replies y =
+    (run : WasRun z inputs lefts ends journal y.0 y.1 y.2) × (wire_texts run.served.sessions journal ≡ texts)
+    × (all_replies run.served.sessions journal ≡ replies)
+
+same_wires : (z : pool_sizes.Sizes) (inputs lefts : List (Option (List ℕ))) (ends : List SessionEnd)
+    (journal : List (List Entry)) (first last : End) (olds news others nexts : List (Option (List ℕ)))
+    (texts : List (Bool × List ℕ)) (replies : List (Bool × List (List ℕ))) → olds ≡ others → news ≡ nexts → first ≡ last
+    → Texts z inputs lefts ends journal texts replies (olds, news, first)
+    → Texts z inputs lefts ends journal texts replies (others, nexts, last)
+same_wires z inputs lefts ends journal first last olds news others nexts texts replies old_is new_is end_is is =
+    subst (Texts z inputs lefts ends journal texts replies) (λ i. (old_is i, new_is i, end_is i)) is
+
+-- what the closing says, together
+pub closed : (books : book_sizes.Sizes) (z : pool_sizes.Sizes) (shards : List ShardList) (lists : List SessionList)
+    (journal : List (List Entry)) (main store last : View) (end : End) → AreClosed books shards lists
+    → AreParts z books.shards shards journal store → last ≡ joined_views main store → IsLoose last → LooksClaimed last
+    → end ≡ pool_end z last → WasClosed books z lists main journal end
+closed books z shards lists journal main store last end tied parts last_is loose looked end_is = record {
+  shards = shards;
+  store = store;
+  last = last;
+  tied = tied;
+  parts = parts;
+  last_is = last_is;
+  loose = loose;
+  looked = looked;
+  closed_is = end_is;
+}
+
+-- the seats of the runs are joined with the store's: so the run shows what they did
+pub shown : (books : book_sizes.Sizes) (z : pool_sizes.Sizes) (shards : List ShardList) (lists : List SessionList)
+    (journal : List (List Entry)) (main store last : View) (closed : End)
+    → ServedTogether → WholeRun → AreClosed books shards lists → length lists ≡ books.sessions
+    → AreParts z books.shards shards journal store → last ≡ joined_views main store
+    → IsLoose last → LooksClaimed last → closed ≡ pool_end z last
+    → (each : List OneRun) → AreRuns z books.shards each lists main → HaveShown z each journal closed
+shown books z shards lists journal main store last closed together whole are_closed as_many parts last_is loose looked
+    closed_is each runs =
+    let own : List SessionList = map (λ (one : OneRun). one.list) each in
+    let ends : List SessionEnd = map (λ (one : OneRun). one.end) each in
+    let seats : List View = map (λ (one : OneRun). one.seat) each in
+    let is : IsLastSeat store (runs.spare ∷ []) seats last = record {
+      all = subst (HasAll (store ∷ runs.spare ∷ seats)) (sym last_is)
+          (joins_add (runs.spare ∷ seats) main store runs.seats);
+      spare_is = (runs.spare_is, tt);
+      loose = loose;
+      looked = looked;
+    } in
+    let served = together z books.shards each [] runs.all in
+    let ran = whole books z shards own journal store _ _ ends seats _ _ (runs.spare ∷ []) last
+    (subst (AreClosed books shards) runs.lists_are are_closed) (sym (ap length runs.lists_are) ∙ as_many) parts
+    served.0 is in
+    let olds : map (λ (one : OneRun). one.old) each ++ [] ≡ no_wires ends = append-nil _ ∙ runs.olds in
+    let news : map (λ (one : OneRun). one.new) each ++ [] ≡ no_wires ends = append-nil _ ∙ runs.news in
+    let w = same_wires z _ _ ends journal (pool_end z last) closed _ _ (no_wires ends) (no_wires ends)
+    (map (λ (one : OneRun). (one.end.failed, flat_map (λ text. text) one.texts)) each)
+    (map (λ (one : OneRun). (one.end.failed, one.texts)) each) olds news (sym closed_is)
+    (ran.0, ran.1.texts_are ∙ served.1, ran.1.replies_are ∙ served.2) in
+    record { ran = w.0; texts_are = w.1; replies_are = w.2 }
+
+-- a journal has a history of each shard
+pub histories_are : (z : pool_sizes.Sizes) (count : ℕ) (shards : List ShardList) (journal : List (Roomy Entry))
+    (seat : View) → AreParts z count shards (histories journal) seat → length journal ≡ count
+histories_are z count shards journal seat parts =
+    sym (length-map journal (λ (history : Roomy Entry). history.items)) ∙ ap length parts.journal_is
+    ∙ length-map shards (λ (s : ShardList). entries_of s.told)
+    ∙ sym (length-map shards (λ (s : ShardList). s.number)) ∙ ap length parts.numbered
+    ∙ length-range_with_len 0 count

@@ -1,0 +1,7 @@
+pub mod Opening
+pub mod Joining
+pub mod Passes
+pub mod SessionSlots
+pub mod Ends
+pub mod Lists
+pub mod Numbers

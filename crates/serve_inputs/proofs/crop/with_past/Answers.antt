@@ -1,9 +1,0 @@
-use Rattle.std.proofs.Common.{◌++◌, ap, ◌∙◌}
-use Rattle.serve_house.proofs.Lists.{all_given}
-use Rattle.serve_inputs.proofs.crop.with_past.Goals as goal
-
-pub returns : goal.returns
-returns g c =
-    let before = c.loop-wire.invariant in
-    before.wires ∙ ap (λ l. c.args.wires.items ++ l) (all_given c.loop-wire.yielded _ _ _ before.all before.left
-    c.in-None.ensures.steps.0)

@@ -1,0 +1,17 @@
+use Rattle.std.proofs.Common.{◌≡◌, ◌+◌, ◌-◌, List, length}
+use Rattle.flake_model.specs.Command.{Command}
+use Rattle.flake_model.specs.Resp.{judged_bytes}
+use Rattle.call_model.specs.Outcomes.{Outcomes}
+use Rattle.session_serve.specs.Working.{IsWorking}
+use Rattle.session_serve.proofs.session_side.SessionSide.run.Given as goal
+
+abbrev pub invariant-calls : goal.invariant-calls
+invariant-calls g l = record {
+  ring : l.session_side.session.ring ≡ l.fn.self.session.ring;
+  working : (given : List Command) × (calls : List Outcomes)
+      × IsWorking g.P.PoolName.sizes g.N.BookName.sizes.shards l.fn.self.session l.fn.self.pump.left
+      l.fn.self.pump.faults given calls l.session_side.session l.session_side.pump;
+}
+
+abbrev pub decreases-calls : goal.decreases-calls
+decreases-calls g l = judged_bytes + 2 - length l.session_side.session.posted

@@ -1,0 +1,151 @@
+// A session with its source.
+ghost use Rattle.std.specs.Prelude.{◌≡◌, ◌+◌, ◌≤◌, ℕ, List, Option, length, OnOk, IfOk, IfErr};
+ghost use Rattle.flake_model.specs.Command.{Command as Meaning};
+ghost use Rattle.flake_model.specs.Resp.{judged_bytes};
+ghost use Rattle.call_model.specs.Outcomes.{Outcomes};
+ghost use Rattle.session_pass.specs.Views.{SessionView};
+ghost use Rattle.session_serve.specs.Beside.{RanToTheEnd};
+ghost use Rattle.session_serve.specs.Working.{IsFresh, IsWorking, CallsMore, HasStopped};
+
+use crate::lending::DeviceSlot;
+use crate::room::Room;
+use crate::start_barrier::StartBarrier;
+use crate::waiting::{Remains, call, finish};
+use crate::wiring::Wiring;
+use command_exec::Shop;
+use command_pump::Pump;
+use flake_base::{End, Memory, Source};
+use order_book::BookName;
+use pinned_pool::PoolName;
+use reply_planner::Parcel;
+use session_pass::{Gate, Session};
+use std::sync::Wait;
+use tx_descriptor::Framed;
+
+/// Where a session's commands come in.
+#[derive(Drop)]
+pub(crate) struct SessionSide<N: BookName, P: PoolName + Send, S: Source>
+where
+    Parcel<P>: Framed,
+{
+    pub session: Session<N, P>,
+    pub pump: Pump<S>,
+    pub room: Room,
+}
+
+/// A session that has ended, and how.
+#[derive(Drop)]
+pub(crate) struct Ended<N: BookName, P: PoolName + Send, S: Source>
+where
+    Parcel<P>: Framed,
+{
+    pub end: End,
+    pub replies: u32,
+    pub remains: Remains<N, P>,
+    pub pump: Pump<S>,
+}
+
+impl<N: BookName, P: PoolName + Send, S: Source> SessionSide<N, P, S> {
+    // Runs the next command; or says how the session ends.
+    fn step<R: Wait, G: Gate, W: Drop, Q: Wiring<W>>(
+        &mut self,
+        rt: &R,
+        shop: &Shop<'_, N, P>,
+        gate: &G,
+        place: &DeviceSlot<P, W, Q>,
+        wiring: &Q,
+    ) -> Result<(), End>
+        requires few { length self.old.session.posted ≤ judged_bytes + 1 }
+        requires ready { Q.ready wiring.now }
+        requires same { place.now.wiring ≡ wiring.now }
+        ensures ring { self.new.session.ring ≡ self.old.session.ring }
+        ensures call { OnOk result ((first : SessionView) (input : Option (List ℕ)) (before : ℕ)
+            (given : List Meaning) (calls : List Outcomes)
+            → IsWorking P.sizes N.sizes.shards first input before given calls self.old.session self.old.pump
+            → CallsMore P.sizes N.sizes.shards first input before given calls self.new.session self.new.pump) }
+        ensures end { IfErr result (λ end. (first : SessionView) (input : Option (List ℕ)) (before : ℕ)
+            (given : List Meaning) (calls : List Outcomes)
+            → IsWorking P.sizes N.sizes.shards first input before given calls self.old.session self.old.pump
+            → HasStopped P.sizes N.sizes.shards first input before end self.new.session self.new.pump) }
+    {
+        let command = match self.pump.next() {
+            Ok(command) => command,
+            Err(end) => return Err(end),
+        };
+        gate.before(rt, self.session.number(), self.session.calls());
+        let called = call(
+            rt,
+            shop,
+            &mut self.session,
+            &command,
+            &mut self.room,
+            place,
+            wiring,
+        );
+        match called {
+            Ok(()) => {}
+            Err(Memory) => return Err(End::Memory),
+        }
+        self.pump.give_back(command);
+        Ok(())
+    }
+
+    // Runs the commands, each behind the gate, to the source's end or until memory is wanting.
+    fn run<R: Wait, G: Gate, W: Drop, Q: Wiring<W>>(
+        self,
+        rt: &R,
+        shop: &Shop<'_, N, P>,
+        gate: &G,
+        place: &DeviceSlot<P, W, Q>,
+        wiring: &Q,
+    ) -> Ended<N, P, S>
+        requires fresh { IsFresh P.sizes self.session self.pump }
+        requires ready { Q.ready wiring.now }
+        requires same { place.now.wiring ≡ wiring.now }
+        ensures { RanToTheEnd P.sizes N.sizes.shards self.session self.pump result.end result.replies
+            result.remains.seat result.remains.mine result.pump result.remains.closed }
+    {
+        let mut session_side = self;
+        let end = 'calls: loop {
+            if let Err(end) = session_side.step(rt, shop, gate, place, wiring) {
+                break end;
+            }
+        };
+        let SessionSide {
+            session,
+            pump,
+            room: _,
+        } = session_side;
+        let replies = session.calls();
+        let remains = finish(rt, shop, session, place, wiring);
+        Ended {
+            end,
+            replies,
+            remains,
+            pump,
+        }
+    }
+
+    /// The same beside its device, whose device is within reach; or nothing is done, where the device doesn't come.
+    pub fn within_reach<R: Wait, G: Gate, W: Drop, Q: Wiring<W>>(
+        self,
+        rt: &R,
+        shop: &Shop<'_, N, P>,
+        gate: &G,
+        place: &DeviceSlot<P, W, Q>,
+        wiring: &Q,
+        start_barrier: &StartBarrier,
+    ) -> Result<Ended<N, P, S>, Self>
+        requires fresh { IsFresh P.sizes self.session self.pump }
+        requires ready { Q.ready wiring.now }
+        requires same { place.now.wiring ≡ wiring.now }
+        ensures ran { IfOk result (λ e. RanToTheEnd P.sizes N.sizes.shards self.session self.pump e.end e.replies
+            e.remains.seat e.remains.mine e.pump e.remains.closed) }
+        ensures back { IfErr result (λ i. i ≡ self) }
+    {
+        if !start_barrier.wait(rt) {
+            return Err(self);
+        }
+        Ok(self.run(rt, shop, gate, place, wiring))
+    }
+}

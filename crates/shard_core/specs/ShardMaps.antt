@@ -1,0 +1,18 @@
+-- What contracts see of a shard's map and seat.
+use Rattle.std.specs.Prelude.{◌≡◌, ℕ, List, [], map}
+use Rattle.std.specs.Global.{Vec}
+use Rattle.pinned_pool.specs.declared.view.View.{View}
+use Rattle.shard_core.specs.Kept.{Entries, IsPoor}
+use Rattle.frag_value.specs.Values.{Frags}
+
+pub record ShardMapView : Type 0 where
+  pub entries : Entries
+  pub seat : View
+
+-- a seat with one credit and nothing else
+pub record IsBare (seat : View) : Type 0 where
+  pub poor : IsPoor seat
+  pub holds : seat.holds ≡ []
+
+abbrev pub keys_on : Entries → List (Vec ℕ)
+keys_on entries = map (λ (e : Vec ℕ × Frags). e.0) entries
