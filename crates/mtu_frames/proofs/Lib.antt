@@ -1,0 +1,10 @@
+pub mod Lookups
+pub mod Keeping
+pub mod Refusing
+pub mod Growing
+pub mod Putting
+pub mod Cutting
+pub mod Texts
+pub mod Sending
+pub mod Taking
+pub mod Runs
