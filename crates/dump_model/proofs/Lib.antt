@@ -1,0 +1,5 @@
+pub mod Allowed
+pub mod Folded
+pub mod Sorted
+pub mod Again
+pub mod Worked
