@@ -1,0 +1,19 @@
+use Rattle.std.proofs.Common.{◌++◌, drop, sym, ap, ◌∙◌, subst}
+use Rattle.pinned_pool.specs.declared.view.View.{View}
+use Rattle.reply_planner.specs.Owned.{AreOwn}
+use Rattle.reply_planner.specs.Planned.{Planned}
+use Rattle.reply_planner.specs.declared.terms.Terms.{Terms}
+use Rattle.reply_planner.proofs.Grown.{lent_own}
+use Rattle.card_cases.proofs.planning.plan_reply.Goals as goal
+
+pub seal-requires-clause-own : goal.seal-requires-clause-own
+seal-requires-clause-own g c =
+    let e = c.in_ok-plan.ensures in
+    let hs = c.args.seat.now.holds in
+    let s = c.args.stage.now in
+    let n = c.values-need.result.stage in
+    let kept = c.hand_often.ensures.base ∙ ap (λ (p : Planned). p.base) c.copy.ensures.plan in
+    let base = ap (λ (t : Terms). t.stage) kept ∙ ap (λ (p : Planned). p.base.stage) e.plan in
+    subst (λ (v : View). AreOwn v.holds (c.start.new.stage ++ c.hand_often.new.plan.base.stage)) (sym e.seat)
+    (subst (λ l. AreOwn hs (l ++ c.hand_often.new.plan.base.stage)) (sym e.stage)
+    (subst (λ l. AreOwn hs (drop n s ++ l)) (sym base) (lent_own hs s n c.requires.desk.own)))
