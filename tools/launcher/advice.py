@@ -2,183 +2,167 @@
 
 import os
 import re
-import stat
 
-from launcher.replies import names_of
-from launcher.typed import checked_places, generated_sessions, schedules, served_files
+from launcher import faults
+from launcher.opening import first_unopened, is_file, read_again
+from launcher.place import tool
+from launcher.schedule import MOST, first_bad, why_bad
+from launcher.table import CHECK, DRIVE, GEN, SERVE
+from launcher.voice import quoted
+from plain.inputs import CLEAN, CUT, INLINE, TOO_LONG, how_it_ends
 
 JUDGED = 67_108_864
-LINE = re.compile(rb"(?:call|gather|reap) (0|[1-9][0-9]?)")
-TYPED = "commands as they are typed become requests by tools/to_resp"
-SAID = "the program's line says behind how many bytes, and what stands before that was served (docs/USE.md, Statuses)"
+SESSION = re.compile(rb"session (\d+) (\w+)(?: (\d) at (\d+)| at (\d+))? taken (\d+) replies \d+ wire (whole|failed)")
+HEAD = "a journal begins with shards and a number from 1 to 16, as serve --journal prints it"
+ENTRY = "an entry is four plain numbers: shard, session, call and part"
 
 
-def after(status, words):
-    """Returns one line, or None where the program's own lines say all."""
-    if status == 1:
-        return bad_words(words)
-    if status == 2 and checked_places(words) is not None:
-        return not_checked([words[place] for place in checked_places(words)])
-    lines = {2: cannot_open, 3: no_requests, 4: read_fault, 5: write_fault, 6: out_of_memory}
-    files = served_files(words)
-    if schedules(words):
-        return of_driven(status, *schedules(words), files)
-    if files is None and generated_sessions(words):
-        return of_generated(status, generated_sessions(words))
-    return lines[status](files) if status in lines and files is not None else None
+def after(ran, task):
+    """Returns lines; none where the program's own say all."""
+    if ran.status == 2:
+        return [cannot_open(task)]
+    of_command = {SERVE: of_served, GEN: of_generated, DRIVE: of_driven, CHECK: of_checked}
+    return list(of_command[task.command](ran, task))
 
 
-def of_generated(status, count):
-    wrong = {5: write_fault, 6: out_of_memory}
-    return wrong[status]([None] * count) if status in wrong else None
+def cannot_open(task):
+    """A file that could be opened before, and not when the program came to it."""
+    place, why = first_unopened(task.opened) or (0, "it couldn't be opened")
+    return unopened(task, place, why)
 
 
-def of_driven(status, schedule, files):
-    lines = {2: cannot_open_driven, 3: no_requests_driven, 4: read_fault_driven, 7: bad_line, 9: too_long}
-    if status in lines:
-        return lines[status](schedule, files)
-    wrong = {5: write_fault, 6: out_of_memory}
-    return wrong[status](files) if status in wrong else None
+def unopened(task, place, why):
+    done = "checked" if task.command == CHECK else "served"
+    typed = "" if task.command == CHECK else f": commands as they are typed become requests by {tool('to_resp')}"
+    return f"{quoted(task.opened[place])}: {why}. Nothing was {done}{typed}"
 
 
-def cannot_open_driven(schedule, files):
-    file, why = first_unopened([schedule, *files])
-    return f"{file}: {why}. Nothing was served: behind drive stand a schedule and files of RESP2 requests; {TYPED}"
+def of_served(ran, task):
+    """Of each session that went wrong a line, by what the program said of it; without its lines, by the files."""
+    lines = [it for it in map(SESSION.fullmatch, (ran.said or b"").splitlines()) if it]
+    if len(lines) != len(task.files):
+        yield from of_files(ran, task)
+        return
+    for file, line in zip(task.files, lines):
+        how = line[2].decode()
+        if how in ("protocol", "truncated", "toolong"):
+            place = int(line[4] or line[5] or 0)
+            yield not_whole(file, how, place, line[3] == b"4")
+        elif how == "readfault":
+            yield read_fault(file)
+    yield from of_writes(ran, task)
 
 
-def no_requests_driven(_schedule, files):
-    which = files[0] if len(files) == 1 else "a file of a session whose call found its end"
-    return f"{which}: it isn't whole RESP2 requests to its end, and what stands before that was served; {TYPED}"
+def of_files(ran, task):
+    """What the files themselves show, where the program has no line for each session."""
+    if ran.status == 3:
+        found = [it for it in map(ends_of, task.files) if it]
+        yield from found or ["a file isn't whole RESP2 requests to its end; what stands before that was served"]
+    if ran.status == 4:
+        yield from (read_fault(file) for file in unreadable(task.files))
+    yield from of_writes(ran, task)
 
 
-def read_fault_driven(schedule, files):
-    if os.path.isdir(schedule):
-        return f"{schedule}: it is a folder, and no schedule. Nothing was served"
-    return read_fault(files)
+def of_writes(ran, task):
+    if ran.status == 5:
+        yield from faults.why_unwritten(ran, task)
+    if ran.status == 6:
+        yield f"memory ran out: {faults.written(task)}"
 
 
-def bad_line(schedule, files):
-    """Says which line it is and what it has, where the schedule can be read a second time."""
-    last = len(files) - 1
-    sessions = "and N is 0" if last == 0 else f"and N is 0 to {last}"
-    wanted = f"lines are call N, gather N and reap N, with one blank, {sessions}. Nothing was served"
-    found = next(((n, line) for n, line in lines_of(schedule) if not is_line(line, len(files))), None)
-    if found is None:
-        return f"{schedule} isn't a schedule: {wanted}"
-    number, line = found
-    shown = repr(line[:40].decode("latin-1")) + (" .." if line[40:] else "") if line else "empty"
-    return f"{schedule}, line {number} is {shown}: {wanted}"
+def not_whole(file, how, place, is_typed):
+    """Why a file isn't whole requests to its end, and what to do."""
+    name = quoted(file)
+    if how == "toolong":
+        split = f"{tool('split_resp')} {name} cuts it between requests, and --workers 1 serves the parts in their order"
+        return f"{name} has more than {JUDGED} bytes, and those behind them weren't served: {split}"
+    if is_typed:
+        begins = "it begins with a typed command" if place == 0 else f"a typed command stands behind {place} bytes"
+        return f"{name}: {begins}, and a RESP2 request with '*': {tool('to_resp')} {name} > requests.resp"
+    if how == "truncated":
+        return f"{name}: the request behind {place} bytes isn't whole; what stands before it was served"
+    return f"{name}: no RESP2 request has the byte behind {place} bytes; what stands before that request was served"
 
 
-def is_line(line, sessions):
-    found = LINE.fullmatch(line)
-    return found is not None and int(found[1]) < sessions
+def ends_of(file):
+    """How a file ends that isn't whole, or None."""
+    text = read_again(file, JUDGED + 1)
+    how, place, _ = (CLEAN, 0, 0) if text is None else how_it_ends(text)
+    kinds = {CUT: "truncated", TOO_LONG: "toolong"}
+    return None if how == CLEAN else not_whole(file, kinds.get(how, "protocol"), place, how == INLINE)
 
 
-def lines_of(schedule):
-    """Returns the lines of a schedule with their numbers, where it is a file."""
-    try:
-        if os.path.isfile(schedule):
-            with open(schedule, "rb") as it:
-                *lines, last = it.read(JUDGED).split(b"\n")
-            return enumerate(lines + ([last] if last else []), 1)
-    except OSError:
-        pass
-    return ()
+def unreadable(files):
+    return [file for file in files if os.path.isdir(file)] or files[:1]
 
 
-def too_long(schedule, _files):
-    return f"{schedule}: a schedule has at most {JUDGED} bytes. Nothing was served"
+def read_fault(file):
+    if os.path.isdir(file):
+        return f"{quoted(file)}: it is a folder, and has no requests"
+    return f"{quoted(file)}: a read failed, and what came before it was served"
 
 
-def bad_words(words):
-    if len(words) == 1 and os.path.isfile(words[0]):
-        return f"nothing was served: to serve {words[0]}, put the word serve before it"
-    if words[:1] == ["serve"]:
-        stand = "options, if any, and the names of 1 to 16 files of requests, with 128 small buffers for each"
-        return f"nothing was served: behind serve stand {stand} (--help says more)"
-    if words[:1] == ["check"]:
-        stand = "a journal, and 1 to 16 pairs of a file of requests and a file of its replies, or none in its place"
-        return f"nothing was checked: behind check stand {stand} (--help says more)"
-    if words[:1] == ["gen"]:
-        stand = "a number from 0 to 4294967295, and options, if any, that ask for no more than a pool can hold"
-        return f"nothing was served: behind gen stand {stand} (--help says more)"
-    if words[:1] == ["drive"]:
-        stand = "sizes, if any, a schedule, and the names of 1 to 16 files of requests, with 128 small buffers for each"
-        return f"nothing was served: behind drive stand {stand} (--help says more)"
-    commands = "serve FILE.., check JOURNAL.., gen NUMBER and drive SCHEDULE FILE.."
-    given = " ".join(words)[:60]
-    return f"nothing was done: the commands are {commands}, and not {given!r} (--help says more)"
+def of_generated(ran, task):
+    return of_writes(ran, task)
 
 
-def first_unopened(files):
-    return next(((file, why) for file in files if (why := why_unopened(file))), (files[0], "it couldn't be opened"))
+def of_driven(ran, task):
+    schedule = quoted(task.schedule)
+    if ran.status == 4 and os.path.isdir(task.schedule):
+        yield f"{schedule}: it is a folder, and no schedule. Nothing was served"
+    elif ran.status == 7:
+        text = read_again(task.schedule, MOST)
+        number, line = (0, b"") if text is None else first_bad(text, task.sessions)
+        why = why_bad(task.schedule, task.sessions, number, line) if number else f"{schedule} isn't a schedule"
+        yield f"{why}. Nothing was served"
+    elif ran.status == 9:
+        yield f"{schedule}: a schedule has at most {MOST} bytes. Nothing was served"
+    else:
+        yield from of_files(ran, task)
 
 
-def not_checked(files):
-    file, why = first_unopened(files)
-    return f"{file}: {why}. Nothing was checked"
+def of_checked(ran, task):
+    """Of a check, the file that is meant."""
+    journal = quoted(task.opened[0])
+    number = next(iter(re.findall(rb"\d+", ran.said)), None)
+    if ran.status == 4 and number is not None:
+        file = task.opened[int(number)]
+        why = "it is a folder" if os.path.isdir(file) else "a read failed"
+        yield f"{quoted(file)}: {why}. Nothing was checked"
+    elif ran.status == 7 and number is not None:
+        yield f"{journal}, line {int(number)} {line_of(task.opened[0], int(number))}"
+    elif ran.status == 8:
+        yield from differs(ran.said, task)
+    elif ran.status == 9 and number is not None:
+        most = 67_108_864 if is_input(task, int(number)) else 134_217_728
+        yield f"{quoted(task.opened[int(number)])} has more than {most} bytes. Nothing was checked"
+    elif ran.status in (5, 6):
+        yield {5: faults.why_unsaid(ran.why_unsaid), 6: "memory ran out, so there is no verdict"}[ran.status]
 
 
-def cannot_open(files):
-    file, why = first_unopened(files)
-    earlier = f"; {names_of(1)} is of an earlier run" if os.path.lexists(names_of(1)) else ""
-    wanted = "name files of RESP2 requests, which tools/to_resp makes of typed commands"
-    return f"{file}: {why}. Nothing was served{earlier}: {wanted}"
+def differs(said, task):
+    if said.startswith(b"bad journal"):
+        yield f"{quoted(task.opened[0])}: it is no journal of these inputs, so no reply was compared"
+        return
+    session = int(next(iter(re.findall(rb"\d+", said)), b"0"))
+    pair = [it for it in task.words[1:] if it != "--"][1 + 2 * session :][:2]
+    replies = "its replies" if pair[1:] in ([], ["none"]) else quoted(pair[1])
+    yield f"{replies} isn't what the journal gives for {quoted(pair[0])}: places and bytes are counted from 0"
 
 
-def why_unopened(file):
-    try:
-        os.close(os.open(file, os.O_RDONLY | os.O_NONBLOCK))
-    except OSError as it:
-        return it.strerror
-    return None
+def is_input(task, place):
+    """Whether the file at a place among those that were named is one of requests."""
+    names = [it for it in task.words[1:] if it != "--"]
+    opened = [number for number, name in enumerate(names) if number % 2 or number == 0 or name != "none"]
+    return place < len(opened) and opened[place] % 2 == 1
 
 
-def no_requests(files):
-    if len(files) > 1:
-        return f"not each file is whole RESP2 requests to its end; {SAID}; {TYPED}"
-    return no_requests_in(files[0])
-
-
-def no_requests_in(file):
-    begins, size = front_of(file)
-    if size > JUDGED:
-        judged = f"of its {size} bytes the first {JUDGED} are judged, and what is whole there was served"
-        return f"{file}: {judged}: cut it into several files"
-    if begins not in (b"", b"*"):
-        begins = f"it begins with {begins.decode('latin-1')!r}, and a RESP2 request with '*'"
-        return f"{file}: {begins}: {TYPED}: tools/to_resp {file} > requests.resp"
-    return f"{file}: it isn't whole RESP2 requests to its end; {SAID}; {TYPED}"
-
-
-def front_of(file):
-    """Returns the first byte and the size of a file, where it can be read a second time."""
-    try:
-        of_file = os.stat(file)
-        if stat.S_ISREG(of_file.st_mode):
-            with open(file, "rb") as it:
-                return it.read(1), of_file.st_size
-    except OSError:
-        pass
-    return b"", 0
-
-
-def read_fault(files):
-    folder = next((file for file in files if os.path.isdir(file)), None)
-    what = files[0] if len(files) == 1 else "one of the files"
-    why = "" if folder is None else f": {'it' if len(files) == 1 else folder} is a folder"
-    return f"{what}: a read failed, and what came before it was served{why}"
-
-
-def write_fault(files):
-    asked = "is there room on the disk, leave to write in this folder, a standard output?"
-    return f"{names_of(len(files))} or what was said couldn't be written whole: {asked}"
-
-
-def out_of_memory(files):
-    return f"memory ran out: {names_of(len(files))} {have(files)} the replies that were written until then, if any"
-
-
-def have(files):
-    return "has" if len(files) == 1 else "have"
+def line_of(file, number):
+    """What a journal has in a line, and what belongs there."""
+    form = HEAD if number == 1 else ENTRY
+    text = read_again(file, JUDGED) if is_file(file) else None
+    lines = [] if text is None else text.split(b"\n")
+    if number > len(lines):
+        return f"is none of a journal: {form}"
+    line = lines[number - 1]
+    return f"is {repr(line[:40].decode('latin-1')) if line else 'empty'}: {form}"

@@ -10,14 +10,17 @@ ENDING = (signal.SIGHUP, signal.SIGINT, signal.SIGQUIT, signal.SIGTERM)
 
 
 class Children:
-    """Runs one child at a time. A signal that asks to end is handed on to it, and obeyed once it has ended."""
+    """Runs one child at a time. A signal that asks to end is handed on to it, and obeyed once it has ended. At SIGUSR1
+    `shows`, where it is set, says how far the child is."""
 
     def __init__(self):
         self.asked = None
         self.running = None
+        self.shows = None
         for number in ENDING:
             if signal.getsignal(number) is not signal.SIG_IGN:
                 signal.signal(number, self.hand_on)
+        signal.signal(signal.SIGUSR1, self.show)
 
     def hand_on(self, number, _frame):
         self.asked = self.asked or number
@@ -28,6 +31,10 @@ class Children:
                 os.killpg(self.running.pid, number)
             else:
                 self.running.send_signal(number)
+
+    def show(self, _number, _frame):
+        if self.shows is not None:
+            self.shows()
 
     def start(self, words, **how):
         """Starts a child; one with `start_new_session` gets a signal with all that it started."""

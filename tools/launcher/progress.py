@@ -4,6 +4,8 @@ import os
 import re
 import time
 
+from launcher.times import shown
+
 BEGINS = re.compile(rb"rt: chose --jobs \d+ for (\w+)")
 SO_FAR = re.compile(rb"so far: (\d+) of (\d+) functions checked")
 ENDS = re.compile(rb"crate (\w+): modules")
@@ -13,12 +15,11 @@ EACH = 60  # seconds between lines where none can be written over
 class Progress:
     """Shows one line: on a terminal it is written over each second; else it comes once a minute and for each crate."""
 
-    def __init__(self, crates, voice):
-        self.crates = crates
-        self.voice = voice
+    def __init__(self, crates, times, voice):
+        self.crates, self.times, self.voice = crates, times, voice
         self.at = 0
         self.checked = None
-        self.began = time.monotonic()
+        self.began = self.entered = time.monotonic()
         self.shown = 0.0
         self.is_terminal = os.isatty(2)
 
@@ -29,17 +30,27 @@ class Progress:
         elif found := BEGINS.match(line) or ENDS.match(line):
             name = found[1].decode()
             if name in self.crates:
-                self.enter(self.crates.index(name) + (found.re is ENDS))
+                self.enter(name, found.re is ENDS)
 
-    def enter(self, at):
-        if self.at < at < len(self.crates):
-            self.at, self.checked, self.shown = at, None, 0.0
+    def enter(self, name, has_ended):
+        place, now = self.crates.index(name), time.monotonic()
+        if has_ended and place == self.at and self.checked is not None:
+            self.times.add(name, now - self.entered)
+        at = place + has_ended
+        if self.at < at <= len(self.crates):
+            self.at, self.checked, self.shown, self.entered = at, None, 0.0, now
+
+    def left(self):
+        """Seconds that are left, by the times of the crates that are not proved."""
+        rest = sum(self.times.of(it) for it in self.crates[self.at :])
+        return max(rest - (time.monotonic() - self.entered), 0)
 
     def line(self):
-        spent = int(time.monotonic() - self.began)
-        functions = "" if self.checked is None else " {} of {} functions,".format(*self.checked)
-        place = f"{self.crates[self.at]}, crate {self.at + 1} of {len(self.crates)}"
-        return f"proves {place}:{functions} {spent // 60} min {spent % 60:02} s so far"
+        so_far = f"{self.at} of {len(self.crates)} crates proved, {shown(time.monotonic() - self.began)} so far"
+        if self.at == len(self.crates):
+            return f"{so_far}: builds the program"
+        functions = "" if self.checked is None else ", {} of {} functions".format(*self.checked)
+        return f"{so_far}, about {shown(self.left())} left; {self.crates[self.at]}{functions}"
 
     def show(self):
         now = time.monotonic()
@@ -56,18 +67,3 @@ class Progress:
         """Leaves the terminal's line to what comes next."""
         if self.is_terminal and not self.voice.is_quiet:
             os.write(2, b"\r\x1b[K")
-
-
-def crates_below(listed, crate):
-    """Returns the crates in the order in which rt proves them, the given one last; `listed` is crates.txt."""
-    lines = (line.partition(":") for line in listed.splitlines() if line.strip() and not line.startswith("#"))
-    uses = {name.split()[0]: names.split() for name, _, names in lines if name.split()}
-
-    def before(name):
-        found = []
-        for it in uses[name]:
-            if it in uses:
-                found += [more for more in [*before(it), it] if more not in found]
-        return found
-
-    return [*before(crate), crate] if crate in uses else [crate]

@@ -10,12 +10,21 @@ import shutil
 import subprocess
 import time
 
-from launcher.place import CRATE, CRATE_FOLDER, TOP
-from launcher.progress import Progress, crates_below
+from launcher.place import CRATE, CRATE_FOLDER, TOP, shown
+from launcher.progress import Progress
 from launcher.sources import Sources
-from launcher.voice import Refused, reason
+from launcher.times import Times
+from launcher.times import shown as shown_time
+from launcher.voice import Refused, quoted, reason
 
 TOOLCHAIN_MISSING = "no command rt on the PATH: the Rattle toolchain has it, and it proves and builds the program"
+
+
+def sum_of_sources():
+    try:
+        return Sources(TOP, os.path.basename(CRATE)).sum()
+    except OSError as it:
+        raise Refused(f"the sources can't be read and summed ({reason(it)}): nothing was run") from None
 
 
 class Proved:
@@ -23,30 +32,30 @@ class Proved:
 
     def __init__(self, children, voice):
         self.children, self.voice = children, voice
-        self.sources = Sources(TOP)
+        self.sources = Sources(TOP, os.path.basename(CRATE))
         self.out = os.path.join(CRATE_FOLDER, "out")
         self.program = os.path.join(self.out, "flake_program")
         self.note = f"{self.program}.proved"
         self.log = os.path.join(self.out, "build.log")
 
     def see_to_it(self):
-        """Returns the program's path."""
+        """Returns the words that start the program."""
         if not os.path.isdir(CRATE_FOLDER):
             raise Refused(f"there is no {CRATE} beside this command")
-        self.sum = self.sum_of_sources()
-        if not self.is_noted():
-            if self.is_of_gate():
-                self.write_note()
-            else:
-                self.build()
+        self.sum = sum_of_sources()
+        if not self.is_known():
+            self.build()
         self.voice.note("the program that runs was proved from the sources as they stand")
-        return self.program
+        return [self.program]
 
-    def sum_of_sources(self):
-        try:
-            return self.sources.sum()
-        except OSError as it:
-            raise Refused(f"the sources can't be read and summed ({reason(it)}): nothing was run") from None
+    def is_known(self):
+        """Whether it was proved from these sources, and that is noted."""
+        if self.is_noted():
+            return True
+        if self.is_of_gate():
+            self.write_note()
+            return True
+        return False
 
     def noted(self):
         """Returns what the note has where the program was proved from these sources."""
@@ -92,7 +101,7 @@ class Proved:
                     "nothing was run. Call it in a clone of your own, or with --unproved"
                 ) from None
             self.run_rt(log)
-            if self.sum_of_sources() != self.sum:
+            if sum_of_sources() != self.sum:
                 raise Refused("the sources changed while they were proved, so nothing was run: call this again")
             self.write_note()  # (before the next call has its turn, so that it finds the note)
 
@@ -112,29 +121,30 @@ class Proved:
                 self.children.stop_if_asked(self.voice.say, "nothing was run")
 
     def run_rt(self, log):
+        times = Times(os.path.join(self.out, "times"))
+        progress = Progress(self.sources.crates(), times, self.voice)
         self.voice.note(
-            "proves and builds the program now: about ten minutes the first time, on a machine with four free "
-            f"processors, and less after an edit (rt's words: {shown(self.log)})"
+            f"proves and builds the program first, {len(progress.crates)} crates: about {shown_time(progress.left())} "
+            f"by the last times, and less after an edit (rt's words: {quoted(shown(self.log))})"
         )
+        self.children.shows = lambda: self.voice.say(progress.line())
         # (served an empty file, the program ends with status 0 and writes no file)
         words = ["rt", "run", "--", "serve", "/dev/null"]
         how = {"stdin": subprocess.DEVNULL, "stdout": subprocess.PIPE, "stderr": subprocess.STDOUT}
         rt = self.children.start(words, cwd=CRATE_FOLDER, start_new_session=True, **how)
-        last = self.follow(rt, log)
+        last = self.follow(rt, log, progress)
         status = rt.wait()
+        self.children.shows = None
         left = "the program isn't proved yet, and nothing was run; what was proved is kept"
         self.children.stop_if_asked(self.voice.say, left)
         if status or not os.access(self.program, os.X_OK):
             with contextlib.suppress(OSError):
                 os.write(2, b"".join(it + b"\n" for it in last))
-            raise Refused(
-                f"the program was NOT proved and built, so nothing was run (all of rt's words: {shown(self.log)})"
-            )
+            words = quoted(shown(self.log))
+            raise Refused(f"the program was NOT proved and built, so nothing was run (all of rt's words: {words})")
 
-    def follow(self, rt, log):
+    def follow(self, rt, log, progress):
         """Copies what rt writes into the log, shows how far it is, and returns its last lines."""
-        with open(os.path.join(TOP, "crates.txt"), encoding="utf-8") as listed:
-            progress = Progress(crates_below(listed.read(), os.path.basename(CRATE)), self.voice)
         last, rest = collections.deque(maxlen=20), b""
         while True:
             if select.select([rt.stdout], [], [], 1)[0]:
@@ -150,8 +160,3 @@ class Proved:
             progress.show()
         progress.end()
         return [*last, rest] if rest else list(last)
-
-
-def shown(path):
-    """Returns a path as it is shortest from here."""
-    return min(path, os.path.relpath(path), key=len)

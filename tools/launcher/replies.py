@@ -1,11 +1,13 @@
-"""The files of replies, in the folder of the call: who may write them, and what becomes of those that are there."""
+"""The files of replies, in the folder where they are written: who may write them, and what becomes of those that are
+there."""
 
 import fcntl
 import itertools
 import os
 import stat
 
-from launcher.voice import Refused, reason
+from launcher.renamed import rename_new
+from launcher.voice import Refused, quoted, reason
 
 
 def replies_of(count):
@@ -13,15 +15,15 @@ def replies_of(count):
     return [f"out{number}.resp" for number in range(count)]
 
 
-def names_of(count):
-    """Those files in words."""
-    return "out0.resp" if count == 1 else f"out0.resp to out{count - 1}.resp"
+def names_of(names):
+    """Names of files in words."""
+    return quoted(names[0]) if len(names) == 1 else f"{quoted(names[0])} to {quoted(names[-1])}"
 
 
-def lock_folder():
-    """Returns what holds this folder for one run: no file, and it ends with the last process that has it."""
+def lock_folder(name):
+    """Returns what holds a folder for one run: no file, and it ends with the last process that has it."""
     try:
-        folder = os.open(".", os.O_RDONLY | os.O_DIRECTORY)
+        folder = os.open(name or ".", os.O_RDONLY | os.O_DIRECTORY)
         fcntl.flock(folder, fcntl.LOCK_EX | fcntl.LOCK_NB)
     except BlockingIOError:
         raise Refused(
@@ -29,36 +31,25 @@ def lock_folder():
             "Wait for it, or call this in another folder"
         ) from None
     except OSError as it:
-        raise Refused(f"this folder can't be locked for one run ({it.strerror}): nothing was run") from None
+        which = quoted(name) if name else "this folder"
+        raise Refused(f"{which} can't be locked for one run ({it.strerror}): nothing was run") from None
     return folder
 
 
-def refuse_replies_as_requests(files, others):
-    """Refuses a file of requests, or one of the others, that the replies to these files would overwrite."""
-    for file in [*others, *files]:
-        for replies in replies_of(len(files)):
+def refuse_replies_as_requests(files, names):
+    """Refuses a file that is read, and that files of replies would overwrite."""
+    for file in files:
+        for replies in names:
             if is_same(file, replies):
                 raise Refused(
-                    f"{file} is the same file as {replies}, which the replies would overwrite: nothing was run or "
-                    "touched. Give it another name, or call this in another folder"
+                    f"{quoted(file)} is the same file as {quoted(replies)}, which the replies would overwrite: "
+                    "nothing was run or touched. Give it another name, or call this in another folder"
                 )
 
 
 def is_same(file, other):
     try:
         return os.path.samefile(file, other)
-    except OSError:
-        return False
-
-
-def can_be_read(file):
-    """Whether requests can be read there. A pipe isn't opened for this, which its writer would see."""
-    try:
-        kind = os.stat(file).st_mode
-        if stat.S_ISREG(kind):
-            with open(file, "rb"):
-                return True
-        return (stat.S_ISFIFO(kind) or stat.S_ISCHR(kind)) and os.access(file, os.R_OK)
     except OSError:
         return False
 
@@ -71,16 +62,54 @@ def would_be_lost(replies):
         return os.path.lexists(replies)
 
 
-def move_aside(count, say):
-    """Gives replies of before another name; of a link, the link itself."""
-    for replies in filter(would_be_lost, replies_of(count)):
-        asides = (f"{replies}.~{number}~" for number in itertools.count(1))
-        aside = next(it for it in asides if not os.path.lexists(it))
+class Earlier:
+    """Replies that were there before a run, which get another name for its time, and keep that where it writes any."""
+
+    def __init__(self, names, voice):
+        self.names, self.voice = names, voice
+        self.moved = {}
+
+    def move_aside(self):
+        """Of a link, the link itself is moved."""
+        for replies in filter(would_be_lost, self.names):
+            try:
+                self.moved[replies] = move_one(replies)
+            except OSError as it:
+                self.give_names_back()
+                would = f"would be taken for this run's replies ({reason(it)}): nothing was run"
+                raise Refused(f"{quoted(replies)} can't be moved aside, and {would}") from None
+            name, aside = quoted(replies), quoted(self.moved[replies])
+            self.voice.say(f"{name} of before is now {aside}; to have it back: mv -- {aside} {name}")
+
+    def are_written(self):
+        """Whether the run wrote a file of replies."""
+        return any(map(would_be_lost, self.names))
+
+    def bring_back(self):
+        """Where no replies were written, those of before have their names again."""
+        if self.moved and not self.are_written():
+            self.give_names_back()
+
+    def give_names_back(self):
+        for replies, aside in self.moved.items():
+            try:
+                rename_new(aside, replies)
+            except OSError as it:
+                self.voice.say(f"{quoted(aside)} can't be renamed back to {quoted(replies)} ({reason(it)})")
+            else:
+                self.voice.say(f"nothing was written: {quoted(replies)} is again the one of before")
+        self.moved = {}
+
+
+def move_one(replies):
+    """Moves one file to the next name that is free, and returns that."""
+    for number in itertools.count(1):
+        aside = f"{replies}.~{number}~"
+        if os.path.lexists(aside):
+            continue
         try:
-            os.rename(replies, aside)
-        except OSError as it:
-            raise Refused(
-                f"{replies} can't be moved aside, and would be taken for this run's replies ({reason(it)}): "
-                "nothing was run"
-            ) from None
-        say(f"{replies} of before is now {aside}; to have it back: mv -- {aside} {replies}")
+            rename_new(replies, aside)
+        except FileExistsError:
+            continue
+        return aside
+    raise AssertionError("numbers don't end")

@@ -1,120 +1,169 @@
-"""A run of the program as `rt try` compiles it: nothing is proved of it.
+"""The program as `rt try` compiles it: nothing is proved of it. What was compiled is kept, by the sum of its sources.
 
-rt try runs the program in a folder of its own that goes when it has ended. So the program is given a pipe for each file
-of requests: it waits at the first until its folder is known, and has a link to each file of replies.
+rt try compiles the program in a folder of its own, runs it there, and removes it then. So it is given a pipe to read:
+while the program waits there, its file is copied, with the words by which it was started, since the toolchain may have
+a loader of its own.
 """
 
 import contextlib
 import errno
 import glob
+import hashlib
+import json
 import os
-import re
 import shutil
 import subprocess
 import tempfile
 import time
 
-from launcher.place import CRATE_FOLDER
-from launcher.proved import TOOLCHAIN_MISSING
-from launcher.replies import can_be_read, move_aside, names_of, replies_of
-from launcher.typed import checked_places, generated_sessions, schedule_place, schedules, served_places
-from launcher.voice import Refused
+from launcher.place import CRATE_FOLDER, shown
+from launcher.proved import TOOLCHAIN_MISSING, sum_of_sources
+from launcher.times import shown as shown_time
+from launcher.voice import Refused, reason
 
-ENDED = re.compile(rb"^run=ended status=(\d+) .*proved=no$", re.M)
+SLOW = "it checks each of its steps, which makes it many times slower: read no speed off it"
+TICK = 0.05
 
 
-def run(words, folder, children, voice):
-    """Returns the program's status; what holds the folder is handed on to rt."""
-    if not shutil.which("rt"):
-        raise Refused(TOOLCHAIN_MISSING, 127)
-    voice.say("NOTHING IS PROVED of this run: rt try compiles the program, about half a minute, and then runs it")
-    if generated_sessions(words):
-        voice.say("the replies to generated requests aren't kept")
-    named = [*(checked_places(words) or []), schedule_place(words)]
-    words = [os.path.abspath(word) if place in named else word for place, word in enumerate(words)]
-    places = served_places(words) or []
-    files = [words[place] for place in places]
-    with tempfile.TemporaryDirectory(prefix="vepkhundi-") as room:
-        are_served = all(map(can_be_read, [*schedules(words), *files]))
-        pipes = [os.path.join(room, f"requests{number}") for number in range(len(files))]
-        for place, file, pipe in zip(places, files, pipes):
-            words = [*words[:place], pipe if are_served else os.path.abspath(file), *words[place + 1 :]]
-            os.mkfifo(pipe)
-        with open(os.path.join(room, "said"), "w+b") as said:
-            how = {"env": {**os.environ, "TMPDIR": room}, "stdin": subprocess.DEVNULL, "stderr": said}
-            how["pass_fds"] = () if folder is None else (folder,)
-            rt = ["rt", "try", "--seconds", "86400", "--", *words]
-            rt = children.start(rt, cwd=CRATE_FOLDER, start_new_session=True, **how)
-            cut = feed(files, pipes, rt, voice) if files and are_served else []
-            rt.wait()
-            said.seek(0)
-            told = said.read()
-    left = f"{names_of(max(1, len(files)))} has the replies that were written until then, if any"
-    children.stop_if_asked(voice.say, left)
-    ended = ENDED.search(told)
-    if not ended:
+class Unproved:
+    """Sees to it that there is a program compiled from the sources as they stand. `stack` ends with this command."""
+
+    def __init__(self, children, voice, stack):
+        self.children, self.voice, self.stack = children, voice, stack
+
+    def see_to_it(self):
+        """Returns the words that start the program."""
+        self.sum = sum_of_sources()
+        self.folder = self.folder_to_keep()
+        self.program = os.path.join(self.folder, "flake_program")
+        self.note, self.before = f"{self.program}.compiled", []
+        if not self.is_noted():
+            self.compile()
+        self.voice.say(f"NOTHING IS PROVED of this run, and {SLOW}")
+        return [*self.before, self.program]
+
+    def folder_to_keep(self):
+        """Returns where what is compiled is kept; in a clone that can't be written, a folder that goes at the end."""
+        kept = os.path.join(CRATE_FOLDER, "out", "unproved")
         with contextlib.suppress(OSError):
-            os.write(2, told)
-        raise Refused("rt try didn't run the program to its end (its words are above)")
-    for file in cut:
-        voice.say(f"{file} couldn't be read to its end: what was said is true of what was read")
-    return 4 if cut else int(ended[1])
+            os.makedirs(kept, exist_ok=True)
+        if os.access(os.path.join(kept, "flake_program"), os.X_OK) or os.access(kept, os.W_OK):
+            return kept
+        return self.stack.enter_context(tempfile.TemporaryDirectory(prefix="vepkhundi-"))
 
+    def noted(self):
+        with open(self.program, "rb") as it:
+            return {"sources": self.sum, "program": hashlib.sha256(it.read()).hexdigest()}
 
-def feed(files, pipes, rt, voice):
-    """Gives the program its requests, once it has links to the files of replies. Returns the files that couldn't be
-    read to their ends."""
-    readers = []
-    for file, pipe in zip(files, pipes):
-        end = open_where_read(pipe, rt)
-        if end is None:
-            break
+    def is_noted(self):
+        """Whether the program that is kept was compiled from these sources; then `before` is what starts it."""
+        with contextlib.suppress(OSError, ValueError, TypeError):
+            with open(self.note, encoding="utf-8") as it:
+                noted = json.load(it)
+            self.before = noted.pop("before")
+            return os.access(self.program, os.X_OK) and noted == self.noted()
+        return False
+
+    def compile(self):
+        if not shutil.which("rt"):
+            raise Refused(TOOLCHAIN_MISSING, 127)
+        self.voice.say(f"compiles the program without its proof, once for these sources: {shown(self.folder)}")
+        self.began = time.monotonic()
+        self.children.shows = lambda: self.voice.say(self.line())
         try:
-            if not readers:
-                link_replies(len(files), folder_of_reader(pipe, rt), voice)
-            # (a process of its own, since a read of a pipe that waits can't be given up)
-            readers.append((file, subprocess.Popen(["cat", "--", file], stdout=end)))
-        except BaseException:
-            rt.terminate()
-            rt.wait()
-            raise
+            with tempfile.TemporaryDirectory(prefix="vepkhundi-") as room:
+                self.compile_in(room)
+            if sum_of_sources() != self.sum:
+                raise Refused("the sources changed while they were compiled, so nothing was run: call this again")
+            with open(self.note, "w", encoding="utf-8") as it:
+                json.dump({**self.noted(), "before": self.before}, it)
+        except OSError as it:
+            raise Refused(f"the program can't be compiled and kept ({reason(it)}): nothing was run") from None
+        finally:
+            self.children.shows = None
+            self.clear()
+        self.voice.note(f"compiled in {shown_time(time.monotonic() - self.began)}")
+
+    def compile_in(self, room):
+        pipe = os.path.join(room, "requests")
+        os.mkfifo(pipe)
+        with open(os.path.join(room, "said"), "w+b") as said:
+            how = {"env": {**os.environ, "TMPDIR": room}, "stdin": subprocess.DEVNULL, "stdout": said, "stderr": said}
+            rt = ["rt", "try", "--seconds", "86400", "--", "serve", pipe]
+            rt = self.children.start(rt, cwd=CRATE_FOLDER, start_new_session=True, **how)
+            try:
+                is_copied = self.copy_once_it_reads(pipe, room, rt)
+            finally:
+                if rt.poll() is None:
+                    rt.terminate()
+                rt.wait()
+            self.children.stop_if_asked(self.voice.say, "nothing was written")
+            if not is_copied:
+                self.clear()
+                said.seek(0)
+                with contextlib.suppress(OSError):
+                    os.write(2, said.read())
+                raise Refused("rt try didn't compile the program (its words are above), so nothing was run")
+
+    def copy_once_it_reads(self, pipe, room, rt):
+        """Copies the program while it waits for a byte. Returns whether it did; it doesn't where rt ends before."""
+        while (end := open_where_read(pipe)) is None:
+            self.show()
+            if rt.poll() is not None:
+                return False
+            time.sleep(TICK)
+        try:
+            while rt.poll() is None:
+                if words := words_that_read(pipe, room):
+                    *self.before, file = words
+                    shutil.copy(file, f"{self.program}.new")
+                    os.chmod(f"{self.program}.new", 0o755)
+                    os.replace(f"{self.program}.new", self.program)
+                    return True
+                time.sleep(TICK)
         finally:
             os.close(end)
-    rt.wait()
-    for _, reader in readers:
-        reader.kill()
-    return [file for file, reader in readers if reader.wait() > 0]
+        return False
+
+    def line(self):
+        return f"compiles the program: {shown_time(time.monotonic() - self.began)} so far"
+
+    def show(self):
+        if os.isatty(2) and not self.voice.is_quiet:
+            os.write(2, b"\r\x1b[K" + self.line().encode())
+
+    def clear(self):
+        if os.isatty(2) and not self.voice.is_quiet:
+            os.write(2, b"\r\x1b[K")
 
 
-def link_replies(count, folder, voice):
-    """Has what the program writes in that folder go to this one."""
-    move_aside(count, voice.say)
-    for replies in replies_of(count):
-        os.symlink(os.path.abspath(replies), os.path.join(folder, replies))
-
-
-def open_where_read(pipe, rt):
-    """Returns the pipe's writing end once the program reads it, or None where it never does."""
-    while rt.poll() is None:
-        try:
-            end = os.open(pipe, os.O_WRONLY | os.O_NONBLOCK)
-        except OSError as it:
-            if it.errno != errno.ENXIO:
-                raise
-            time.sleep(0.02)
-        else:
-            os.set_blocking(end, True)
-            return end
+def open_where_read(pipe):
+    """Returns the pipe's writing end, or None while nobody reads it."""
+    try:
+        return os.open(pipe, os.O_WRONLY | os.O_NONBLOCK)
+    except OSError as it:
+        if it.errno != errno.ENXIO:
+            raise
     return None
 
 
-def folder_of_reader(pipe, rt):
-    """Returns the folder in which the program runs: it is the process that has the pipe open, beside this one."""
-    while rt.poll() is None:
-        for link in glob.glob("/proc/[0-9]*/fd/*"):
-            with contextlib.suppress(OSError):
-                process = link.split("/")[2]
-                if int(process) != os.getpid() and os.readlink(link) == pipe:
-                    return os.readlink(f"/proc/{process}/cwd")
-        time.sleep(0.02)
-    raise Refused("the folder in which rt try runs the program isn't found: nothing was run")
+def words_that_read(pipe, room):
+    """Returns the words that started the process which has the pipe open, beside this one, up to the program that rt
+    made in this room; or none."""
+    for link in glob.glob("/proc/[0-9]*/fd/*"):
+        with contextlib.suppress(OSError):
+            process = link.split("/")[2]
+            if int(process) != os.getpid() and os.readlink(link) == pipe:
+                return words_of(f"/proc/{process}", room)
+    return None
+
+
+def words_of(process, room):
+    folder = os.readlink(f"{process}/cwd")
+    with open(f"{process}/cmdline", "rb") as it:
+        words = list(map(os.fsdecode, it.read().split(b"\0")))
+    files = (os.path.join(folder, word) for word in words)
+    for place, file in enumerate(files):
+        if file.startswith(f"{room}/") and os.path.isfile(file):
+            return [*words[:place], file]
+    return None

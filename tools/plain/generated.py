@@ -48,7 +48,8 @@ def request(session, draws):
 
 
 def generated(seed, session, count):
-    """The requests of a session, as lists of words: each shared key and each own key is set once, and then what is drawn."""
+    """The requests of a session, as lists of words: each shared key and each own key is set once, and then comes what
+    is drawn."""
     draws = Draws(seed + session)
     for number in range(min(count, 16)):
         yield [b"SET", shared(number), shared_value(session, number)]

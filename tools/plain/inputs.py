@@ -23,50 +23,62 @@ def is_front(line, form, most):
     return form.fullmatch(line) is not None and (not digits.isdigit() or int(digits) <= most)
 
 
+class Stops(Exception):
+    """How an input ends within a request, and how many of its bytes are judged by then."""
+
+    def __init__(self, how, judged):
+        super().__init__(how)
+        self.how, self.judged = how, judged
+
+
 def read_line(text, at, form, most, errors):
-    """Returns the number of a line, and the place behind it; or how the input ends within the line: `errors` are
-    those of its first byte and of the others."""
+    """Returns the number of a line, and the place behind it. `errors` are those of its first byte and of the
+    others."""
     whole = text.find(b"\n", at, at + LINE)
     if whole >= 0 and is_front(text[at : whole + 1], form, most):
         return int(text[at + 1 : whole]), whole + 1
     for size in range(1, LINE + 1):
         line = text[at : at + size]
         if len(line) < size:
-            return CUT, None
+            raise Stops(CUT, len(text))
         if not is_front(line, form, most):
-            return errors[size > 1], None
+            raise Stops(errors[size > 1], at + size)
         if line.endswith(b"\r\n"):
             return int(line[1:]), at + size
     raise AssertionError("no such line is longer")
 
 
-def end_within(text, at):
-    """How an input ends in the request or skip that begins at a place, or the place behind it."""
+def behind_request(text, at):
+    """Returns the place behind the request or skip that begins at a place."""
     count, at = read_line(text, at, COUNT, MOST_WORDS, (INLINE, BAD_COUNT))
-    if at is None:
-        return count
     for _ in range(count):
         length, at = read_line(text, at, LENGTH, MOST_WORD, (NO_BULK, BAD_LENGTH))
-        if at is None:
-            return length
         line_end = text[at + length : at + length + 2]
         if not b"\r\n".startswith(line_end):
-            return BAD_LENGTH
+            raise Stops(BAD_LENGTH, at + length + (2 if line_end[:1] == b"\r" else 1))
         if len(line_end) < 2:
-            return CUT
+            raise Stops(CUT, len(text))
         at += length + 2
     return at
 
 
+def how_it_ends(text):
+    """Returns how an input ends, the place of what no request has there, or of the request that isn't whole, and how
+    many bytes are taken."""
+    judged, at = text[:MOST_BYTES], 0
+    try:
+        while at < len(judged):
+            at = behind_request(judged, at)
+    except Stops as it:
+        if it.how == CUT:
+            return (TOO_LONG, at, len(judged)) if len(text) > MOST_BYTES else (CUT, at, len(judged))
+        return it.how, it.judged - 1, it.judged
+    return TOO_LONG if len(text) > MOST_BYTES else CLEAN, at, len(judged)
+
+
 def end_of(text):
     """How an input ends: one of the three, or the text of the error that its last reply has."""
-    judged, at = text[:MOST_BYTES], 0
-    while at < len(judged):
-        end = end_within(judged, at)
-        if isinstance(end, str):
-            return TOO_LONG if end == CUT and len(text) > MOST_BYTES else end
-        at = end
-    return TOO_LONG if len(text) > MOST_BYTES else CLEAN
+    return how_it_ends(text)[0]
 
 
 def commands_of(text, end):

@@ -1,4 +1,5 @@
-"""A plain store: a dictionary, and what a part of a request answers and leaves there. It shares nothing with the server."""
+"""A plain store: a dictionary, and what a part of a request answers and leaves there. It shares nothing with the
+server."""
 
 from plain.requests import MOST_VALUE
 

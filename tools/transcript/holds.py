@@ -2,7 +2,9 @@
 
 import re
 
+from plain.placed import NONE_FREE
 from plain.pool import FIRST, LARGE, SMALL
+from plain.replies import reply, text_of
 from plain.requests import MOST_VALUE, parts_of
 from plain.store import answer
 
@@ -45,7 +47,7 @@ class Frame:
     """A reply, by its session and call, and in which lines it was posted and gathered."""
 
     def __init__(self, session, call, begins):
-        self.session, self.call, self.begins = session, call, begins
+        self.session, self.call, self.begins, self.size = session, call, begins, 0
         self.gathered, self.was_dropped, self.holds = None, False, []
 
 
@@ -88,6 +90,7 @@ class Transcript:
             return self.add(line, "nothing there")
         if found := HELD.fullmatch(line):
             self.is_whole = True
+            self.judge_held(int(found[1]), int(found[2]))
             return self.lines.append(Line("held", f"{found[1]} small, {found[2]} large"))
         return self.refuse("no line of a transcript")
 
@@ -99,22 +102,35 @@ class Transcript:
             self.refuse(f"there is no input of session {number}")
         return int(number)
 
-    def buffer(self, address):
+    def buffer(self, address, length=0):
+        """Returns the buffer at an address, in which so many bytes are to lie."""
         found = Buffer(int(address), self.small)
+        if int(address) < FIRST or int(address) + length > found.address + (SMALL if found.is_small else LARGE):
+            self.refuse(f"{length} bytes at {address} don't lie in one buffer")
         return self.buffers.setdefault(found.address, found)
 
-    def gather(self, session, call, dropped, _bytes):
+    def judge_held(self, small, large):
+        """The last line counts the buffers that the stored values have."""
+        kinds = [self.buffers[address].is_small for hold in self.stored.values() for address in hold]
+        if (kinds.count(True), kinds.count(False)) != (small, large):
+            self.refuse(f"the values have {kinds.count(True)} small buffers and {kinds.count(False)} large ones")
+
+    def gather(self, session, call, dropped, size):
         frame = next((it for it in self.waiting[session] if it.gathered is None), None)
         if frame is None or frame.call != int(call):
             self.refuse(f"reply {call} is not the next to be gathered")
+        if int(size) != frame.size:
+            self.refuse(f"reply {call} has {frame.size} bytes")
         frame.gathered, frame.was_dropped = self.at, dropped is not None
         return f"reply {call} is dropped" if dropped else f"reply {call} is sent"
 
-    def reap(self, session, call, _recycled):
+    def reap(self, session, call, recycled):
         frames = self.waiting[session]
         if not frames or frames[0].call != int(call) or frames[0].gathered is None:
             self.refuse(f"reply {call} is not the next to be taken back")
-        self.take_back(session)
+        freed = self.take_back(session)
+        if int(recycled) != freed:
+            self.refuse(f"nobody holds {freed} of its stored buffers any more")
         return f"reply {call} is taken back"
 
     def refuse_call(self, session, why):
@@ -126,8 +142,12 @@ class Transcript:
         return f"the {why} has no room"
 
     def take_back(self, session):
-        for hold in self.waiting[session].pop(0).holds:
+        """Returns how many of the stored buffers that a reply held nobody holds any more."""
+        frame = self.waiting[session].pop(0)
+        for hold in frame.holds:
             hold.ends = self.at
+        held = (it for it in self.buffers.values() if any(hold.frame is frame for hold in it.holds))
+        return sum(not it.is_of_stage and all(hold.ends is not None for hold in it.holds) for it in held)
 
     def post(self, session, call, reaped, sent, stored):
         """A call that was posted: its segments are held by its frame until that is reaped."""
@@ -141,14 +161,27 @@ class Transcript:
         frame = Frame(session, int(call), self.at)
         self.waiting[session].append(frame)
         self.hold(frame, places(sent))
-        words = self.sessions[session][frame.call] if frame.call < len(self.sessions[session]) else None
-        for part in parts_of(words) if words else []:
-            self.do(part, places(stored or ""))
-        return "an error" if words is None else " ".join(map(self.word, words))
+        if frame.call >= len(self.sessions[session]):
+            self.refuse(f"the input of session {session} has no call {call}")
+        words = self.sessions[session][frame.call]
+        text = self.run(words, places(stored or ""))
+        frame.size = sum(length for _, length in places(sent))
+        if frame.size != len(text):
+            self.refuse(f"{frame.size} bytes are sent, and the reply has {len(text)}")
+        return "an error" if isinstance(words, str) else " ".join(map(self.word, words))
+
+    def run(self, words, stored):
+        """Returns the text of a reply, once its parts are done; that of an error stands in the place of words."""
+        if isinstance(words, str):
+            return text_of(words)
+        parts = parts_of(words)
+        if stored and len(parts) != 1:
+            self.refuse("this command stores nothing")
+        return reply(words, [self.do(part, stored) for part in parts])
 
     def hold(self, frame, segments):
         """A frame holds a buffer of the stage once, and a stored one for each of its segments."""
-        for address in {self.buffer(address).address: None for address, _ in segments}:
+        for address in {self.buffer(*segment).address: None for segment in segments}:
             buffer = self.buffers[address]
             is_stored = any(it.frame is None and it.ends is None for it in buffer.holds)
             buffer.is_of_stage = buffer.is_of_stage or not is_stored
@@ -159,27 +192,28 @@ class Transcript:
             buffer.holds.append(frame.holds[-1])
 
     def do(self, part, stored):
-        """Does a part on a plain store, and has the store hold what the line says."""
+        """Does a part on a plain store, has the store hold what the line says, and returns the answer."""
         before, was_there = self.values.get(part.key), part.key in self.values
         stores = is_storing(part, before)
-        answer(self.values, part)
+        answered = answer(self.values, part)
         value = self.values.get(part.key)
         if stores and value and not stored:
             # (no buffer was free, so the key has what it had)
             self.values.pop(part.key)
             if was_there:
                 self.values[part.key] = before
-            return
+            return NONE_FREE
         if sum(length for _, length in stored) != (len(value) if stores else 0):
             self.refuse("what is stored is not of the value's length")
         if stores or value is None:
             self.place(part.key, value, stored)
+        return answered
 
     def place(self, key, value, stored):
         """The store holds these buffers for a key, and no others."""
         old, now = self.stored.pop(key, {}), {}
-        for number, (address, _) in enumerate(stored, 1):
-            buffer = self.buffer(address)
+        for number, (address, length) in enumerate(stored, 1):
+            buffer = self.buffer(address, length)
             of_many = f", {number} of {len(stored)}" if stored[1:] else ""
             labels = [f"{self.word(key)} = {self.word(value)}{of_many}", f"{self.word(key)}{of_many}", self.word(key)]
             now[buffer.address] = old.pop(buffer.address, None) or Hold(self.at, labels)

@@ -1,25 +1,30 @@
 # Sourced by the scripts that check ./vepkhundi, behind counted.sh: a clone whose toolchain is a stand-in, which proves
 # nothing. Its program writes its folder and its words, copies the first FILE line by line to out0.resp for `serve FILE..`
 # and `drive SCHEDULE FILE..`, the second to out1.resp and so on, and ends with status ENDS, which is 7 if it isn't set.
-# OPENED names a file that gets the program's open files.
+# OPENED names a file that gets the program's open files, and IGNORED one that gets the signals that it ignores. SAYS is
+# what it says in the place of its folder and words. WAITS names a file that it writes before it waits for a minute.
 
 home="$room/a folder 'of' \$its own"
 crate=$home/crates/flake_program
 chmod 711 "$room"
 mkdir -p "$crate/src" "$home/crates/low/proofs" "$home/.git" "$home/tools" "$room/bin" "$room/calls"
 cp "$top/vepkhundi" "$home"
-[[ ! -d $top/tools/launcher ]] || cp -r "$top/tools/launcher" "$home/tools"
+cp -r "$top"/tools/{launcher,plain} "$home/tools"
 printf 'one\n' | tee "$crate/src/main.rt" "$home/crates/low/proofs/Lib.antt" >"$home/HANDLES"
 printf '# From the bottom.\nlow:\nflake_program: low std\n' >"$home/crates.txt"
 
 cat >"$room/program" <<'END'
 #!/bin/sh
-pwd -P
-for word; do printf '<%s>' "$word"; done
+[ -n "${SAYS-}" ] || pwd -P
+[ -n "${SAYS-}" ] || for word; do printf '<%s>' "$word"; done
+printf "${SAYS-}"
+[ -z "${WAITS-}" ] || { echo waits >"$WAITS"; exec sleep 60; }
+[ -z "${IGNORED-}" ] || grep SigIgn /proc/$$/status >"$IGNORED"
 [ -z "${OPENED-}" ] || (ls -l "/proc/$$/fd" >"$OPENED")
 if [ "$1" = serve ] || [ "$1" = drive ]; then
   [ "$1" = serve ] || { shift; [ -f "${1-}" ] || set -- missing; }
   shift
+  [ "$1" != -- ] || shift
   session=0
   for file; do
     [ -r "$file" ] || break
@@ -50,7 +55,9 @@ if [ "$1" = try ]; then
   [ -z "${RT_FAILS-}" ] || exit 1
   while [ "$1" != -- ]; do shift; done
   shift
-  own=$(mktemp -d) && cd "$own" && sh "$RT_PROGRAM" "$@"
+  [ -z "${RT_WAITS-}" ] || { echo $$ >"$RT_WAITS"; exec sleep 60; }
+  [ -z "${RT_SLOW-}" ] || sleep "$RT_SLOW"
+  own=$(mktemp -d) && cd "$own" && cp "$RT_PROGRAM" program && chmod +x program && ./program "$@"
   echo "run=ended status=$? runners=1 proved=no" >&2
   rm -r "$own"
   exit 0
@@ -60,7 +67,7 @@ echo 'words of rt'
 [ -z "${RT_HELD-}" ] || waits_for test -e "$RT_HELD"
 [ -z "${RT_SHOWS-}" ] || {
   echo 'rt: chose --jobs 4 for low'; echo 'so far: 3 of 9 functions checked'; until_shown "$RT_SHOWS"
-  echo 'crate low: modules loaded=1 checked=2'; until_shown 'crate 2 of 2'
+  echo 'crate low: modules loaded=1 checked=2'; until_shown '1 of [23] crates'
 }
 [ -z "${RT_FAILS-}" ] || exit 1
 [ -z "${RT_EDITS-}" ] || echo edited >>src/main.rt

@@ -5,10 +5,12 @@ failed=0
 room=$(mktemp -d) || exit 1
 trap 'rm -rf -- "$room"' EXIT
 
-# check WHAT COMMAND..: one check, which passes where the command ends well; else what the command said is shown.
+# check WHAT COMMAND..: one check, which passes where the command ends well; else what the command said is shown. Where
+# CHECK_ONLY is set, those alone are run whose WHAT matches it.
 check() {
   what=$1
   shift
+  printf '%s\n' "$what" | grep -qE -- "${CHECK_ONLY-}" || return 0
   if "$@" >"$room/said_by_check" 2>&1; then
     passed=$((passed + 1))
     printf 'passed  %s\n' "$what"
