@@ -5,6 +5,7 @@ ghost use Rattle.flake_base.specs.declared.journal.Entry.{Entry};
 ghost use Rattle.flake_model.specs.Resp.{judged_bytes};
 ghost use Rattle.flake_model.specs.Command.{command_of};
 ghost use Rattle.dump_model.specs.Dump.{ParsedInput, commands_parsed, AreHome, IsServedAgain, dumped};
+ghost use Rattle.dump_model.specs.Seen.{SeenMakesDump};
 ghost use Rattle.dump_model.specs.Worked.{dump_table};
 
 /// A dump that isn't too long can be served again: it gives each shard what it had at its point.
@@ -14,6 +15,12 @@ pub fn served_again()
         → AreHome (commands_parsed inputs) journal
         → length (dumped (commands_parsed inputs) journal points) ≤ judged_bytes
         → IsServedAgain (commands_parsed inputs) journal points }
+{}
+
+/// With the seats of all shards, each of whose deeds does what its entry stands for, the text of what a session saw is
+/// the dump of the journal, and the points lie between the session's calls.
+pub fn dump_of_seen()
+    ensures { SeenMakesDump }
 {}
 
 /// The worked dumps are as their table says.
