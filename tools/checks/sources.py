@@ -70,12 +70,6 @@ def fields_of(path, record):
     return re.findall(r"^ +pub (\w+) :", body[1], re.M) if body else []
 
 
-def clauses_of(path, function):
-    """Returns the names of the clauses of a function."""
-    text = re.search(rf"\bfn {function}\b.*?^{{", sources()[path], re.M | re.S)
-    return re.findall(r"^\s*ensures (\w+) {", text[0], re.M) if text else []
-
-
 def libraries_unnamed():
     """A crate's line lists what its files name, and no more: a library that isn't needed has the crate proved again
     when it changes, and some kits of the toolchain go over its sources once for each path of listed libraries to it."""

@@ -7,10 +7,11 @@ from launcher import faults
 from launcher.opening import first_unopened, is_file, read_again
 from launcher.place import tool
 from launcher.schedule import MOST, first_bad, why_bad
-from launcher.table import CHECK, DRIVE, GEN, SERVE
+from launcher.table import CHECK, DRIVE, GEN, JOIN, SERVE
 from launcher.voice import quoted
 from plain.inputs import CLEAN, CUT, INLINE, TOO_LONG, how_it_ends
 
+DONE = {CHECK: "checked", JOIN: "joined"}  # what becomes of the files; those of other commands are served
 JUDGED = 67_108_864
 SESSION = re.compile(rb"session (\d+) (\w+)(?: (\d) at (\d+)| at (\d+))? taken (\d+) replies \d+ wire (whole|failed)")
 HEAD = "a journal begins with shards and a number from 1 to 16, as serve --journal prints it"
@@ -21,7 +22,7 @@ def after(ran, task):
     """Returns lines; none where the program's own say all."""
     if ran.status == 2:
         return [cannot_open(task)]
-    of_command = {SERVE: of_served, GEN: of_generated, DRIVE: of_driven, CHECK: of_checked}
+    of_command = {SERVE: of_served, GEN: of_generated, DRIVE: of_driven, CHECK: of_checked, JOIN: of_joined}
     return list(of_command[task.command](ran, task))
 
 
@@ -32,8 +33,8 @@ def cannot_open(task):
 
 
 def unopened(task, place, why):
-    done = "checked" if task.command == CHECK else "served"
-    typed = "" if task.command == CHECK else f": commands as they are typed become requests by {tool('to_resp')}"
+    done = DONE.get(task.command, "served")
+    typed = "" if task.command in DONE else f": commands as they are typed become requests by {tool('to_resp')}"
     return f"{quoted(task.opened[place])}: {why}. Nothing was {done}{typed}"
 
 
@@ -138,6 +139,23 @@ def of_checked(ran, task):
         yield f"{quoted(task.opened[int(number)])} has more than {most} bytes. Nothing was checked"
     elif ran.status in (5, 6):
         yield {5: faults.why_unsaid(ran.why_unsaid), 6: "memory ran out, so there is no verdict"}[ran.status]
+
+
+def of_joined(ran, task):
+    """Of frames that aren't put together, what is wrong with them."""
+    file = quoted(task.opened[0])
+    numbers = [int(it) for it in re.findall(rb"\d+", ran.said or b"")]
+    if ran.status == 4:
+        why = "it is a folder" if os.path.isdir(task.opened[0]) else "a read failed"
+        yield f"{file}: {why}. Nothing was joined"
+    elif ran.status == 7 and numbers:
+        yield f"{file}: frame {numbers[0]}, counted from 1, is refused, and nothing was joined: {tool('show_frames')} {file}"
+    elif ran.status == 8 and len(numbers) == 2:
+        yield f"{file}: call {numbers[0]} has no frame {numbers[1]}, counted from 0. Nothing was joined"
+    elif ran.status == 9:
+        yield f"{file} has more than {JUDGED} bytes. Nothing was joined"
+    else:
+        yield from of_writes(ran, task)
 
 
 def differs(said, task):

@@ -14,7 +14,7 @@ from launcher.refused_commands import refused_commands
 from launcher.replies import Earlier, lock_folder, refuse_replies_as_requests
 from launcher.schedule import judge_schedule
 from launcher.session_lines import session_lines
-from launcher.table import CHECK, COMMANDS, SERVE
+from launcher.table import CHECK, COMMANDS, JOIN, SERVE
 from launcher.unproved import Unproved
 from launcher.version import VERSION_WORDS, version
 from launcher.voice import Refused, Voice, quoted
@@ -83,7 +83,7 @@ def read_good_words(words):
         return read_task(words)
     except BadWords as it:
         more = f"{command()} help {words[0]}" if words[0] in COMMANDS else "--help"
-        done = "checked" if words[0] == CHECK else "served"
+        done = advice.DONE.get(words[0], "served")
         raise Refused(f"bad words: {it}. Nothing was {done} ({more} says more)", 1, "bad words") from None
 
 
@@ -92,7 +92,7 @@ def folder_of_replies(task, own):
     if own.out is None:
         return ""
     if task.command == CHECK:
-        raise Refused("bad words: check writes no replies, so --out stands before serve, drive or gen", 1, "bad words")
+        raise Refused("bad words: check writes no replies, so --out stands before serve, drive, gen or join", 1, "bad words")
     if not os.path.isdir(own.out):
         why = "it is no folder" if os.path.lexists(own.out) else "there is no such folder"
         raise Refused(f"--out {quoted(own.out)}: {why}. Nothing was run")
@@ -140,9 +140,14 @@ def report(came, task, own, voice):
     if task.command == SERVE and "--journal" in task.given and not voice.is_quiet:
         say_each(session_lines(task), voice)
     say_each(advice.after(came, task), voice)
-    errors = [] if came.status in (1, 2, 7, 9) else refused_commands(task)
+    errors = refused_commands(task) if has_replies(came, task) else []
     say_each(errors, voice)
     return STRICT if own.is_strict and errors and came.status == 0 else came.status
+
+
+def has_replies(came, task):
+    """Whether the run wrote replies."""
+    return came.status in (0, 5) if task.command == JOIN else came.status not in (1, 2, 7, 9)
 
 
 def say_each(lines, voice):

@@ -7,7 +7,7 @@ import subprocess
 from launcher import faults
 from launcher.children import end_by
 from launcher.opening import inherited
-from launcher.table import CHECK
+from launcher.table import CHECK, JOIN
 from launcher.voice import Refused, reason
 from launcher.watch import Watch
 
@@ -60,6 +60,8 @@ def status_of(status, said, why_unsaid, task):
         return status
     if task.command == CHECK:
         return 5 if said == b"same\n" else status
+    if task.command == JOIN:
+        return status
     return 5 if status in (0, 3, 4) else status
 
 

@@ -1,6 +1,6 @@
 """The commands and their options: help, completion, the manual and the judge of words are all made of this table."""
 
-SERVE, CHECK, GEN, DRIVE = "serve", "check", "gen", "drive"
+SERVE, CHECK, GEN, DRIVE, JOIN = "serve", "check", "gen", "drive", "join"
 MOST_FILES = 16
 STAGE = 128  # small buffers that each session has for itself
 
@@ -95,6 +95,12 @@ COMMANDS = {
             SIZES,
         ),
         Command(
+            JOIN,
+            "M CALLS FILE",
+            "Puts the replies to CALLS calls, 0 to 4294967295, together again from their frames of at most M bytes,\n"
+            "64 to 9216, which stand in a file in any order. They go to out0.resp in the order of the calls.",
+        ),
+        Command(
             "judge",
             "FOLDER | judge IN REPLIES",
             "Says of recorded replies of any Redis-like server whether they are right. This is tools/judge; its\n"
@@ -109,15 +115,15 @@ COMMANDS = {
 }
 
 STATUSES = (
-    ("0", "all was served; of check: same"),
+    ("0", "all was served or joined; of check: same"),
     ("1", "bad words"),
     ("2", "a file can't be opened"),
     ("3", "a file isn't whole requests to its end"),
     ("4", "a read failed"),
     ("5", "a write failed"),
     ("6", "memory ran out"),
-    ("7", "a line of the schedule, or of the journal, isn't of its form"),
-    ("8", "of check: not the same"),
+    ("7", "a line of the schedule or of the journal, or a frame, isn't of its form"),
+    ("8", "of check: not the same; of join: a frame is missing"),
     ("9", "a file is too large"),
     ("124", "with --strict: a reply is an error"),
     ("125", "nothing was run, for the reason that is said"),

@@ -4,10 +4,11 @@ import os
 
 from launcher.generated import MOST_LARGE, MOST_SMALL, demand_of
 from launcher.replies import replies_of
-from launcher.table import CHECK, COMMANDS, DRIVE, GEN, MOST_FILES, OWN_OPTIONS, SERVE, STAGE
+from launcher.table import CHECK, COMMANDS, DRIVE, GEN, JOIN, MOST_FILES, OWN_OPTIONS, SERVE, STAGE
 from launcher.voice import quoted
 
 MOST_NUMBER = 2**32 - 1
+FRAME = 64, 9216  # bytes of a frame, at most
 STANDARD_INPUT = "/dev/stdin"
 
 
@@ -27,7 +28,7 @@ class Task:
         is_driven = self.command == DRIVE
         self.schedule_place = places[0] if is_driven else None
         self.file_places = {SERVE: places, DRIVE: places[1:]}.get(self.command, [])
-        of_files = len(self.file_places)
+        of_files = 1 if self.command == JOIN else len(self.file_places)
         self.sessions = value_or_usual(given, GEN, "--sessions") if self.command == GEN else of_files
 
     @property
@@ -84,7 +85,7 @@ def read_task(words):
     given, places = read_words(words, command)
     if sum(words[place] == "-" for place in places) > 1:
         raise BadWords("-: standard input is read once")
-    fit = {SERVE: fit_files, DRIVE: fit_driven, CHECK: fit_pairs, GEN: fit_number}[words[0]]
+    fit = {SERVE: fit_files, DRIVE: fit_driven, CHECK: fit_pairs, GEN: fit_number, JOIN: fit_join}[words[0]]
     return Task(words, given, fit(words, given, places))
 
 
@@ -185,3 +186,13 @@ def fit_number(words, given, places):
         claimed = f"{small} small and {large} large buffers"
         raise BadWords(f"these requests may claim {claimed}, and a pool has at most {MOST_SMALL} and {MOST_LARGE}")
     return []
+
+
+def fit_join(words, _given, places):
+    """The place of the file of frames."""
+    if len(places) != 3:
+        raise BadWords(f"{len(places)} words: join takes a frame's most bytes, the number of calls and a file")
+    for place, name, limits in zip(places, ("M", "CALLS"), (FRAME, (0, MOST_NUMBER))):
+        if not is_plain(words[place], *limits):
+            raise BadWords(f"{name} {quoted(words[place])}: {limits[0]} to {limits[1]}, as a plain number")
+    return places[2:]

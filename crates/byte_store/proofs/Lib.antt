@@ -1,5 +1,3 @@
 pub mod Bytes
 pub mod Held
 pub mod Parts
-pub mod Places
-pub mod Results

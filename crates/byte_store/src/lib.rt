@@ -1,7 +1,7 @@
-//! A store of byte strings: a table for each shard, and what a part of a command does there.
+//! A store of byte strings, and what a part of a command does there.
 #![tactic(auto)]
 
 mod store;
 mod table;
 
-pub use store::{PartAnswer, SHARDS, Store};
+pub use store::{PartAnswer, Store};

@@ -1,5 +1,5 @@
-// The values of all keys, each in the table of its shard.
-ghost use Rattle.std.specs.Prelude.{◌≡◌, ◌<◌, IfOk, OnOk, OnErr, length};
+// The values of all keys.
+ghost use Rattle.std.specs.Prelude.{◌≡◌, IfOk, OnOk, OnErr};
 ghost use Rattle.std.specs.FinMap as finite;
 ghost use Rattle.flake_model.specs.Store as model;
 ghost use Rattle.flake_model.specs.Store.{Store as Meaning, Operation, value, found, answer, answer_on, after};
@@ -13,12 +13,9 @@ use crate::table::{Table, append, contains, get, put, remove};
 use flake_base::{Bytes, Memory};
 use indexmap::IndexMap;
 use range_pick::{Span, span};
-use shard_part::{Part, PartOp, Setting, shard_of};
+use shard_part::{Part, PartOp, Setting};
 use std::alloc::Global;
 use std::marker::Model;
-
-/// How many shards there are.
-pub const SHARDS: u16 = 8;
 
 /// What a part of a command answers.
 #[derive(Drop)]
@@ -36,35 +33,30 @@ pub enum PartAnswer {
     TooLong,
 }
 
-/// A table for each shard.
+/// A value for each key that has one.
 #[derive(Drop)]
 pub struct Store {
-    tables: Vec<Table>,
+    table: Table,
 }
 
 impl Model for Store {
-    ghost use Rattle.std.specs.Prelude.{◌≡◌, length};
-    ghost use Rattle.byte_store.specs.Store.{Tables, entries_of_tables};
+    ghost use Rattle.byte_store.specs.Table.{TableEntries};
 
-    ghost Value = { Tables };
+    ghost Value = { TableEntries };
 
-    ghost view = { λ s. entries_of_tables s.tables.items };
-
-    ghost invariant = { λ s. length s.tables.items ≡ 8 };
+    ghost view = { λ s. s.table.entries };
 }
 
 impl Store {
-    pub fn new(alloc: Global) -> Result<Store, Memory>
-        ensures { IfOk result (λ s. HoldsStore s finite.empty) }
+    pub fn new(alloc: Global) -> Store
+        ensures { HoldsStore result finite.empty }
     {
-        let mut tables = Vec::with_capacity(alloc, SHARDS as usize)?;
-        for _shard in 0..SHARDS {
-            tables.push(IndexMap::new(alloc))?;
+        Store {
+            table: IndexMap::new(alloc),
         }
-        Ok(Store { tables })
     }
 
-    /// Does a part in the table of its key's shard. After want of memory the store is as it was.
+    /// Does a part. After want of memory the store is as it was.
     pub fn run(&mut self, alloc: Global, part: &Part<'_>) -> Result<PartAnswer, Memory>
         ensures answer { (store : Meaning) → HoldsStore self.old store
             → IfOk result (λ a. answer_meant a ≡ answer store (operation_of part.now)) }
@@ -72,9 +64,7 @@ impl Store {
             → OnOk result (HoldsStore self.new (after store (operation_of part.now))) }
         ensures memory { (store : Meaning) → HoldsStore self.old store → OnErr result (HoldsStore self.new store) }
     {
-        let shard = shard_of(part.key, SHARDS) as usize;
-        let answer = run_on(alloc, &mut self.tables[shard], part)?;
-        Ok(answer)
+        run_on(alloc, &mut self.table, part)
     }
 }
 

@@ -1,4 +1,4 @@
-// The values of a shard's keys.
+// The values of keys.
 ghost use Rattle.std.specs.Prelude.{◌≡◌, IfOk, OnOk, OnErr, Some, None, is_some};
 ghost use Rattle.std.specs.Option.{option_map};
 ghost use Rattle.byte_store.specs.Table.{table_bytes, appended_length, after_append, HasChanged, HasKept};

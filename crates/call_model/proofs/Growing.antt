@@ -6,7 +6,7 @@ use Rattle.flake_base.specs.declared.segment.Seg.{Seg}
 use Rattle.flake_model.specs.Store.{Operation}
 use Rattle.flake_model.specs.Deed.{Deed}
 use Rattle.call_model.specs.Outcomes.{PartOutcome, Outcomes, SessionDeeds, entry_at, part_told, IsOutcome, AreOutcomes}
-use Rattle.call_model.specs.Outcomes.{call_told, call_deeds}
+use Rattle.call_model.specs.Outcomes.{call_told, call_deeds, HasPutNothing, HavePutNothing}
 use Rattle.call_model.specs.Parts.{segs_told, call_segs}
 use Rattle.call_model.specs.Steps.{deed_told, PartsAdd}
 
@@ -29,6 +29,20 @@ more_are (first ∷ operations) (None ∷ outcomes) operation outcome is are one
     (are.0, more_are operations outcomes operation outcome is are.1 one)
 more_are (first ∷ operations) (Some done ∷ outcomes) operation outcome is are one =
     more_are operations outcomes operation outcome is are one
+
+-- where all parts put nothing, so do those before the last one, and so does it
+pub nothing_more : (operations : List Operation) (outcomes : Outcomes) (operation : Operation)
+    (outcome : Option PartOutcome) → slice_get operations (length outcomes) ≡ Some operation
+    → HavePutNothing operations (outcomes ++ outcome ∷ [])
+    → HavePutNothing operations outcomes × HasPutNothing operation outcome
+nothing_more [] [] operation outcome is none = absurd (let no : ⊥ = cc in no)
+nothing_more [] (o ∷ outcomes) operation outcome is none = absurd (let no : ⊥ = cc in no)
+nothing_more (first ∷ operations) [] operation outcome is none =
+    let same : first ≡ operation = cc in
+    (tt, subst (λ o. HasPutNothing o outcome) same none.0)
+nothing_more (first ∷ operations) (o ∷ outcomes) operation outcome is none =
+    let rest = nothing_more operations outcomes operation outcome is none.1 in
+    ((none.0, rest.0), rest.1)
 
 module _ (shards session call : ℕ) where
   one_told : (part : ℕ) (operation : Operation) (operations : List Operation) (outcome : Option PartOutcome)

@@ -9,7 +9,7 @@ use Rattle.shard_core.specs.Demand.{part_row}
 use Rattle.call_model.specs.Outcomes.{SessionDeeds, entry_at, part_told, call_told, missed_in}
 use Rattle.call_model.specs.Demand.{parts_row}
 use Rattle.call_model.specs.Steps.{RunningStarts, PartStep, RunningRests, CutsBefore, CutsBehind, CutsRest}
-use Rattle.call_model.proofs.Growing.{parts_add}
+use Rattle.call_model.proofs.Growing.{parts_add, nothing_more}
 use Rattle.call_model.proofs.Rows.{row_more, missed_more, front_row, below_end, sought_as}
 
 pub running_starts : RunningStarts
@@ -18,6 +18,7 @@ running_starts z shards session call operations told seat after claims looks = r
   told = sym (append-nil told);
   sought = sought_as z (λ class. 0) _ 0 _ seat after (sought_nothing z seat after claims looks)
       (λ class. omega arith) refl;
+  free = λ none. (claims, looks);
 }
 
 pub part_step : PartStep
@@ -35,6 +36,11 @@ part_step z shards session call operations outcomes operation outcome old mid ne
           later after running.sought done.sought)
           (λ class. omega (arith, row_more class operations outcomes outcome operation is))
           (sym (missed_more outcomes outcome));
+      free = λ none.
+          let each = nothing_more operations outcomes operation outcome is none in
+          let before = running.free each.0 in
+          let here = done.free each.1 in
+          (here.0 ∙ before.0, here.1 ∙ before.1);
     }
 
 pub running_rests : RunningRests
@@ -43,6 +49,7 @@ running_rests z shards session call operations outcomes old new seat later after
   told = running.told;
   sought = sought_still z (λ (class : Class). parts_row class (take (length outcomes) operations)) (missed_in outcomes)
       seat later after running.sought claims looks;
+  free = λ none. let before = running.free none in (claims ∙ before.0, looks ∙ before.1);
 }
 
 pub cuts_before : CutsBefore

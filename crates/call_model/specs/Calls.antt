@@ -13,7 +13,7 @@ use Rattle.flake_model.specs.Reply.{reply_of, reply_text}
 use Rattle.shard_core.specs.Demand.{part_row}
 use Rattle.call_model.specs.Outcomes.{PartOutcome, Outcomes, SessionDeeds, part_told, IsOutcome, AreOutcomes, call_told}
 use Rattle.call_model.specs.Outcomes.{answers_told}
-use Rattle.call_model.specs.Outcomes.{missed_in}
+use Rattle.call_model.specs.Outcomes.{missed_in, HasPutNothing, HavePutNothing, WouldPut}
 use Rattle.call_model.specs.Demand.{parts_row, long_in}
 
 -- One part was run at an entry, with this outcome: what it adds to the session's list, and what the seat claimed.
@@ -22,6 +22,9 @@ pub record IsPartRun (z : Sizes) (shards : ℕ) (entry : Entry) (operation : Ope
   pub is : IsOutcome operation outcome
   pub told : new ≡ old ++ part_told shards entry operation outcome
   pub sought : Sought z (λ (class : Class). part_row class operation) (missed_in (outcome ∷ [])) seat after
+  -- one that puts nothing costs nothing
+  pub free : HasPutNothing operation outcome → (after.claims ≡ seat.claims) × (after.looks ≡ seat.looks)
+  pub missed : WouldPut operation outcome
 
 -- the first parts of a call were run
 pub record AreRunning (z : Sizes) (shards session call : ℕ) (operations : List Operation) (outcomes : Outcomes)
@@ -30,6 +33,8 @@ pub record AreRunning (z : Sizes) (shards session call : ℕ) (operations : List
   pub told : new ≡ old ++ call_told shards session call 0 operations outcomes
   pub sought : Sought z (λ (class : Class). parts_row class (take (length outcomes) operations)) (missed_in outcomes)
       seat after
+  -- those that put nothing cost nothing
+  pub free : HavePutNothing operations outcomes → (after.claims ≡ seat.claims) × (after.looks ≡ seat.looks)
 
 -- A call was executed: its reply has this text, and takes so many pins.
 pub record IsExecuted (z : Sizes) (shards session call : ℕ) (command : Command) (outcomes : Outcomes)

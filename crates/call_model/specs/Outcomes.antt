@@ -1,9 +1,9 @@
 -- What became of a call's parts: their answers, the deeds that a session is told, and the reply.
-use Rattle.std.specs.Prelude.{ℕ, ◌+◌, List, [], ◌∷◌, Option, Some, None, is_none, if◌then◌else◌, map}
+use Rattle.std.specs.Prelude.{◌≡◌, ℕ, ◌+◌, List, [], ◌∷◌, Option, Some, None, is_none, if◌then◌else◌, map}
 use Rattle.std.specs.Option.{option_map}
 use Rattle.view_sums.specs.Total.{total}
 use Rattle.flake_base.specs.declared.journal.Entry.{Entry}
-use Rattle.flake_model.specs.Store.{Operation, Answer, key_of, IsWrite}
+use Rattle.flake_model.specs.Store.{Operation, Answer, key_of, answer_on, change_on, bytes_put, IsWrite}
 use Rattle.flake_model.specs.Deed.{Deed, deed_at}
 use Rattle.flake_model.specs.Journal.{shard_of}
 
@@ -46,6 +46,29 @@ AreOutcomes operations [] = Unit {0}
 AreOutcomes [] (outcome ∷ outcomes) = ⊥
 AreOutcomes (operation ∷ operations) (None ∷ outcomes) = IsWrite operation × AreOutcomes operations outcomes
 AreOutcomes (operation ∷ operations) (Some done ∷ outcomes) = AreOutcomes operations outcomes
+
+-- with this answer the operation puts nothing, whatever its key had
+abbrev pub PutsNothing : Operation → Answer → Type 0
+PutsNothing operation answer = (had : Option (List ℕ)) → answer ≡ answer_on had operation
+    → bytes_put (change_on had operation) ≡ None
+
+-- the part was answered, and put nothing
+abbrev pub HasPutNothing : Operation → Option PartOutcome → Type 0
+HasPutNothing operation None = ⊥
+HasPutNothing operation (Some done) = PutsNothing operation done.answer
+
+-- each of a call's first parts was answered, and put nothing
+abbrev pub HavePutNothing : List Operation → Outcomes → Type 0
+HavePutNothing operations [] = Unit {0}
+HavePutNothing [] (outcome ∷ outcomes) = Unit {0}
+HavePutNothing (operation ∷ operations) (outcome ∷ outcomes) =
+    HasPutNothing operation outcome × HavePutNothing operations outcomes
+
+-- a part that found no buffer puts bytes on what its key had
+abbrev pub WouldPut : Operation → Option PartOutcome → Type 0
+WouldPut operation None =
+    (had : Option (List ℕ)) × (bytes : List ℕ) × (bytes_put (change_on had operation) ≡ Some bytes)
+WouldPut operation (Some done) = Unit {0}
 
 -- what a call's parts add, from a number on
 abbrev pub call_told : ℕ → ℕ → ℕ → ℕ → List Operation → Outcomes → SessionDeeds

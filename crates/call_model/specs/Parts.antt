@@ -18,7 +18,7 @@ use Rattle.frag_value.specs.Taken.{TakenPiece}
 use Rattle.order_book.specs.Pages.{SessionList}
 use Rattle.shard_core.specs.Answers.{answer_shown}
 use Rattle.shard_core.specs.Demand.{part_row}
-use Rattle.shard_core.specs.Paid.{HasNone}
+use Rattle.shard_core.specs.Paid.{HasNone, LacksBuffers}
 use Rattle.shard_core.specs.Pieces.{answer_pieces, segs_at, size_stored}
 use Rattle.shard_core.specs.declared.answer.PartAnswer.{PartAnswer}
 use Rattle.shard_core.specs.declared.answer.PartAnswer.TheVariants as say
@@ -42,10 +42,12 @@ call_segs [] (outcome ∷ outcomes) = []
 call_segs (operation ∷ operations) (outcome ∷ outcomes) =
     segs_told operation outcome ++ call_segs operations outcomes
 
--- The answer that the caller gets: where no buffer was found, each of the class was found held.
+-- The answer that the caller gets: where no buffer was found, each of the class was found held, and on what its key had
+-- the part stores bytes that need more of them than were claimed.
 abbrev pub AnswersPart : Sizes → Operation → Option PartOutcome → PartAnswer → View → View → Type 0
 AnswersPart z operation None said seat after =
     (none : NoBuffer) × (said ≡ say.NoBuffer none) × HasNone z operation none seat after
+    × ((had : Option (List ℕ)) × LacksBuffers z had operation none seat after)
 AnswersPart z operation (Some done) said seat after = said ≡ answer_shown done.answer
 
 -- all bytes that were answered, if there are any, lie in the fragments that were found

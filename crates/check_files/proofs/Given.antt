@@ -1,50 +1,31 @@
--- What a source has given, and what that says of all its bytes.
-use Rattle.std.proofs.Common.{◌≡◌, ◌<◌, ℕ, List, [], ◌++◌, Option, Some, None, IfSome, length, take, drop, arith, refl}
-use Rattle.std.proofs.Common.{ap, sym, ◌∙◌, append_assoc, append-nil, length-append}
-use Rattle.std.proofs.lemmas.List.{take-append-drop}
-use Rattle.flake_base.specs.Reads.{Reads}
-use Rattle.check_files.specs.Whole.{IsPast, emptied}
+-- What a source gave, and that it was read to its end.
+use Rattle.std.proofs.Common.{◌≡◌, ◌==◌, ◌<◌, ℕ, Bool, true, List, [], ◌++◌, length, take, arith, ap, sym, ◌∙◌}
+use Rattle.std.proofs.Common.{append_assoc, append-nil, length-append}
+use Rattle.flake_base.specs.Reads.{Gives}
+use Rattle.check_files.specs.Whole.{GaveMore, IsPast}
 
--- the bytes in front of what is left, where that is told
-abbrev pub Gave : Option (List ℕ) → Option (List ℕ) → List ℕ → Type 0
-Gave None new bytes = new ≡ None
-Gave (Some all) new bytes = (rest : List ℕ) × (new ≡ Some rest) × (all ≡ bytes ++ rest)
+module _ (old given new bytes room : List ℕ) (ended : Bool) (n : ℕ) (gave : given ≡ old ++ bytes)
+    (gives : Gives given new ended n room) where
+  pub more_given : (piece : List ℕ) → piece ≡ take n room → new ≡ old ++ (bytes ++ piece)
+  more_given piece is = gives.bytes ∙ ap (λ g. g ++ take n room) gave ∙ append_assoc old bytes (take n room)
+      ∙ ap (λ p. old ++ (bytes ++ p)) (sym is)
 
-pub none_given : (left : Option (List ℕ)) → Gave left left []
-none_given None = refl
-none_given (Some all) = (all, refl, refl)
+  -- a read that gave nothing more
+  pub all_given : n ≡ 0 → new ≡ old ++ bytes
+  all_given none = gives.bytes ∙ ap (λ k. given ++ take k room) none ∙ append-nil given ∙ gave
 
-pub more_given : (input left new : Option (List ℕ)) (bytes piece room : List ℕ) (n : ℕ) → Gave input left bytes
-    → Reads left new n room → piece ≡ take n room → Gave input new (bytes ++ piece)
-more_given None None new bytes piece room n gave reads is = reads
-more_given None (Some l) new bytes piece room n gave reads is = absurd (cc gave)
-more_given (Some all) None new bytes piece room n gave reads is = absurd (cc (gave.1))
-more_given (Some all) (Some l) new bytes piece room n gave reads is =
-    let same : gave.0 ≡ l = cc (gave.1) in
-    let front : l ≡ piece ++ drop n l = sym (take-append-drop n l)
-    ∙ ap (λ p. p ++ drop n l) (sym reads.bytes ∙ sym is) in
-    (drop n l, reads.rest, gave.2 ∙ ap (λ r. bytes ++ r) (same ∙ front) ∙ sym (append_assoc bytes piece (drop n l)))
+  pub at_end : n ≡ 0 → ended ≡ true
+  at_end none = gives.end ∙ ap (λ k. k == 0) none
 
--- a source that gives nothing more has given all
-pub all_given : (input left new : Option (List ℕ)) (bytes room : List ℕ) (n : ℕ) → Gave input left bytes
-    → Reads left new n room → n ≡ 0 → IfSome input (λ told. told ≡ bytes)
-all_given None left new bytes room n gave reads none = tt
-all_given (Some all) None new bytes room n gave reads none = absurd (cc (gave.1))
-all_given (Some all) (Some l) new bytes room n gave reads none =
-    let same : gave.0 ≡ l = cc (gave.1) in
-    gave.2 ∙ ap (λ r. bytes ++ r) (same ∙ reads.end none) ∙ append-nil bytes
+pub past_limit : (old new bytes : List ℕ) (limit : ℕ) → new ≡ old ++ bytes → limit < length bytes
+    → IsPast limit old new
+past_limit old new bytes limit gave above = omega (arith, above, ap length gave, length-append old bytes)
 
--- one that has given more than the limit has more
-pub past_limit : (input left : Option (List ℕ)) (bytes : List ℕ) (limit : ℕ) → Gave input left bytes
-    → limit < length bytes → IsPast limit input
-past_limit None left bytes limit gave above = tt
-past_limit (Some all) left bytes limit gave above = omega (arith, above, ap length gave.2, length-append bytes gave.0)
+pub gave_nothing : (old new : List ℕ) → new ≡ old → GaveMore old new
+gave_nothing old new same = ([], same ∙ sym (append-nil old))
 
--- and has nothing left
-pub none_left : (input left new : Option (List ℕ)) (bytes room : List ℕ) (n : ℕ) → Gave input left bytes
-    → Reads left new n room → n ≡ 0 → new ≡ emptied input
-none_left None None new bytes room n gave reads none = reads
-none_left None (Some l) new bytes room n gave reads none = absurd (cc gave)
-none_left (Some all) None new bytes room n gave reads none = absurd (cc (gave.1))
-none_left (Some all) (Some l) new bytes room n gave reads none = reads.rest ∙ ap (λ k. Some (drop k l)) none
-    ∙ ap (λ rest. Some (drop 0 rest)) (reads.end none)
+pub gave_through : (old mid new : List ℕ) → GaveMore old mid → GaveMore mid new → GaveMore old new
+gave_through old mid new first second = (
+  first.0 ++ second.0,
+  second.1 ∙ ap (λ m. m ++ second.0) first.1 ∙ append_assoc old first.0 second.0,
+)

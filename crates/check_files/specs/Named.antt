@@ -1,6 +1,6 @@
 -- Files that are opened by their names, some of which may be absent.
 use Rattle.std.specs.Prelude.{◌≡◌, ◌≢◌, ℕ, zero, suc, Bool, List, [], ◌∷◌, Option, Some, None, length, map}
-use Rattle.std.specs.Prelude.{option_map, is_some, take, slice_get}
+use Rattle.std.specs.Prelude.{option_map, is_none, take, slice_get}
 use Rattle.std.specs.Borrow.{Bor}
 use Rattle.std.specs.List.{AllByRecursion}
 use Rattle.flake_base.specs.Calls.{counted}
@@ -15,26 +15,38 @@ Named = Option (List ℕ)
 abbrev pub named : Option (Bor (List ℕ)) → Named
 named name = option_map (λ n. n.now) name
 
-abbrev pub are_named : List Named → List Bool
-are_named words = map is_some words
-
 -- the names of those that are to be opened
 abbrev pub names_in : List Named → List (List ℕ)
 names_in [] = []
 names_in (None ∷ words) = names_in words
 names_in (Some name ∷ words) = name ∷ names_in words
 
--- what is read of a file: no bytes where none stands
+-- those at the places of names
+abbrev pub at_names : {A : Type 0} → List Named → List A → List A
+at_names [] items = []
+at_names (word ∷ words) [] = []
+at_names (None ∷ words) (item ∷ items) = at_names words items
+at_names (Some name ∷ words) (item ∷ items) = item ∷ at_names words items
+
+-- what a file holds: no bytes where none stands
 abbrev pub held_by : HostTold → Named → Option (List ℕ)
 held_by host None = Some []
 held_by host (Some name) = host.holds name
 
 -- where no name stands there are no bytes
 abbrev pub AreEmptyUnnamed : List Named → List (Option (List ℕ)) → Type 0
-AreEmptyUnnamed [] lefts = Unit {0}
+AreEmptyUnnamed [] wholes = Unit {0}
 AreEmptyUnnamed (word ∷ words) [] = Unit {0}
-AreEmptyUnnamed (None ∷ words) (left ∷ lefts) = (left ≡ Some []) × AreEmptyUnnamed words lefts
-AreEmptyUnnamed (Some name ∷ words) (left ∷ lefts) = AreEmptyUnnamed words lefts
+AreEmptyUnnamed (None ∷ words) (whole ∷ wholes) = (whole ≡ Some []) × AreEmptyUnnamed words wholes
+AreEmptyUnnamed (Some name ∷ words) (whole ∷ wholes) = AreEmptyUnnamed words wholes
+
+-- what files gave that were not read
+abbrev pub givens_unread : List Named → List (List ℕ)
+givens_unread words = map (λ word. []) words
+
+-- and which of them are at their ends: where no name stands
+abbrev pub endeds_unread : List Named → List Bool
+endeds_unread words = map is_none words
 
 -- none of the names is this one
 abbrev pub AreOther : List ℕ → List (List ℕ) → Type 0
@@ -45,6 +57,13 @@ abbrev pub AreDistinct : List (List ℕ) → Type 0
 AreDistinct [] = Unit {0}
 AreDistinct (name ∷ names) = AreOther name names × AreDistinct names
 
+-- What files hold, behind others of these names: where none has a file's name yet, what was held under it.
+abbrev pub HaveTheirOwn : (List ℕ → Option (List ℕ)) → List (List ℕ) → List (List ℕ) → List (Option (List ℕ)) → Type 0
+HaveTheirOwn holds before [] wholes = Unit {0}
+HaveTheirOwn holds before (name ∷ names) [] = Unit {0}
+HaveTheirOwn holds before (name ∷ names) (whole ∷ wholes) =
+    (AreOther name before → whole ≡ holds name) × HaveTheirOwn holds (name ∷ before) names wholes
+
 -- a count of calls once so many more were counted
 abbrev pub counted_times : ℕ → ℕ → ℕ
 counted_times zero count = count
@@ -53,9 +72,9 @@ counted_times (suc n) count = counted (counted_times n count)
 abbrev pub NoneFailed : List ℕ → Type 0
 NoneFailed faults = AllByRecursion (λ n. n ≡ 0) faults
 
--- the file of this name was opened, with these bytes left
-pub record OpensName (name : List ℕ) (old new : HostTold) (left : Option (List ℕ)) : Type 0 where
-  pub left_is : left ≡ old.holds name
+-- the file of this name was opened, and holds this
+pub record OpensName (name : List ℕ) (old new : HostTold) (whole : Option (List ℕ)) : Type 0 where
+  pub whole_is : whole ≡ old.holds name
   pub others : (other : List ℕ) → other ≢ name → new.holds other ≡ old.holds other
   pub opens : new.opens ≡ counted old.opens
   pub open_faults : (other : List ℕ) → new.open_faults other ≡ old.open_faults other
@@ -64,8 +83,8 @@ pub record OpensName (name : List ℕ) (old new : HostTold) (left : Option (List
 
 -- where no name stands no file is opened
 abbrev pub OpensOne : Named → HostTold → HostTold → Option (List ℕ) → Type 0
-OpensOne None old new left = (new ≡ old) × (left ≡ Some [])
-OpensOne (Some name) old new left = OpensName name old new left
+OpensOne None old new whole = (new ≡ old) × (whole ≡ Some [])
+OpensOne (Some name) old new whole = OpensName name old new whole
 
 -- the open of this name failed, and left all but the counts as it was
 pub record NotOpened (name : List ℕ) (old new : HostTold) : Type 0 where
@@ -80,20 +99,28 @@ abbrev pub FailsOne : Named → HostTold → HostTold → Type 0
 FailsOne None old new = ⊥
 FailsOne (Some name) old new = NotOpened name old new
 
--- Each file was opened, once. These are what the files have left.
-pub record FilesOpened (words : List Named) (old new : HostTold) (lefts : List (Option (List ℕ))) : Type 0 where
-  pub as_many : length lefts ≡ length words
-  pub lefts_are : AreDistinct (names_in words) → lefts ≡ map (held_by old) words
-  pub unnamed : AreEmptyUnnamed words lefts
+-- Each file was opened under its name, once. This is what the files hold.
+pub record FilesOpened (words : List Named) (old new : HostTold) (names : List Named)
+    (wholes : List (Option (List ℕ))) : Type 0 where
+  pub names_are : names ≡ words
+  pub as_many : length wholes ≡ length words
+  pub wholes_are : AreDistinct (names_in words) → wholes ≡ map (held_by old) words
+  pub own : HaveTheirOwn old.holds [] (names_in words) (at_names words wholes)
+  pub unnamed : AreEmptyUnnamed words wholes
   pub holds : (other : List ℕ) → AreOther other (names_in words) → new.holds other ≡ old.holds other
   pub opens : new.opens ≡ counted_times (length (names_in words)) old.opens
   pub open_faults : (name : List ℕ) → new.open_faults name ≡ old.open_faults name
 
--- The files in front of the one at this place were opened, and its open failed. These are what they have left.
-pub record FileFails (words : List Named) (place : ℕ) (old new : HostTold) (lefts : List (Option (List ℕ))) :
-    Type 0 where
+-- no read of the files gave anything
+pub record AreUnread (words : List Named) (givens : List (List ℕ)) (endeds : List Bool) : Type 0 where
+  pub givens_are : givens ≡ givens_unread words
+  pub endeds_are : endeds ≡ endeds_unread words
+
+-- The files in front of the one at this place were opened, and its open failed. This is what they hold.
+pub record FileFails (words : List Named) (place : ℕ) (old new : HostTold) (names : List Named)
+    (wholes : List (Option (List ℕ))) : Type 0 where
   pub between : HostTold
-  pub opened : FilesOpened (take place words) old between lefts
+  pub opened : FilesOpened (take place words) old between names wholes
   pub name : List ℕ
   pub name_is : slice_get words place ≡ Some (Some name)
   pub fails : NotOpened name between new

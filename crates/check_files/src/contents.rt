@@ -1,11 +1,11 @@
 // The files of a check, which are read whole in their order.
-ghost use Rattle.std.specs.Prelude.{◌≡◌, ◌≢◌, ◌<◌, ◌≤◌, ◌+◌, ◌*◌, ◌%◌, ◌++◌, ◌∷◌, [], ℕ};
-ghost use Rattle.std.specs.Prelude.{length, map, option_map, slice_get, IfOk, IfErr, OnOk};
+ghost use Rattle.std.specs.Prelude.{◌≡◌, ◌≢◌, ◌<◌, ◌≤◌, ◌%◌, ◌++◌, ◌∷◌, [], ℕ, Some, true};
+ghost use Rattle.std.specs.Prelude.{length, slice_get, IfOk, IfErr, OnOk};
 ghost use Rattle.replay_check.specs.Inputs.{contents};
-ghost use Rattle.check_files.specs.File.{are_there, file_faults, file_lefts};
-ghost use Rattle.check_files.specs.Files.{file_limit, AreContents, AreWithin, IsTextOf};
-ghost use Rattle.check_files.specs.Stopped.{FaultsBy, WhyStopped, IsStoppedAt, LeftsBy};
-ghost use Rattle.check_files.specs.Whole.{emptied};
+ghost use Rattle.check_files.specs.File.{file_names, file_wholes, file_givens, file_endeds, file_faults};
+ghost use Rattle.check_files.specs.Files.{file_limit, texts_since, AllReadToEnd, AllGaveMore, AreContents, AreWithin};
+ghost use Rattle.check_files.specs.Files.{IsTextOf};
+ghost use Rattle.check_files.specs.Stopped.{of_unread, FaultsBy, WhyStopped, IsStoppedAt, ReadsBy};
 
 use crate::file::read_file;
 use crate::{CheckError, File, Unread};
@@ -24,7 +24,18 @@ fn limit_of(place: usize) -> usize
     if place % 2 == 1 { INPUT } else { TEXT }
 }
 
-/// All bytes of the file at a place.
+// Why there is no verdict, where a file of this number wasn't read whole.
+fn error_at(unread: Unread, file: u16) -> CheckError
+    ensures { result ≡ of_unread file unread }
+{
+    match unread {
+        Unread::Fault => CheckError::ReadFault { file },
+        Unread::TooLarge => CheckError::TooLarge { file },
+        Unread::Memory => CheckError::Memory,
+    }
+}
+
+/// All bytes that the file at a place still gives.
 pub fn read_at<S: Source>(
     alloc: Global,
     files: &mut [File<S>],
@@ -32,23 +43,25 @@ pub fn read_at<S: Source>(
 ) -> Result<Bytes, CheckError>
     requires within { place < length files.old }
     requires few { length files.old ≤ 33 }
-    ensures text { IfOk result (λ bytes. IsTextOf (file_lefts S.left files.old) place bytes.items) }
-    ensures left { OnOk result (slice_get (file_lefts S.left files.new) place
-        ≡ option_map emptied (slice_get (file_lefts S.left files.old) place)) }
-    ensures faults { OnOk result (file_faults S.read_faults files.new ≡ file_faults S.read_faults files.old) }
+    ensures text { IfOk result (λ bytes.
+        IsTextOf (texts_since (file_givens S.given files.old) (file_givens S.given files.new)) place bytes.items) }
+    ensures ended { OnOk result (slice_get (file_endeds S.ended files.new) place ≡ Some true) }
+    ensures more { AllGaveMore (file_givens S.given files.old) (file_givens S.given files.new) }
     ensures others { (k : ℕ) → k ≢ place
-        → slice_get (file_lefts S.left files.new) k ≡ slice_get (file_lefts S.left files.old) k }
-    ensures err { IfErr result (λ e. IsStoppedAt (file_lefts S.left files.old) place e) }
+        → slice_get (file_givens S.given files.new) k ≡ slice_get (file_givens S.given files.old) k }
+    ensures others_ended { (k : ℕ) → k ≢ place
+        → slice_get (file_endeds S.ended files.new) k ≡ slice_get (file_endeds S.ended files.old) k }
+    ensures faults { OnOk result (file_faults S.read_faults files.new ≡ file_faults S.read_faults files.old) }
+    ensures err { IfErr result
+        (IsStoppedAt (texts_since (file_givens S.given files.old) (file_givens S.given files.new)) place) }
     ensures counts { IfErr result (λ e. FaultsBy e (file_faults S.read_faults files.old)
         (file_faults S.read_faults files.new)) }
-    ensures there { are_there files.new ≡ are_there files.old }
+    ensures names { file_names S.name files.new ≡ file_names S.name files.old }
+    ensures wholes { file_wholes S.whole files.new ≡ file_wholes S.whole files.old }
 {
-    let file = place as u16;
     match read_file(alloc, &mut files[place], limit_of(place)) {
         Ok(bytes) => Ok(bytes),
-        Err(Unread::Fault) => Err(CheckError::ReadFault { file }),
-        Err(Unread::TooLarge) => Err(CheckError::TooLarge { file }),
-        Err(Unread::Memory) => Err(CheckError::Memory),
+        Err(unread) => Err(error_at(unread, place as u16)),
     }
 }
 
@@ -60,7 +73,7 @@ fn put(texts: &mut Texts, text: Bytes) -> Result<(), Memory>
     Ok(())
 }
 
-/// What the files of a check have.
+/// What the files of a check gave.
 #[derive(Debug, Drop)]
 pub struct Contents {
     pub journal: Bytes,
@@ -72,16 +85,22 @@ pub struct Contents {
 pub fn read_all<S: Source>(alloc: Global, files: &mut [File<S>]) -> Result<Contents, CheckError>
     requires pairs { length files.old % 2 ≡ 1 }
     requires few { length files.old ≤ 33 }
-    ensures contents { IfOk result (λ texts. AreContents (file_lefts S.left files.old) texts.journal.items
-        (contents texts.inputs.items) (contents texts.replies.items)) }
-    ensures within { OnOk result (AreWithin (file_lefts S.left files.old) (length files.old)) }
-    ensures emptied { OnOk result (file_lefts S.left files.new ≡ map emptied (file_lefts S.left files.old)) }
+    ensures contents { IfOk result (λ texts.
+        AreContents (texts_since (file_givens S.given files.old) (file_givens S.given files.new))
+        texts.journal.items (contents texts.inputs.items) (contents texts.replies.items)) }
+    ensures within { OnOk result (AreWithin
+        (texts_since (file_givens S.given files.old) (file_givens S.given files.new)) (length files.old)) }
+    ensures ended { OnOk result (AllReadToEnd (file_endeds S.ended files.new)) }
+    ensures more { AllGaveMore (file_givens S.given files.old) (file_givens S.given files.new) }
     ensures faults { OnOk result (file_faults S.read_faults files.new ≡ file_faults S.read_faults files.old) }
-    ensures err { IfErr result (λ e. WhyStopped (file_lefts S.left files.old) e) }
-    ensures lefts { IfErr result (λ e. LeftsBy e (file_lefts S.left files.old) (file_lefts S.left files.new)) }
+    ensures err { IfErr result
+        (WhyStopped (texts_since (file_givens S.given files.old) (file_givens S.given files.new))) }
+    ensures reads { IfErr result (λ e. ReadsBy e (file_givens S.given files.old) (file_givens S.given files.new)
+        (file_endeds S.ended files.old) (file_endeds S.ended files.new)) }
     ensures counts { IfErr result (λ e. FaultsBy e (file_faults S.read_faults files.old)
         (file_faults S.read_faults files.new)) }
-    ensures there { are_there files.new ≡ are_there files.old }
+    ensures names { file_names S.name files.new ≡ file_names S.name files.old }
+    ensures wholes { file_wholes S.whole files.new ≡ file_wholes S.whole files.old }
 {
     let journal = read_at(alloc, files, 0)?;
     let mut inputs = Inputs::new(alloc);

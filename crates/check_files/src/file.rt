@@ -1,6 +1,6 @@
 ghost use Rattle.std.specs.Prelude.{◌≡◌, IfOk, IfErr, OnOk};
-ghost use Rattle.check_files.specs.File.{faults_in, is_there, left_in};
-ghost use Rattle.check_files.specs.Whole.{IsUnread, IsReadWhole, emptied};
+ghost use Rattle.check_files.specs.File.{name_in, whole_in, given_in, ended_in, faults_in};
+ghost use Rattle.check_files.specs.Whole.{GaveMore, IsReadWhole, IsUnread};
 
 use crate::Unread;
 use crate::whole::read_whole;
@@ -14,18 +14,20 @@ pub enum File<S> {
     Absent,
 }
 
-/// All that a file has left, if that is no more than so many bytes.
+/// All bytes that a file still gives, if they are no more than so many.
 pub(crate) fn read_file<S: Source>(
     alloc: Global,
     file: &mut File<S>,
     limit: usize,
 ) -> Result<Bytes, Unread>
-    ensures ok { IfOk result (λ bytes. IsReadWhole limit (left_in S.left file.old) bytes.items) }
-    ensures left { OnOk result (left_in S.left file.new ≡ emptied (left_in S.left file.old)) }
+    ensures ok { IfOk result (λ bytes. IsReadWhole limit (given_in S.given file.old) (given_in S.given file.new)
+        (ended_in S.ended file.new) bytes.items) }
+    ensures more { GaveMore (given_in S.given file.old) (given_in S.given file.new) }
     ensures faults { OnOk result (faults_in S.read_faults file.new ≡ faults_in S.read_faults file.old) }
-    ensures err { IfErr result (λ unread. IsUnread unread limit (left_in S.left file.old)
+    ensures err { IfErr result (λ unread. IsUnread unread limit (given_in S.given file.old) (given_in S.given file.new)
         (faults_in S.read_faults file.old) (faults_in S.read_faults file.new)) }
-    ensures there { is_there file.new ≡ is_there file.old }
+    ensures name { name_in S.name file.new ≡ name_in S.name file.old }
+    ensures whole { whole_in S.whole file.new ≡ whole_in S.whole file.old }
 {
     match file {
         File::Opened(source) => read_whole(alloc, source, limit),

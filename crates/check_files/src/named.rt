@@ -1,7 +1,7 @@
 // The verdict on files that a host holds.
 ghost use Rattle.std.specs.Prelude.{◌≡◌, ◌≤◌, ◌%◌, [], length, map, vec_capacity, IfOk, IfErr};
 ghost use Rattle.check_files.specs.Answer.{FailedBy, HasCauseIn, WereJudged};
-ghost use Rattle.check_files.specs.File.{are_there, file_faults, file_lefts};
+ghost use Rattle.check_files.specs.File.{file_names, file_wholes, file_givens, file_endeds, file_faults};
 ghost use Rattle.check_files.specs.Named.{named, NoneFailed};
 
 use crate::opening::open_named;
@@ -22,12 +22,14 @@ pub fn check_named<H: Host>(
     requires pairs { length names.now % 2 ≡ 1 }
     requires few { length names.now ≤ 33 }
     ensures verdict { IfOk result.0 (WereJudged (map named names.entry.now) (H.host_told host.old)
-        (H.host_told host.new) (are_there result.1.items) (file_lefts H.In.left result.1.items)) }
+        (H.host_told host.new) (file_names H.In.name result.1.items) (file_wholes H.In.whole result.1.items)
+        (file_givens H.In.given result.1.items) (file_endeds H.In.ended result.1.items)) }
     ensures none_failed { IfOk result.0 (λ v. NoneFailed (file_faults H.In.read_faults result.1.items)) }
 
     // Each error has its cause.
     ensures err { IfErr result.0 (HasCauseIn (map named names.entry.now) (H.host_told host.old)
-        (H.host_told host.new) (are_there result.1.items) (file_lefts H.In.left result.1.items)) }
+        (H.host_told host.new) (file_names H.In.name result.1.items) (file_wholes H.In.whole result.1.items)
+        (file_givens H.In.given result.1.items) (file_endeds H.In.ended result.1.items)) }
     ensures failed { IfErr result.0 (λ e. FailedBy e (file_faults H.In.read_faults result.1.items)) }
 
     // Nothing is said.

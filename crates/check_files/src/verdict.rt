@@ -1,9 +1,9 @@
 // The verdict on files.
-ghost use Rattle.std.specs.Prelude.{◌≡◌, ◌≤◌, ◌%◌, length, map, IfOk, IfErr, OnOk};
-ghost use Rattle.check_files.specs.File.{are_there, file_faults, file_lefts};
+ghost use Rattle.std.specs.Prelude.{◌≡◌, ◌≤◌, ◌%◌, length, IfOk, IfErr, OnOk};
+ghost use Rattle.check_files.specs.File.{file_names, file_wholes, file_givens, file_endeds, file_faults};
+ghost use Rattle.check_files.specs.Files.{texts_since, AllReadToEnd, AllGaveMore};
 ghost use Rattle.check_files.specs.Judged.{IsJudged};
-ghost use Rattle.check_files.specs.Stopped.{FaultsBy, WhyStopped, LeftsBy};
-ghost use Rattle.check_files.specs.Whole.{emptied};
+ghost use Rattle.check_files.specs.Stopped.{FaultsBy, WhyStopped, ReadsBy};
 
 use crate::contents::read_all;
 use crate::{CheckError, File};
@@ -17,18 +17,23 @@ use std::alloc::Global;
 pub fn check_files<S: Source>(alloc: Global, files: &mut [File<S>]) -> Result<Verdict, CheckError>
     requires pairs { length files.old % 2 ≡ 1 }
     requires few { length files.old ≤ 33 }
-    ensures verdict { IfOk result (IsJudged (file_lefts S.left files.old)) }
-    ensures emptied { OnOk result (file_lefts S.left files.new ≡ map emptied (file_lefts S.left files.old)) }
+    ensures verdict { IfOk result
+        (IsJudged (texts_since (file_givens S.given files.old) (file_givens S.given files.new))) }
+    ensures ended { OnOk result (AllReadToEnd (file_endeds S.ended files.new)) }
+    ensures more { AllGaveMore (file_givens S.given files.old) (file_givens S.given files.new) }
     ensures faults { OnOk result (file_faults S.read_faults files.new ≡ file_faults S.read_faults files.old) }
 
     // Each error has its cause.
-    ensures err { IfErr result (WhyStopped (file_lefts S.left files.old)) }
-    ensures lefts { IfErr result (λ e. LeftsBy e (file_lefts S.left files.old) (file_lefts S.left files.new)) }
+    ensures err { IfErr result
+        (WhyStopped (texts_since (file_givens S.given files.old) (file_givens S.given files.new))) }
+    ensures reads { IfErr result (λ e. ReadsBy e (file_givens S.given files.old) (file_givens S.given files.new)
+        (file_endeds S.ended files.old) (file_endeds S.ended files.new)) }
     ensures counts { IfErr result (λ e. FaultsBy e (file_faults S.read_faults files.old)
         (file_faults S.read_faults files.new)) }
 
-    // The same files are there.
-    ensures there { are_there files.new ≡ are_there files.old }
+    // They are the same files.
+    ensures names { file_names S.name files.new ≡ file_names S.name files.old }
+    ensures wholes { file_wholes S.whole files.new ≡ file_wholes S.whole files.old }
 {
     let texts = read_all(alloc, files)?;
     let journal = read_journal(alloc, texts.journal.as_slice())?;

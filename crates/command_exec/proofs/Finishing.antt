@@ -203,6 +203,9 @@ module _ (z : Sizes) (shards call : ℕ) (command : Command) (old mid : PassView
             told = reply.ran.running.told;
             sought = moved z _ _ (begin_of (need_of command) old).seat mid.seat old.seat seat reply.ran.running.sought
                 refl refl kept.claims kept.looks;
+            free = λ none.
+                let before = reply.ran.running.free none in
+                (kept.claims ∙ before.0, kept.looks ∙ before.1);
           };
           whole = reply.whole;
           text_is = text_is ∙ ap (λ a. reply_text (reply_of command a)) answers;

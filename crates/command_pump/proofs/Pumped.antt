@@ -4,7 +4,6 @@ use Rattle.std.proofs.Common.{None, MatchOption, length, map, take, drop, arith,
 use Rattle.std.proofs.Common.{append_assoc, append-nil}
 use Rattle.std.proofs.lemmas.List.{map-append, length-append, length-map, length-take, take-append-drop}
 use Rattle.flake_base.specs.Causes.{Rose}
-use Rattle.flake_base.specs.Reads.{Reads as Takes}
 use Rattle.flake_base.specs.declared.session.End.{End}
 use Rattle.flake_base.specs.declared.session.End.TheVariants.{Clean, Protocol, Truncated, TooLong, ReadFault, Memory}
 use Rattle.flake_base.specs.declared.session.End.TheVariants.{Left}
@@ -12,7 +11,7 @@ use Rattle.flake_model.specs.Resp.{Words, judged_bytes, IsClean, IsTruncated, Pa
 use Rattle.flake_model.specs.Command.{Command, fault, command_of}
 use Rattle.flake_model.specs.Journal.{next_parts}
 use Rattle.flake_model.specs.Input.{protocol_error, commands_in}
-use Rattle.flake_model.specs.Session.{IsSession, AreKnownBytes}
+use Rattle.flake_model.specs.Session.{IsSession}
 use Rattle.flake_base.specs.declared.session.SessionEnd.{SessionEnd}
 use Rattle.flake_model.proofs.OneParse.{goes_on}
 use Rattle.flake_model.proofs.SomeParse.{some_parse}
@@ -22,9 +21,8 @@ use Rattle.resp_reader.specs.declared.error.ReadError.TheVariants.{BadCount, Exp
 use Rattle.resp_reader.specs.declared.error.ReadError.TheVariants as errors
 use Rattle.resp_reader.specs.Reader.{Progress, ReadsRequests, IsReadTo, IsErrorTaken as IsJudged, error_end}
 use Rattle.resp_reader.proofs.Fed.{read_ends}
-use Rattle.command_pump.specs.Given.{Gave}
-use Rattle.command_pump.specs.Pump.{NothingLeft, AreRead, AreFirst, IsEnded, IsAtStage, IsPump, AnswersEnd, PumpState}
-use Rattle.command_pump.specs.Pump.{HasEnded, FaultsSo, ended_at, session_at, bytes_taken, stage_after}
+use Rattle.command_pump.specs.Pump.{Origin, origin_of, AreRead, AreFirst, IsEnded, IsAtStage, IsPump, AnswersEnd}
+use Rattle.command_pump.specs.Pump.{PumpState, HasEnded, FaultsSo, ended_at, session_at, bytes_taken, stage_after}
 use Rattle.command_pump.specs.declared.pump.Stage.{Stage}
 use Rattle.command_pump.specs.declared.pump.Stage.TheVariants.{Reading, Refused, Ended}
 
@@ -61,99 +59,83 @@ pub open_are_read : (bytes : List ℕ) (requests : List Words) (reader : Progres
 open_are_read bytes requests reader is reads = read_so_far bytes (requests ++ reader.requests) reader.place reader.front
     (opened bytes requests reader is reads)
 
--- what a source gave, and what it has left, is the input
-told_rest : (input left : Option (List ℕ)) (bytes : List ℕ) → Gave input left bytes → (rest : List ℕ)
-    × AreKnownBytes input (bytes ++ rest) × AreKnownBytes left rest
-told_rest None None bytes gave = ([], tt, tt)
-told_rest None (Some l) bytes gave = absurd (cc gave)
-told_rest (Some all) None bytes gave = absurd (cc (gave.1))
-told_rest (Some all) (Some l) bytes gave = let is : l ≡ gave.0 = cc (gave.1) in (gave.0, gave.2, is)
+-- a pump, of its parts
+abbrev pub pump_at : Origin → List ℕ → Bool → ℕ → Progress → Stage → ℕ → PumpState
+pump_at origin given ended faults reader stage taken = record {
+  origin = origin;
+  given = given;
+  ended = ended;
+  faults = faults;
+  reader = reader;
+  stage = stage;
+  taken = taken;
+}
 
--- and where nothing is left it gave the whole input
-told_none : (input left : Option (List ℕ)) (bytes : List ℕ) → Gave input left bytes → NothingLeft left
-    → AreKnownBytes input (bytes ++ []) × AreKnownBytes left []
-told_none None None bytes gave done = (tt, tt)
-told_none None (Some l) bytes gave done = absurd (cc gave)
-told_none (Some all) None bytes gave done = absurd (cc (gave.1))
-told_none (Some all) (Some l) bytes gave done = let is : gave.0 ≡ l = cc (gave.1) in
-    (gave.2 ∙ ap (λ r. bytes ++ r) (is ∙ done), done)
-
--- a source that gave a piece more
-gave_more : (input left new : Option (List ℕ)) (bytes piece room : List ℕ) (n : ℕ) → Gave input left bytes
-    → Takes left new n room → piece ≡ take n room → Gave input new (bytes ++ piece)
-gave_more None None new bytes piece room n gave reads is = reads
-gave_more None (Some l) new bytes piece room n gave reads is = absurd (cc gave)
-gave_more (Some all) None new bytes piece room n gave reads is = absurd (cc (gave.1))
-gave_more (Some all) (Some l) new bytes piece room n gave reads is =
-    let rest : l ≡ gave.0 = cc (gave.1) in
-    let parts : take n l ++ drop n l ≡ l = take-append-drop n l in
-    let first : piece ≡ take n l = is ∙ reads.bytes in (
-      drop n l,
-      reads.rest,
-      gave.2 ∙ ap (λ r. bytes ++ r) (sym rest ∙ sym parts ∙ ap (λ f. f ++ drop n l) (sym first))
-          ∙ sym (append_assoc bytes piece (drop n l)),
-    )
+pub same_origin : (name old_name : List ℕ) (whole old_whole : Option (List ℕ)) → name ≡ old_name → whole ≡ old_whole
+    → origin_of name whole ≡ origin_of old_name old_whole
+same_origin name old_name whole old_whole names wholes = λ i. record { name = names i; whole = wholes i }
 
 -- the pump as it is while it reads
-record WhileReading (input : Option (List ℕ)) (before : ℕ) (given : List Command) (pump : PumpState) : Type 0 where
-  bytes : List ℕ
+record WhileReading (input : Origin) (before : ℕ) (given : List Command) (pump : PumpState) : Type 0 where
   requests : List Words
-  taken_is : pump.taken ≡ length bytes
+  taken_is : pump.taken ≡ length pump.given
   faults_are : pump.faults ≡ before
-  gave : Gave input pump.left bytes
-  reads : ReadsRequests bytes requests pump.reader
+  origin_is : pump.origin ≡ input
+  reads : ReadsRequests pump.given requests pump.reader
   closed : pump.reader.closed ≡ None
   given_is : given ≡ map command_of requests
 
-while_reading : (input : Option (List ℕ)) (before : ℕ) (given : List Command) (pump : PumpState) → pump.stage ≡ Reading
+while_reading : (input : Origin) (before : ℕ) (given : List Command) (pump : PumpState) → pump.stage ≡ Reading
     → IsPump input before given pump → WhileReading input before given pump
 while_reading input before given pump is p =
-    let at = subst (λ s. IsAtStage s pump.left p.bytes p.requests given pump.reader) is p.at in
+    let at = subst (λ s. IsAtStage s pump.ended pump.given p.requests given pump.reader) is p.at in
     record {
-      bytes = p.bytes;
       requests = p.requests;
       taken_is = p.taken_is;
       faults_are = subst (λ s. FaultsSo s before pump.faults) is p.faults_are;
-      gave = p.gave;
+      origin_is = p.origin_is;
       reads = at.0;
       closed = at.1;
       given_is = at.2;
     }
 
 -- a read fault
-pub at_fault : (input : Option (List ℕ)) (before : ℕ) (given : List Command) (pump : PumpState) (left : Option (List ℕ))
-    (faults : ℕ) → pump.stage ≡ Reading → pump.reader.requests ≡ [] → left ≡ pump.left
-    → Rose pump.faults faults → IsPump input before given pump
-    → IsPump input before given
-    (record { left = left; faults = faults; reader = pump.reader; stage = Ended ReadFault; taken = pump.taken })
-at_fault input before given pump left faults is none same rose p =
+pub at_fault : (input : Origin) (before : ℕ) (given : List Command) (pump : PumpState) (origin : Origin)
+    (bytes : List ℕ) (ended : Bool) (faults : ℕ) → pump.stage ≡ Reading → pump.reader.requests ≡ []
+    → origin ≡ pump.origin
+    → bytes ≡ pump.given → Rose pump.faults faults → IsPump input before given pump
+    → IsPump input before given (pump_at origin bytes ended faults pump.reader (Ended ReadFault) pump.taken)
+at_fault input before given pump origin bytes ended faults is none from same rose p =
     let r = while_reading input before given pump is p in
+    let read = open_are_read pump.given r.requests pump.reader r.closed r.reads in
     record {
-      bytes = r.bytes;
       requests = r.requests;
-      taken_is = r.taken_is;
-      gave = subst (λ l. Gave input l r.bytes) (sym same) r.gave;
+      taken_is = r.taken_is ∙ ap length (sym same);
+      origin_is = from ∙ r.origin_is;
       faults_are = subst (λ n. Rose n faults) r.faults_are rose;
-      at = (open_are_read r.bytes r.requests pump.reader r.closed r.reads, none, r.given_is);
+      at = (subst (λ b. AreRead b (r.requests ++ pump.reader.requests)) (sym same) read, none, r.given_is);
     }
 
 -- a piece that was taken
-pub at_piece : (input : Option (List ℕ)) (before : ℕ) (given : List Command) (pump : PumpState) (left : Option (List ℕ))
-    (faults n : ℕ) (reader : Progress) (room piece : List ℕ) → pump.stage ≡ Reading
-    → faults ≡ pump.faults → Takes pump.left left n room → piece ≡ take n room → length piece ≡ n → reader.closed ≡ None
+pub at_piece : (input : Origin) (before : ℕ) (given : List Command) (pump : PumpState) (origin : Origin)
+    (bytes : List ℕ) (ended : Bool) (faults n : ℕ) (reader : Progress) (piece : List ℕ) → pump.stage ≡ Reading
+    → faults ≡ pump.faults → origin ≡ pump.origin → bytes ≡ pump.given ++ piece → length piece ≡ n
+    → reader.closed ≡ None
     → ((bytes : List ℕ) (given : List Words) → ReadsRequests bytes given pump.reader
     → ReadsRequests (bytes ++ piece) given reader) → IsPump input before given pump
-    → IsPump input before given
-    (record { left = left; faults = faults; reader = reader; stage = Reading; taken = pump.taken + n })
-at_piece input before given pump left faults n reader room piece is same takes is_piece count still fed p =
+    → IsPump input before given (pump_at origin bytes ended faults reader Reading (pump.taken + n))
+at_piece input before given pump origin bytes ended faults n reader piece is same from grew count still fed p =
     let r = while_reading input before given pump is p in
     record {
-      bytes = r.bytes ++ piece;
       requests = r.requests;
-      taken_is = omega (arith, r.taken_is, length-append r.bytes piece, count);
-      gave = gave_more input pump.left left r.bytes piece room n r.gave takes is_piece;
+      taken_is = omega (arith, r.taken_is, length-append pump.given piece, count, ap length grew);
+      origin_is = from ∙ r.origin_is;
       faults_are = same ∙ r.faults_are;
-      at = (fed r.bytes r.requests r.reads, still, r.given_is);
+      at = (
+        subst (λ b. ReadsRequests b r.requests reader) (sym grew) (fed pump.given r.requests r.reads),
+        still,
+        r.given_is,
+      );
     }
 
 -- what a piece more means, of which the reader holds nothing
@@ -164,94 +146,91 @@ first_of bytes piece requests read =
     record { all = some.0; shown = some.1; parsed = some.2; rest = more.0; all_are = more.1 }
 
 -- want of memory in the reader, which is as it was
-at_memory : (input : Option (List ℕ)) (before : ℕ) (given : List Command) (pump : PumpState) (left : Option (List ℕ))
-    (faults n : ℕ) (reader : Progress) (room piece : List ℕ) → pump.stage ≡ Reading
-    → faults ≡ pump.faults → Takes pump.left left n room → piece ≡ take n room → length piece ≡ n → reader ≡ pump.reader
-    → IsPump input before given pump
-    → IsPump input before given
-    (record { left = left; faults = faults; reader = reader; stage = Ended Memory; taken = pump.taken + n })
-at_memory input before given pump left faults n reader room piece is quiet takes is_piece count same p =
+at_memory : (input : Origin) (before : ℕ) (given : List Command) (pump : PumpState) (origin : Origin) (bytes : List ℕ)
+    (ended : Bool) (faults n : ℕ) (reader : Progress) (piece : List ℕ) → pump.stage ≡ Reading
+    → faults ≡ pump.faults → origin ≡ pump.origin → bytes ≡ pump.given ++ piece → length piece ≡ n
+    → reader ≡ pump.reader → IsPump input before given pump
+    → IsPump input before given (pump_at origin bytes ended faults reader (Ended Memory) (pump.taken + n))
+at_memory input before given pump origin bytes ended faults n reader piece is quiet from grew count same p =
     let r = while_reading input before given pump is p in
     record {
-      bytes = r.bytes ++ piece;
       requests = r.requests;
-      taken_is = omega (arith, r.taken_is, length-append r.bytes piece, count);
-      gave = gave_more input pump.left left r.bytes piece room n r.gave takes is_piece;
+      taken_is = omega (arith, r.taken_is, length-append pump.given piece, count, ap length grew);
+      origin_is = from ∙ r.origin_is;
       faults_are = quiet ∙ r.faults_are;
       at = (
-        first_of r.bytes piece (r.requests ++ reader.requests)
-            (subst (λ (n : Progress). AreRead r.bytes (r.requests ++ n.requests)) (sym same)
-            (open_are_read r.bytes r.requests pump.reader r.closed r.reads)),
+        subst (λ b. AreFirst b (r.requests ++ reader.requests)) (sym grew)
+            (first_of pump.given piece (r.requests ++ reader.requests)
+            (subst (λ (n : Progress). AreRead pump.given (r.requests ++ n.requests)) (sym same)
+            (open_are_read pump.given r.requests pump.reader r.closed r.reads))),
         r.given_is,
       );
     }
 
-stops_so : (error : ReadError) (left : Option (List ℕ)) (bytes : List ℕ) (requests : List Words) (given : List Command)
+stops_so : (error : ReadError) (ended : Bool) (bytes : List ℕ) (requests : List Words) (given : List Command)
     (reader : Progress) (before : ℕ)
     → IsJudged error × Parses bytes (requests ++ reader.requests) (error_end error) → given ≡ map command_of requests
-    → FaultsSo (stage_after error) before before × IsAtStage (stage_after error) left bytes requests given reader
-stops_so (BadCount place) left bytes requests given reader before parsed is = (refl, (parsed.1, is))
-stops_so (ExpectedBulk place) left bytes requests given reader before parsed is = (refl, (parsed.1, is))
-stops_so (BadLength place) left bytes requests given reader before parsed is = (refl, (parsed.1, is))
-stops_so (Inline place) left bytes requests given reader before parsed is = (refl, (parsed.1, is))
-stops_so (errors.TooLong taken) left bytes requests given reader before parsed is = (refl, (parsed.1, is))
-stops_so errors.Memory left bytes requests given reader before parsed is = absurd parsed.0
+    → FaultsSo (stage_after error) before before × IsAtStage (stage_after error) ended bytes requests given reader
+stops_so (BadCount place) ended bytes requests given reader before parsed is = (refl, (parsed.1, is))
+stops_so (ExpectedBulk place) ended bytes requests given reader before parsed is = (refl, (parsed.1, is))
+stops_so (BadLength place) ended bytes requests given reader before parsed is = (refl, (parsed.1, is))
+stops_so (Inline place) ended bytes requests given reader before parsed is = (refl, (parsed.1, is))
+stops_so (errors.TooLong taken) ended bytes requests given reader before parsed is = (refl, (parsed.1, is))
+stops_so errors.Memory ended bytes requests given reader before parsed is = absurd parsed.0
 
 -- a piece that the reader refused
-at_error : (input : Option (List ℕ)) (before : ℕ) (given : List Command) (pump : PumpState) (left : Option (List ℕ))
-    (faults n : ℕ) (reader : Progress) (error : ReadError) (room piece : List ℕ) → pump.stage ≡ Reading
-    → faults ≡ pump.faults → Takes pump.left left n room → piece ≡ take n room → length piece ≡ n → reader.closed
-    ≡ Some error
+at_error : (input : Origin) (before : ℕ) (given : List Command) (pump : PumpState) (origin : Origin) (bytes : List ℕ)
+    (ended : Bool) (faults n : ℕ) (reader : Progress) (error : ReadError) (piece : List ℕ) → pump.stage ≡ Reading
+    → faults ≡ pump.faults → origin ≡ pump.origin → bytes ≡ pump.given ++ piece → length piece ≡ n
+    → reader.closed ≡ Some error
     → ((bytes : List ℕ) (given : List Words) → ReadsRequests bytes given pump.reader
     → ReadsRequests (bytes ++ piece) given reader) → IsPump input before given pump
-    → IsPump input before given
-    (record { left = left; faults = faults; reader = reader; stage = stage_after error; taken = pump.taken + n })
-at_error input before given pump left faults n reader error room piece is same takes is_piece count closed fed p =
+    → IsPump input before given (pump_at origin bytes ended faults reader (stage_after error) (pump.taken + n))
+at_error input before given pump origin bytes ended faults n reader error piece is same from grew count closed fed p =
     let r = while_reading input before given pump is p in
-    let so = stops_so error left (r.bytes ++ piece) r.requests given reader before
-    (closed_by (r.bytes ++ piece) r.requests reader error closed (fed r.bytes r.requests r.reads)) r.given_is in
+    let reads = subst (λ b. ReadsRequests b r.requests reader) (sym grew) (fed pump.given r.requests r.reads) in
+    let so = stops_so error ended bytes r.requests given reader before
+    (closed_by bytes r.requests reader error closed reads) r.given_is in
     record {
-      bytes = r.bytes ++ piece;
       requests = r.requests;
-      taken_is = omega (arith, r.taken_is, length-append r.bytes piece, count);
-      gave = gave_more input pump.left left r.bytes piece room n r.gave takes is_piece;
+      taken_is = omega (arith, r.taken_is, length-append pump.given piece, count, ap length grew);
+      origin_is = from ∙ r.origin_is;
       faults_are = subst (λ m. FaultsSo (stage_after error) before m) (sym (same ∙ r.faults_are)) so.0;
       at = so.1;
     }
 
 -- an error of any kind
-pub at_stop : (input : Option (List ℕ)) (before : ℕ) (given : List Command) (pump : PumpState) (left : Option (List ℕ))
-    (faults n : ℕ) (reader : Progress) (error : ReadError) (room piece : List ℕ) → pump.stage ≡ Reading
-    → faults ≡ pump.faults → Takes pump.left left n room → piece ≡ take n room → length piece ≡ n
+pub at_stop : (input : Origin) (before : ℕ) (given : List Command) (pump : PumpState) (origin : Origin) (bytes : List ℕ)
+    (ended : Bool) (faults n : ℕ) (reader : Progress) (error : ReadError) (piece : List ℕ) → pump.stage ≡ Reading
+    → faults ≡ pump.faults → origin ≡ pump.origin → bytes ≡ pump.given ++ piece → length piece ≡ n
     → (error ≢ errors.Memory → reader.closed ≡ Some error)
     → (error ≢ errors.Memory → (bytes : List ℕ) (given : List Words) → ReadsRequests bytes given pump.reader
     → ReadsRequests (bytes ++ piece) given reader) → (error ≡ errors.Memory → reader ≡ pump.reader)
-    → IsPump input before given pump
-    → IsPump input before given
-    (record { left = left; faults = faults; reader = reader; stage = stage_after error; taken = pump.taken + n })
-at_stop input before given pump left faults n reader (BadCount place) room piece is quiet takes is_piece count closed
-    fed same p =
-    at_error input before given pump left faults n reader (BadCount place) room piece is quiet takes is_piece count
-    (closed (λ e. cc e)) (fed (λ e. cc e)) p
-at_stop input before given pump left faults n reader (ExpectedBulk place) room piece is quiet takes is_piece count
+    → IsPump input before given pump → IsPump input before given
+    (pump_at origin bytes ended faults reader (stage_after error) (pump.taken + n))
+at_stop input before given pump origin bytes ended faults n reader (BadCount place) piece is quiet from grew count
     closed fed same p =
-    at_error input before given pump left faults n reader (ExpectedBulk place) room piece is quiet takes is_piece count
+    at_error input before given pump origin bytes ended faults n reader (BadCount place) piece is quiet from grew count
     (closed (λ e. cc e)) (fed (λ e. cc e)) p
-at_stop input before given pump left faults n reader (BadLength place) room piece is quiet takes is_piece count closed
-    fed same p =
-    at_error input before given pump left faults n reader (BadLength place) room piece is quiet takes is_piece count
-    (closed (λ e. cc e)) (fed (λ e. cc e)) p
-at_stop input before given pump left faults n reader (Inline place) room piece is quiet takes is_piece count closed fed
-    same p =
-    at_error input before given pump left faults n reader (Inline place) room piece is quiet takes is_piece count
-    (closed (λ e. cc e)) (fed (λ e. cc e)) p
-at_stop input before given pump left faults n reader (errors.TooLong taken) room piece is quiet takes is_piece count
+at_stop input before given pump origin bytes ended faults n reader (ExpectedBulk place) piece is quiet from grew count
     closed fed same p =
-    at_error input before given pump left faults n reader (errors.TooLong taken) room piece is quiet takes is_piece
+    at_error input before given pump origin bytes ended faults n reader (ExpectedBulk place) piece is quiet from grew
     count (closed (λ e. cc e)) (fed (λ e. cc e)) p
-at_stop input before given pump left faults n reader errors.Memory room piece is quiet takes is_piece count closed fed
-    same p =
-    at_memory input before given pump left faults n reader room piece is quiet takes is_piece count (same refl) p
+at_stop input before given pump origin bytes ended faults n reader (BadLength place) piece is quiet from grew count
+    closed fed same p =
+    at_error input before given pump origin bytes ended faults n reader (BadLength place) piece is quiet from grew count
+    (closed (λ e. cc e)) (fed (λ e. cc e)) p
+at_stop input before given pump origin bytes ended faults n reader (Inline place) piece is quiet from grew count closed
+    fed same p =
+    at_error input before given pump origin bytes ended faults n reader (Inline place) piece is quiet from grew count
+    (closed (λ e. cc e)) (fed (λ e. cc e)) p
+at_stop input before given pump origin bytes ended faults n reader (errors.TooLong taken) piece is quiet from grew count
+    closed fed same p =
+    at_error input before given pump origin bytes ended faults n reader (errors.TooLong taken) piece is quiet from grew
+    count (closed (λ e. cc e)) (fed (λ e. cc e)) p
+at_stop input before given pump origin bytes ended faults n reader errors.Memory piece is quiet from grew count closed
+    fed same p =
+    at_memory input before given pump origin bytes ended faults n reader piece is quiet from grew count (same refl) p
 
 -- how many reads a pump can still make
 abbrev pub reads_left : PumpState → ℕ
@@ -271,117 +250,111 @@ given_more : (given : List Command) (requests : List Words) (request : Words) �
 given_more given requests request is = ap (λ g. g ++ command_of request ∷ []) is
     ∙ sym (map-append command_of requests (request ∷ []))
 
-took_last : (end : End) (left : Option (List ℕ)) (bytes : List ℕ) (requests : List Words) (given : List Command)
+took_last : (end : End) (ended : Bool) (bytes : List ℕ) (requests : List Words) (given : List Command)
     (reader new : Progress) (request : Words) → reader.requests ≡ request ∷ new.requests
-    → IsEnded end left bytes requests given reader → IsEnded end left bytes (requests ++ request ∷ [])
-    (given ++ command_of request ∷ []) new
-took_last Clean left bytes requests given reader new request is at = (
+    → IsEnded end ended bytes requests given reader
+    → IsEnded end ended bytes (requests ++ request ∷ []) (given ++ command_of request ∷ []) new
+took_last Clean ended bytes requests given reader new request is at = (
   at.0,
   subst (λ r. Parses bytes r Clean) (one_more requests reader.requests new.requests request is) at.1,
   given_more given requests request at.2,
 )
-took_last (Protocol kind place) left bytes requests given reader new request is at = absurd (cc (is, at.1))
-took_last (Truncated place) left bytes requests given reader new request is at = (
+took_last (Protocol kind place) ended bytes requests given reader new request is at = absurd (cc (is, at.1))
+took_last (Truncated place) ended bytes requests given reader new request is at = (
   at.0,
   subst (λ r. Parses bytes r (Truncated place)) (one_more requests reader.requests new.requests request is)
       at.1,
   given_more given requests request at.2,
 )
-took_last TooLong left bytes requests given reader new request is at = (
+took_last TooLong ended bytes requests given reader new request is at = (
   subst (λ r. Parses bytes r TooLong) (one_more requests reader.requests new.requests request is) at.0,
-  given_more
-      given requests request at.1,
+  given_more given requests request at.1,
 )
-took_last ReadFault left bytes requests given reader new request is at = absurd (cc (is, at.1))
-took_last Memory left bytes requests given reader new request is at = (
+took_last ReadFault ended bytes requests given reader new request is at = absurd (cc (is, at.1))
+took_last Memory ended bytes requests given reader new request is at = (
   subst (AreFirst bytes) (one_more requests reader.requests new.requests request is) at.0,
-  given_more given requests
-      request at.1,
+  given_more given requests request at.1,
 )
-took_last Left left bytes requests given reader new request is at = absurd at
+took_last Left ended bytes requests given reader new request is at = absurd at
 
-took : (stage : Stage) (left : Option (List ℕ)) (bytes : List ℕ) (requests : List Words) (given : List Command)
+took : (stage : Stage) (ended : Bool) (bytes : List ℕ) (requests : List Words) (given : List Command)
     (reader new : Progress) (request : Words) → reader.requests ≡ request ∷ new.requests
     → new.closed ≡ reader.closed
     → ((bytes : List ℕ) (given : List Words) → ReadsRequests bytes given reader
     → ReadsRequests bytes (given ++ request ∷ []) new)
-    → IsAtStage stage left bytes requests given reader → IsAtStage stage left bytes (requests ++ request ∷ [])
-    (given ++ command_of request ∷ []) new
-took Reading left bytes requests given reader new request is closed fed at =
-    (fed bytes requests at.0, closed ∙ at.1, given_more given requests request at.2)
-took (Refused kind place) left bytes requests given reader new request is closed fed at = (
+    → IsAtStage stage ended bytes requests given reader
+    → IsAtStage stage ended bytes (requests ++ request ∷ []) (given ++ command_of request ∷ []) new
+took Reading ended bytes requests given reader new request is closed fed at = (
+  fed bytes requests at.0,
+  closed ∙ at.1,
+  given_more given requests request at.2,
+)
+took (Refused kind place) ended bytes requests given reader new request is closed fed at = (
   subst (λ r. Parses bytes r (Protocol kind place)) (one_more requests reader.requests new.requests request is) at.0,
   given_more given requests request at.1,
 )
-took (Ended end) left bytes requests given reader new request is closed fed at =
-    took_last end left bytes requests given reader new request is at
+took (Ended end) ended bytes requests given reader new request is closed fed at =
+    took_last end ended bytes requests given reader new request is at
 
 -- no read failed before the last command was given
-no_fault : (stage : Stage) (left : Option (List ℕ)) (bytes : List ℕ) (requests : List Words) (given : List Command)
+no_fault : (stage : Stage) (ended : Bool) (bytes : List ℕ) (requests : List Words) (given : List Command)
     (reader new : Progress) (request : Words) (before now : ℕ) → reader.requests ≡ request ∷ new.requests
-    → IsAtStage stage left bytes requests given reader → FaultsSo stage before now → now ≡ before
-no_fault Reading left bytes requests given reader new request before now is at faults = faults
-no_fault (Refused kind place) left bytes requests given reader new request before now is at faults = faults
-no_fault (Ended Clean) left bytes requests given reader new request before now is at faults = faults
-no_fault (Ended (Protocol kind place)) left bytes requests given reader new request before now is at faults = faults
-no_fault (Ended (Truncated place)) left bytes requests given reader new request before now is at faults = faults
-no_fault (Ended TooLong) left bytes requests given reader new request before now is at faults = faults
-no_fault (Ended ReadFault) left bytes requests given reader new request before now is at faults = absurd (cc (is, at.1))
-no_fault (Ended Memory) left bytes requests given reader new request before now is at faults = faults
-no_fault (Ended Left) left bytes requests given reader new request before now is at faults = faults
+    → IsAtStage stage ended bytes requests given reader → FaultsSo stage before now → now ≡ before
+no_fault Reading ended bytes requests given reader new request before now is at faults = faults
+no_fault (Refused kind place) ended bytes requests given reader new request before now is at faults = faults
+no_fault (Ended Clean) ended bytes requests given reader new request before now is at faults = faults
+no_fault (Ended (Protocol kind place)) ended bytes requests given reader new request before now is at faults = faults
+no_fault (Ended (Truncated place)) ended bytes requests given reader new request before now is at faults = faults
+no_fault (Ended TooLong) ended bytes requests given reader new request before now is at faults = faults
+no_fault (Ended ReadFault) ended bytes requests given reader new request before now is at faults =
+    absurd (cc (is, at.1))
+no_fault (Ended Memory) ended bytes requests given reader new request before now is at faults = faults
+no_fault (Ended Left) ended bytes requests given reader new request before now is at faults = faults
 
-pub quiet_request : (input : Option (List ℕ)) (before : ℕ) (given : List Command) (pump : PumpState) (reader : Progress)
+pub quiet_request : (input : Origin) (before : ℕ) (given : List Command) (pump : PumpState) (reader : Progress)
     (request : Words) → pump.reader.requests ≡ request ∷ reader.requests → IsPump input before given pump
     → pump.faults ≡ before
-quiet_request input before given pump reader request is p = no_fault pump.stage pump.left p.bytes p.requests given
+quiet_request input before given pump reader request is p = no_fault pump.stage pump.ended pump.given p.requests given
     pump.reader reader request before pump.faults is p.at p.faults_are
 
-pub quiet_refusal : (input : Option (List ℕ)) (before : ℕ) (given : List Command) (pump : PumpState) (kind place : ℕ)
+pub quiet_refusal : (input : Origin) (before : ℕ) (given : List Command) (pump : PumpState) (kind place : ℕ)
     → pump.stage ≡ Refused kind place → IsPump input before given pump → pump.faults ≡ before
 quiet_refusal input before given pump kind place is p = subst (λ s. FaultsSo s before pump.faults) is p.faults_are
 
 -- a request that the reader had
-pub at_request : (input : Option (List ℕ)) (before : ℕ) (given : List Command) (pump : PumpState) (reader : Progress)
+pub at_request : (input : Origin) (before : ℕ) (given : List Command) (pump : PumpState) (reader : Progress)
     (request : Words) (command : Command) → pump.reader.requests ≡ request ∷ reader.requests
     → reader.closed ≡ pump.reader.closed
     → ((bytes : List ℕ) (given : List Words) → ReadsRequests bytes given pump.reader
     → ReadsRequests bytes (given ++ request ∷ []) reader) → command ≡ command_of request
     → IsPump input before given pump → IsPump input before (given ++ command ∷ [])
-    (record { left = pump.left; faults = pump.faults; reader = reader; stage = pump.stage; taken = pump.taken })
+    (pump_at pump.origin pump.given pump.ended pump.faults reader pump.stage pump.taken)
 at_request input before given pump reader request command is closed fed is_command p = record {
-  bytes = p.bytes;
   requests = p.requests ++ request ∷ [];
   taken_is = p.taken_is;
-  gave = p.gave;
+  origin_is = p.origin_is;
   faults_are = p.faults_are;
-  at = subst (λ c. IsAtStage pump.stage pump.left p.bytes (p.requests ++ request ∷ []) (given ++ c ∷ []) reader)
+  at = subst (λ c. IsAtStage pump.stage pump.ended pump.given (p.requests ++ request ∷ []) (given ++ c ∷ []) reader)
       (sym is_command)
-      (took pump.stage pump.left p.bytes p.requests given pump.reader reader request is closed fed p.at);
+      (took pump.stage pump.ended pump.given p.requests given pump.reader reader request is closed fed p.at);
 }
 
 -- the command of an error
-pub at_refusal : (input : Option (List ℕ)) (before : ℕ) (given : List Command) (pump : PumpState) (kind place : ℕ)
+pub at_refusal : (input : Origin) (before : ℕ) (given : List Command) (pump : PumpState) (kind place : ℕ)
     (command : Command) (reader : Progress) → pump.stage ≡ Refused kind place → pump.reader.requests ≡ []
     → reader.requests ≡ [] → command ≡ fault (protocol_error kind) → IsPump input before given pump
     → IsPump input before (given ++ command ∷ [])
-    (record {
-      left = pump.left;
-      faults = pump.faults;
-      reader = reader;
-      stage = Ended (Protocol kind place);
-      taken = pump.taken;
-    })
+    (pump_at pump.origin pump.given pump.ended pump.faults reader (Ended (Protocol kind place)) pump.taken)
 at_refusal input before given pump kind place command reader is none still is_command p =
-    let at = subst (λ s. IsAtStage s pump.left p.bytes p.requests given pump.reader) is p.at in
+    let at = subst (λ s. IsAtStage s pump.ended pump.given p.requests given pump.reader) is p.at in
     record {
-      bytes = p.bytes;
       requests = p.requests;
       taken_is = p.taken_is;
-      gave = p.gave;
+      origin_is = p.origin_is;
       faults_are = subst (λ s. FaultsSo s before pump.faults) is p.faults_are;
       at = (
-        subst (λ r. Parses p.bytes r (Protocol kind place)) (ap (λ m. p.requests ++ m) none ∙ append-nil p.requests)
-            at.0,
+        subst (λ r. Parses pump.given r (Protocol kind place)) (ap (λ m. p.requests ++ m) none
+            ∙ append-nil p.requests) at.0,
         still,
         ap (λ g. g ++ command ∷ []) at.1 ∙ ap (λ c. map command_of p.requests ++ c ∷ []) is_command,
       );
@@ -422,66 +395,49 @@ commands_first all requests rest Left is =
     (map command_of rest, ap (map command_of) is ∙ map-append command_of requests rest)
 
 -- no command is behind those that were given
-alone : (input left : Option (List ℕ)) (given : List Command) (end : Bool → SessionEnd)
-    → ((failed : Bool) → IsSession (session_at input left given (end failed) 0))
-    → (more : List Command) × ((failed : Bool) → IsSession (session_at input left (given ++ more) (end failed) 0))
-alone input left given end session = (
+alone : (bytes : List ℕ) (ended : Bool) (given : List Command) (end : Bool → SessionEnd)
+    → ((failed : Bool) → IsSession (session_at bytes ended given (end failed) 0))
+    → (more : List Command) × ((failed : Bool) → IsSession (session_at bytes ended (given ++ more) (end failed) 0))
+alone bytes ended given end session = (
   [],
-  λ failed. subst (λ c. IsSession (session_at input left c (end failed) 0)) (sym (append-nil given))
-      (session failed),
+  λ failed. subst (λ c. IsSession (session_at bytes ended c (end failed) 0)) (sym (append-nil given)) (session failed),
 )
 
 none_held : (P : List Words → Type 0) (requests held : List Words) → held ≡ [] → P (requests ++ held) → P requests
 none_held P requests held none p = subst P (ap (λ m. requests ++ m) none ∙ append-nil requests) p
 
 -- the session, by its end
-session_of : (end : End) (input left : Option (List ℕ)) (bytes : List ℕ) (requests : List Words) (given : List Command)
+session_of : (end : End) (bytes : List ℕ) (ended : Bool) (requests : List Words) (given : List Command)
     (reader : Progress) (taken : ℕ) → taken ≡ length bytes → reader.requests ≡ []
-    → Gave input left bytes → IsEnded end left bytes requests given reader
-    → (more : List Command)
-    × ((failed : Bool) → IsSession
-    (session_at input left (given ++ more) (ended_at end (bytes_taken end taken) (length given) failed) 0))
-session_of Clean input left bytes requests given reader taken count none gave at =
-    let told = told_none input left bytes gave at.0 in
-    alone input left given _ (λ failed. record {
-      gave = bytes;
-      left = [];
-      input_is = told.0;
-      left_is = told.1;
+    → IsEnded end ended bytes requests given reader
+    → (more : List Command) × ((failed : Bool) → IsSession
+    (session_at bytes ended (given ++ more) (ended_at end (bytes_taken end taken) (length given) failed) 0))
+session_of Clean bytes ended requests given reader taken count none at =
+    alone bytes ended given _ (λ failed. record {
       requests = requests;
       shown = Clean;
       parsed = none_held (λ r. Parses bytes r Clean) requests reader.requests none at.1;
       commands_are = at.2;
       shown_is = refl;
-      read_out = refl;
+      read_out = at.0;
       taken_is = count;
       replied = refl;
       begun_is = refl;
     })
-session_of (Truncated place) input left bytes requests given reader taken count none gave at =
-    let told = told_none input left bytes gave at.0 in
-    alone input left given _ (λ failed. record {
-      gave = bytes;
-      left = [];
-      input_is = told.0;
-      left_is = told.1;
+session_of (Truncated place) bytes ended requests given reader taken count none at =
+    alone bytes ended given _ (λ failed. record {
       requests = requests;
       shown = Truncated place;
       parsed = none_held (λ r. Parses bytes r (Truncated place)) requests reader.requests none at.1;
       commands_are = at.2;
       shown_is = refl;
-      read_out = refl;
+      read_out = at.0;
       taken_is = count;
       replied = refl;
       begun_is = refl;
     })
-session_of (Protocol kind place) input left bytes requests given reader taken count none gave at =
-    let told = told_rest input left bytes gave in
-    alone input left given _ (λ failed. record {
-      gave = bytes;
-      left = told.0;
-      input_is = told.1;
-      left_is = told.2;
+session_of (Protocol kind place) bytes ended requests given reader taken count none at =
+    alone bytes ended given _ (λ failed. record {
       requests = requests;
       shown = Protocol kind place;
       parsed = at.0;
@@ -492,13 +448,8 @@ session_of (Protocol kind place) input left bytes requests given reader taken co
       replied = refl;
       begun_is = refl;
     })
-session_of TooLong input left bytes requests given reader taken count none gave at =
-    let told = told_rest input left bytes gave in
-    alone input left given _ (λ failed. record {
-      gave = bytes;
-      left = told.0;
-      input_is = told.1;
-      left_is = told.2;
+session_of TooLong bytes ended requests given reader taken count none at =
+    alone bytes ended given _ (λ failed. record {
       requests = requests;
       shown = TooLong;
       parsed = none_held (λ r. Parses bytes r TooLong) requests reader.requests none at.0;
@@ -509,14 +460,9 @@ session_of TooLong input left bytes requests given reader taken count none gave 
       replied = refl;
       begun_is = refl;
     })
-session_of ReadFault input left bytes requests given reader taken count none gave at =
-    let told = told_rest input left bytes gave in
+session_of ReadFault bytes ended requests given reader taken count none at =
     let read = none_held (AreRead bytes) requests reader.requests none at.0 in
-    alone input left given _ (λ failed. record {
-      gave = bytes;
-      left = told.0;
-      input_is = told.1;
-      left_is = told.2;
+    alone bytes ended given _ (λ failed. record {
       requests = requests;
       shown = read.shown;
       parsed = read.parsed;
@@ -527,16 +473,11 @@ session_of ReadFault input left bytes requests given reader taken count none gav
       replied = refl;
       begun_is = refl;
     })
-session_of Memory input left bytes requests given reader taken count none gave at =
-    let told = told_rest input left bytes gave in
+session_of Memory bytes ended requests given reader taken count none at =
     let first = none_held (AreFirst bytes) requests reader.requests none at.0 in
     let more = commands_first first.all requests first.rest first.shown first.all_are in (
       more.0,
       λ failed. record {
-        gave = bytes;
-        left = told.0;
-        input_is = told.1;
-        left_is = told.2;
         requests = first.all;
         shown = first.shown;
         parsed = first.parsed;
@@ -555,28 +496,27 @@ session_of Memory input left bytes requests given reader taken count none gave a
         begun_is = inl refl;
       },
     )
-session_of Left input left bytes requests given reader taken count none gave at = absurd at
+session_of Left bytes ended requests given reader taken count none at = absurd at
 
 -- all commands were given
-to_the_end : (end : End) (left : Option (List ℕ)) (bytes : List ℕ) (requests : List Words) (given : List Command)
-    (reader : Progress) → IsEnded end left bytes requests given reader → end ≢ Left
-to_the_end end left bytes requests given reader at is = subst (λ e. IsEnded e left bytes requests given reader) is at
+to_the_end : (end : End) (ended : Bool) (bytes : List ℕ) (requests : List Words) (given : List Command)
+    (reader : Progress) → IsEnded end ended bytes requests given reader → end ≢ Left
+to_the_end end ended bytes requests given reader at is = subst (λ e. IsEnded e ended bytes requests given reader) is at
 
-pub at_last : (input : Option (List ℕ)) (before : ℕ) (given : List Command) (pump : PumpState) (end : End) (taken : ℕ)
+pub at_last : (input : Origin) (before : ℕ) (given : List Command) (pump : PumpState) (end : End) (taken : ℕ)
     (reader : Progress) → pump.stage ≡ Ended end → pump.reader.requests ≡ [] → taken ≡ bytes_taken end pump.taken
-    → IsPump input before given pump
-    → HasEnded input before given end
-    (record { left = pump.left; faults = pump.faults; reader = reader; stage = pump.stage; taken = taken })
+    → IsPump input before given pump → HasEnded input before given end
+    (pump_at pump.origin pump.given pump.ended pump.faults reader pump.stage taken)
 at_last input before given pump end taken reader is none by p =
-    let at = subst (λ s. IsAtStage s pump.left p.bytes p.requests given pump.reader) is p.at in
-    let session = session_of end input pump.left p.bytes p.requests given pump.reader pump.taken p.taken_is none p.gave
-    at in
+    let at = subst (λ s. IsAtStage s pump.ended pump.given p.requests given pump.reader) is p.at in
+    let session = session_of end pump.given pump.ended p.requests given pump.reader pump.taken p.taken_is none at in
     record {
+      origin_is = p.origin_is;
       faults_are = subst (λ s. FaultsSo s before pump.faults) is p.faults_are;
-      to_the_end = to_the_end end pump.left p.bytes p.requests given pump.reader at;
+      to_the_end = to_the_end end pump.ended pump.given p.requests given pump.reader at;
       more = session.0;
       session = subst (λ t. (failed : Bool)
-          → IsSession (session_at input pump.left (given ++ session.0) (ended_at end t (length given) failed) 0))
+          → IsSession (session_at pump.given pump.ended (given ++ session.0) (ended_at end t (length given) failed) 0))
           (sym by) session.1;
     }
 
@@ -600,22 +540,20 @@ unchanged_reader old new front closed requests = λ i. record {
 }
 
 -- a pump whose end was answered is as it was
-pub same_again : (end other : End) (pump : PumpState) (reader : Progress) (taken : ℕ) → AnswersEnd end pump → pump.stage
-    ≡ Ended other → reader ≡ pump.reader → taken ≡ bytes_taken other pump.taken
-    → record { left = pump.left; faults = pump.faults; reader = reader; stage = pump.stage; taken = taken } ≡ pump
+pub same_again : (end other : End) (pump : PumpState) (reader : Progress) (taken : ℕ) → AnswersEnd end pump
+    → pump.stage ≡ Ended other → reader ≡ pump.reader → taken ≡ bytes_taken other pump.taken
+    → pump_at pump.origin pump.given pump.ended pump.faults reader pump.stage taken ≡ pump
 same_again end other pump reader taken over at same by =
     let is : other ≡ end = cc (at, over.stage) in
     let stays : taken ≡ pump.taken = by ∙ ap (λ e. bytes_taken e pump.taken) is ∙ sym over.taken in
-    λ i. record { left = pump.left; faults = pump.faults; reader = same i; stage = pump.stage; taken = stays i }
+    λ i. pump_at pump.origin pump.given pump.ended pump.faults (same i) pump.stage (stays i)
 
 -- what the bytes that came mean, and that the commands which were given are the first of it
-pub record Meant (input left : Option (List ℕ)) (given : List Command) (taken : ℕ) : Type 0 where
-  pub bytes : List ℕ
+pub record Meant (bytes : List ℕ) (given : List Command) (taken : ℕ) : Type 0 where
   pub requests : List Words
   pub shown : End
   pub more : List Command
   pub taken_is : taken ≡ length bytes
-  pub gave : Gave input left bytes
   pub parsed : Parses bytes requests shown
   pub commands_are : commands_in requests shown ≡ given ++ more
 
@@ -643,11 +581,11 @@ meant_read given bytes requests pending read is = record {
   commands_are = read.no_error (requests ++ pending) ∙ all_of given requests pending is;
 }
 
-meant_at : (stage : Stage) (left : Option (List ℕ)) (bytes : List ℕ) (requests : List Words) (given : List Command)
-    (reader : Progress) → IsAtStage stage left bytes requests given reader → IsMeant bytes given
-meant_at Reading left bytes requests given reader at = meant_read given bytes requests reader.requests
-    (open_are_read bytes requests reader at.1 at.0) at.2
-meant_at (Refused kind place) left bytes requests given reader at = record {
+meant_at : (stage : Stage) (ended : Bool) (bytes : List ℕ) (requests : List Words) (given : List Command)
+    (reader : Progress) → IsAtStage stage ended bytes requests given reader → IsMeant bytes given
+meant_at Reading ended bytes requests given reader at =
+    meant_read given bytes requests reader.requests (open_are_read bytes requests reader at.1 at.0) at.2
+meant_at (Refused kind place) ended bytes requests given reader at = record {
   requests = requests ++ reader.requests;
   shown = Protocol kind place;
   more = map command_of reader.requests ++ fault (protocol_error kind) ∷ [];
@@ -655,37 +593,37 @@ meant_at (Refused kind place) left bytes requests given reader at = record {
   commands_are = ap (λ c. c ++ fault (protocol_error kind) ∷ []) (all_of given requests reader.requests at.1)
       ∙ append_assoc given (map command_of reader.requests) (fault (protocol_error kind) ∷ []);
 }
-meant_at (Ended Clean) left bytes requests given reader at = record {
+meant_at (Ended Clean) ended bytes requests given reader at = record {
   requests = requests ++ reader.requests;
   shown = Clean;
   more = map command_of reader.requests;
   parsed = at.1;
   commands_are = all_of given requests reader.requests at.2;
 }
-meant_at (Ended (Protocol kind place)) left bytes requests given reader at = record {
+meant_at (Ended (Protocol kind place)) ended bytes requests given reader at = record {
   requests = requests;
   shown = Protocol kind place;
   more = [];
   parsed = at.0;
   commands_are = sym at.2 ∙ sym (append-nil given);
 }
-meant_at (Ended (Truncated place)) left bytes requests given reader at = record {
+meant_at (Ended (Truncated place)) ended bytes requests given reader at = record {
   requests = requests ++ reader.requests;
   shown = Truncated place;
   more = map command_of reader.requests;
   parsed = at.1;
   commands_are = all_of given requests reader.requests at.2;
 }
-meant_at (Ended TooLong) left bytes requests given reader at = record {
+meant_at (Ended TooLong) ended bytes requests given reader at = record {
   requests = requests ++ reader.requests;
   shown = TooLong;
   more = map command_of reader.requests;
   parsed = at.0;
   commands_are = all_of given requests reader.requests at.1;
 }
-meant_at (Ended ReadFault) left bytes requests given reader at = meant_read given bytes requests reader.requests at.0
-    at.2
-meant_at (Ended Memory) left bytes requests given reader at =
+meant_at (Ended ReadFault) ended bytes requests given reader at =
+    meant_read given bytes requests reader.requests at.0 at.2
+meant_at (Ended Memory) ended bytes requests given reader at =
     let first = at.0 in
     let all_are : first.all ≡ requests ++ (reader.requests ++ first.rest) = first.all_are
     ∙ append_assoc requests reader.requests first.rest in
@@ -697,19 +635,17 @@ meant_at (Ended Memory) left bytes requests given reader at =
       parsed = first.parsed;
       commands_are = more.1 ∙ ap (λ g. g ++ more.0) (sym at.1);
     }
-meant_at (Ended Left) left bytes requests given reader at = absurd at
+meant_at (Ended Left) ended bytes requests given reader at = absurd at
 
-pub meant : (input : Option (List ℕ)) (before : ℕ) (given : List Command) (pump : PumpState)
-    → IsPump input before given pump → Meant input pump.left given pump.taken
+pub meant : (input : Origin) (before : ℕ) (given : List Command) (pump : PumpState) → IsPump input before given pump
+    → Meant pump.given given pump.taken
 meant input before given pump p =
-    let m = meant_at pump.stage pump.left p.bytes p.requests given pump.reader p.at in
+    let m = meant_at pump.stage pump.ended pump.given p.requests given pump.reader p.at in
     record {
-      bytes = p.bytes;
       requests = m.requests;
       shown = m.shown;
       more = m.more;
       taken_is = p.taken_is;
-      gave = p.gave;
       parsed = m.parsed;
       commands_are = m.commands_are;
     }
@@ -768,8 +704,8 @@ one_error_more requests ReadFault = omega (arith, length-map requests command_of
 one_error_more requests Memory = omega (arith, length-map requests command_of)
 one_error_more requests Left = omega (arith, length-map requests command_of)
 
-pub bounded : (input : Option (List ℕ)) (before : ℕ) (given : List Command) (pump : PumpState)
-    → IsPump input before given pump → length given ≤ judged_bytes + 1
+pub bounded : (input : Origin) (before : ℕ) (given : List Command) (pump : PumpState) → IsPump input before given pump
+    → length given ≤ judged_bytes + 1
 bounded input before given pump p =
     let m = meant input before given pump p in
     omega (
@@ -777,22 +713,16 @@ bounded input before given pump p =
       ap length m.commands_are,
       length-append given m.more,
       one_error_more m.requests m.shown,
-      so_many
-          m.bytes m.requests m.shown m.parsed,
+      so_many pump.given m.requests m.shown m.parsed,
     )
 
 -- a session that memory stopped behind so many replies, in a call that was given
-pub stopped_at : (input left : Option (List ℕ)) (given : List Command) (taken replies begun : ℕ) (failed : Bool)
-    → (m : Meant input left given taken) → replies < length given
+pub stopped_at : (bytes : List ℕ) (ended : Bool) (given : List Command) (taken replies begun : ℕ) (failed : Bool)
+    → (m : Meant bytes given taken) → replies < length given
     → (begun ≡ 0) ⊎ (begun < length (next_parts replies (given ++ m.more)))
-    → IsSession (session_at input left (given ++ m.more) (ended_at Memory taken replies failed) begun)
-stopped_at input left given taken replies begun failed m some is_begun =
-    let told = told_rest input left m.bytes m.gave in
+    → IsSession (session_at bytes ended (given ++ m.more) (ended_at Memory taken replies failed) begun)
+stopped_at bytes ended given taken replies begun failed m some is_begun =
     record {
-      gave = m.bytes;
-      left = told.0;
-      input_is = told.1;
-      left_is = told.2;
       requests = m.requests;
       shown = m.shown;
       parsed = m.parsed;

@@ -1,6 +1,6 @@
 -- A pump: what its source gave, and which commands it has given of that.
-use Rattle.std.specs.Prelude.{◌≡◌, ◌≢◌, ℕ, ◌+◌, ◌-◌, ◌^◌, ◌≤◌, min, Bool, List, [], ◌∷◌, ◌++◌, length, map}
-use Rattle.std.specs.Prelude.{Option, None, IfSome}
+use Rattle.std.specs.Prelude.{◌≡◌, ◌≢◌, ℕ, ◌+◌, ◌-◌, ◌^◌, ◌≤◌, min, Bool, true, List, [], ◌∷◌, ◌++◌, length, map}
+use Rattle.std.specs.Prelude.{Option, None}
 use Rattle.flake_base.specs.Causes.{Rose}
 use Rattle.flake_base.specs.declared.session.End.{End}
 use Rattle.flake_base.specs.declared.session.End.TheVariants.{Clean, Protocol, Truncated, TooLong, ReadFault, Memory}
@@ -13,13 +13,22 @@ use Rattle.flake_model.specs.Session.{Session, IsSession, HasNoError}
 use Rattle.resp_reader.specs.declared.error.ReadError.{ReadError}
 use Rattle.resp_reader.specs.declared.error.ReadError.TheVariants as errors
 use Rattle.resp_reader.specs.Reader.{Progress, ReadsRequests, fed_to}
-use Rattle.command_pump.specs.Given.{Gave}
 use Rattle.command_pump.specs.declared.pump.Stage.{Stage}
 use Rattle.command_pump.specs.declared.pump.Stage.TheVariants.{Reading, Refused, Ended}
 
+-- where bytes come from: the name, and what is held under it, where that is told
+pub record Origin : Type 0 where
+  pub name : List ℕ
+  pub whole : Option (List ℕ)
+
+abbrev pub origin_of : List ℕ → Option (List ℕ) → Origin
+origin_of name whole = record { name = name; whole = whole }
+
 pub record PumpState : Type 0 where
-  -- what the source still has, where it tells that, and how often its reads failed
-  pub left : Option (List ℕ)
+  -- the source's origin, what it gave, whether it gave none at last, and how often its reads failed
+  pub origin : Origin
+  pub given : List ℕ
+  pub ended : Bool
   pub faults : ℕ
   pub reader : Progress
   pub stage : Stage
@@ -64,10 +73,6 @@ FaultsSo Reading before now = now ≡ before
 FaultsSo (Refused kind place) before now = now ≡ before
 FaultsSo (Ended end) before now = EndFaults end before now
 
--- nothing is left, where that is told
-abbrev pub NothingLeft : Option (List ℕ) → Type 0
-NothingLeft left = IfSome left (λ rest. rest ≡ [])
-
 -- whole requests, and perhaps the front of one
 pub record AreRead (bytes : List ℕ) (requests : List Words) : Type 0 where
   pub shown : End
@@ -84,38 +89,37 @@ pub record AreFirst (bytes : List ℕ) (requests : List Words) : Type 0 where
   pub all_are : all ≡ requests ++ rest
 
 -- What the bytes of an ended input mean: the requests that were given and those that are still to be given are theirs.
-abbrev pub IsEnded : End → Option (List ℕ) → List ℕ → List Words → List Command → Progress → Type 0
-IsEnded Clean left bytes requests given reader =
-    NothingLeft left × Parses bytes (requests ++ reader.requests) Clean × (given ≡ map command_of requests)
-IsEnded (Protocol kind place) left bytes requests given reader =
+abbrev pub IsEnded : End → Bool → List ℕ → List Words → List Command → Progress → Type 0
+IsEnded Clean ended bytes requests given reader =
+    (ended ≡ true) × Parses bytes (requests ++ reader.requests) Clean × (given ≡ map command_of requests)
+IsEnded (Protocol kind place) ended bytes requests given reader =
     Parses bytes requests (Protocol kind place) × (reader.requests ≡ [])
     × (given ≡ map command_of requests ++ fault (protocol_error kind) ∷ [])
-IsEnded (Truncated place) left bytes requests given reader =
-    NothingLeft left × Parses bytes (requests ++ reader.requests) (Truncated place) × (given ≡ map command_of requests)
-IsEnded TooLong left bytes requests given reader =
+IsEnded (Truncated place) ended bytes requests given reader =
+    (ended ≡ true) × Parses bytes (requests ++ reader.requests) (Truncated place) × (given ≡ map command_of requests)
+IsEnded TooLong ended bytes requests given reader =
     Parses bytes (requests ++ reader.requests) TooLong × (given ≡ map command_of requests)
-IsEnded ReadFault left bytes requests given reader =
+IsEnded ReadFault ended bytes requests given reader =
     AreRead bytes (requests ++ reader.requests) × (reader.requests ≡ []) × (given ≡ map command_of requests)
-IsEnded Memory left bytes requests given reader =
+IsEnded Memory ended bytes requests given reader =
     AreFirst bytes (requests ++ reader.requests) × (given ≡ map command_of requests)
-IsEnded Left left bytes requests given reader = ⊥
+IsEnded Left ended bytes requests given reader = ⊥
 
-abbrev pub IsAtStage : Stage → Option (List ℕ) → List ℕ → List Words → List Command → Progress → Type 0
-IsAtStage Reading left bytes requests given reader =
+abbrev pub IsAtStage : Stage → Bool → List ℕ → List Words → List Command → Progress → Type 0
+IsAtStage Reading ended bytes requests given reader =
     ReadsRequests bytes requests reader × (reader.closed ≡ None) × (given ≡ map command_of requests)
-IsAtStage (Refused kind place) left bytes requests given reader =
+IsAtStage (Refused kind place) ended bytes requests given reader =
     Parses bytes (requests ++ reader.requests) (Protocol kind place) × (given ≡ map command_of requests)
-IsAtStage (Ended end) left bytes requests given reader = IsEnded end left bytes requests given reader
+IsAtStage (Ended end) ended bytes requests given reader = IsEnded end ended bytes requests given reader
 
--- Of an input, and from a count of faults on, these commands were given.
-pub record IsPump (input : Option (List ℕ)) (before : ℕ) (given : List Command) (pump : PumpState) : Type 0 where
-  -- all that the source gave, which is what was taken
-  pub bytes : List ℕ
+-- Of a source with this origin, and from a count of faults on, these commands were given.
+pub record IsPump (input : Origin) (before : ℕ) (given : List Command) (pump : PumpState) : Type 0 where
   pub requests : List Words
-  pub taken_is : pump.taken ≡ length bytes
-  pub gave : Gave input pump.left bytes
+  -- all that the source gave was taken
+  pub taken_is : pump.taken ≡ length pump.given
+  pub origin_is : pump.origin ≡ input
   pub faults_are : FaultsSo pump.stage before pump.faults
-  pub at : IsAtStage pump.stage pump.left bytes requests given pump.reader
+  pub at : IsAtStage pump.stage pump.ended pump.given requests given pump.reader
 
 -- An end was answered: it is answered again, and nothing changes.
 pub record AnswersEnd (end : End) (pump : PumpState) : Type 0 where
@@ -127,15 +131,16 @@ pub record AnswersEnd (end : End) (pump : PumpState) : Type 0 where
 abbrev pub ended_at : End → ℕ → ℕ → Bool → SessionEnd
 ended_at end taken replies failed = record { end = end; taken = taken; replies = replies; failed = failed }
 
-abbrev pub session_at : Option (List ℕ) → Option (List ℕ) → List Command → SessionEnd → ℕ → Session
-session_at input left commands end begun =
-    record { input = input; left = left; commands = commands; end = end; begun = begun }
+abbrev pub session_at : List ℕ → Bool → List Command → SessionEnd → ℕ → Session
+session_at bytes ended commands end begun =
+    record { given = bytes; ended = ended; commands = commands; end = end; begun = begun }
 
 -- Of an input, these commands were given, and it ended so; where memory was wanting there may be more.
-pub record HasEnded (input : Option (List ℕ)) (before : ℕ) (given : List Command) (end : End)
+pub record HasEnded (input : Origin) (before : ℕ) (given : List Command) (end : End)
     (pump : PumpState) : Type 0 where
+  pub origin_is : pump.origin ≡ input
   pub faults_are : EndFaults end before pump.faults
   pub to_the_end : end ≢ Left
   pub more : List Command
   pub session : (failed : Bool)
-      → IsSession (session_at input pump.left (given ++ more) (ended_at end pump.taken (length given) failed) 0)
+      → IsSession (session_at pump.given pump.ended (given ++ more) (ended_at end pump.taken (length given) failed) 0)

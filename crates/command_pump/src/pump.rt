@@ -1,10 +1,10 @@
 // Commands from a source.
-ghost use Rattle.std.specs.Prelude.{◌≡◌, ◌<◌, ◌⊎◌, ◌++◌, ◌∷◌, [], List, ℕ, Option, None, Some, IfOk, IfErr, Err};
+ghost use Rattle.std.specs.Prelude.{◌≡◌, ◌<◌, ◌⊎◌, ◌++◌, ◌∷◌, [], List, ℕ, None, IfOk, IfErr, Err};
 ghost use Rattle.flake_model.specs.Command.{Command as Meaning};
 ghost use Rattle.flake_model.specs.Resp.{Words, Parses};
 ghost use Rattle.flake_model.specs.Input.{protocol_error};
 ghost use Rattle.resp_reader.specs.Reader.{ReadsRequests};
-ghost use Rattle.command_pump.specs.Pump.{IsPump, HasEnded, AnswersEnd, bytes_taken, stage_after};
+ghost use Rattle.command_pump.specs.Pump.{Origin, IsPump, HasEnded, AnswersEnd, bytes_taken, stage_after};
 
 use command_parts::Command;
 use flake_base::{End, ErrorKind, Failed, Source};
@@ -46,7 +46,9 @@ impl<S: Source> Model for Pump<S> {
     ghost Value = { PumpState };
 
     ghost view = { λ p. record {
-      left = S.left p.source;
+      origin = record { name = S.name p.source; whole = S.whole p.source };
+      given = S.given p.source;
+      ended = S.ended p.source;
       faults = S.read_faults p.source;
       reader = p.reader;
       stage = p.stage;
@@ -108,8 +110,11 @@ fn input_end(reader: Reader) -> End
 
 impl<S: Source> Pump<S> {
     pub fn new(alloc: Global, source: S) -> Self
-        ensures pump { IsPump (S.left source) (S.read_faults source) [] result }
-        ensures source { (result.left ≡ S.left source) × (result.faults ≡ S.read_faults source) }
+        requires { S.given source ≡ [] }
+        ensures pump { IsPump (record { name = S.name source; whole = S.whole source }) (S.read_faults source) []
+            result }
+        ensures source { (result.given ≡ []) × (result.ended ≡ S.ended source)
+            × (result.faults ≡ S.read_faults source) }
     {
         Pump {
             alloc,
@@ -125,10 +130,10 @@ impl<S: Source> Pump<S> {
     /// request has there makes one command of its own.
     #[inline(always)]
     pub fn next(&mut self) -> Result<Command, End>
-        ensures command { IfOk result (λ command. (input : Option (List ℕ)) (before : ℕ) (given : List Meaning)
+        ensures command { IfOk result (λ command. (input : Origin) (before : ℕ) (given : List Meaning)
             → IsPump input before given self.old
             → IsPump input before (given ++ command ∷ []) self.new × (self.new.faults ≡ before)) }
-        ensures end { IfErr result (λ end. (input : Option (List ℕ)) (before : ℕ) (given : List Meaning)
+        ensures end { IfErr result (λ end. (input : Origin) (before : ℕ) (given : List Meaning)
             → IsPump input before given self.old
             → HasEnded input before given end self.new) }
         ensures over { IfErr result (λ end. AnswersEnd end self.new) }
@@ -156,7 +161,7 @@ impl<S: Source> Pump<S> {
     fn read(&mut self)
         requires reading { self.old.stage ≡ Stage.Reading }
         requires none { self.old.reader.requests ≡ [] }
-        ensures kept { (input : Option (List ℕ)) (before : ℕ) (given : List Meaning)
+        ensures kept { (input : Origin) (before : ℕ) (given : List Meaning)
             → IsPump input before given self.old → IsPump input before given self.new }
         ensures further { self.new.stage ≡ Stage.Reading → self.old.taken < self.new.taken }
     {
@@ -192,7 +197,10 @@ impl<S: Source> Pump<S> {
     }
 
     pub fn into_source(self) -> S
-        ensures left { S.left result ≡ self.left }
+        ensures name { S.name result ≡ self.origin.name }
+        ensures whole { S.whole result ≡ self.origin.whole }
+        ensures given { S.given result ≡ self.given }
+        ensures ended { S.ended result ≡ self.ended }
         ensures faults { S.read_faults result ≡ self.faults }
     {
         self.source

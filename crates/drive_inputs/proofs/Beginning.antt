@@ -1,11 +1,11 @@
 -- A session with its source and its wire, before the first line.
-use Rattle.std.proofs.Common.{◌≡◌, ℕ, Bool, List, [], Option, Some, None, refl, ap}
+use Rattle.std.proofs.Common.{◌≡◌, ℕ, Bool, List, [], Some, None, refl, ap}
 use Rattle.pin_core.specs.declared.sizes.Sizes.{Sizes}
 use Rattle.reply_planner.specs.Parcels.{Sent}
 use Rattle.tx_descriptor.specs.declared.framed.Framed.{Ghosts}
 use Rattle.tx_ring.specs.declared.device.DeviceEnd.{DeviceEnd}
 use Rattle.tx_ring.specs.declared.view.DeviceView.{DeviceView}
-use Rattle.command_pump.specs.Pump.{PumpState, IsPump}
+use Rattle.command_pump.specs.Pump.{Origin, PumpState, IsPump}
 use Rattle.session_pass.specs.Views.{SessionView}
 use Rattle.session_serve.specs.Working.{IsFresh}
 use Rattle.drive_script.specs.Driving.{driving_of, IsNew}
@@ -14,11 +14,11 @@ use Rattle.run_resources.proofs.SessionSlots.{fresh}
 
 module _ {g : Ghosts Sent} where
   pub new_driving : {W : Type 0} (z : Sizes) (session : SessionView) (device : DeviceEnd Sent g) (failed : Bool)
-      (pump : PumpState) (left : Option (List ℕ)) (faults : ℕ) (wire : W) → IsSessionSlot z session device failed
-      → IsPump left faults [] pump → (pump.left ≡ left) × (pump.faults ≡ faults)
+      (pump : PumpState) (origin : Origin) (faults : ℕ) (wire : W) → IsSessionSlot z session device failed
+      → IsPump origin faults [] pump → pump.given ≡ [] → pump.faults ≡ faults
       → IsNew z (driving_of session failed device None None pump (Some wire)) × IsFresh z session pump
-  new_driving z session device failed pump left faults wire is unread own =
-      let untouched = fresh z session device failed pump left faults is unread own in (
+  new_driving z session device failed pump origin faults wire is unread none count =
+      let untouched = fresh z session device failed pump origin faults is unread none count in (
         record {
           ring = is.ring;
           small = is.pass.opened.small;

@@ -33,7 +33,8 @@ use Rattle.reply_planner.specs.Places.{buffer_addresses}
 use Rattle.serve_model.specs.Handed.{SessionHasRun}
 use Rattle.session_pass.specs.Views.{SessionView}
 use Rattle.transcript_model.specs.Lines.{EventLine}
-use Rattle.transcript_model.specs.Sessions.{WireGrew, IsRightSession, events_of, texts_of}
+use Rattle.any_wire.specs.Texts.{WireGrew}
+use Rattle.transcript_model.specs.Sessions.{IsRightSession, events_of, texts_of}
 use Rattle.transcript_model.specs.Terms.{Terms}
 use Rattle.transcript_model.specs.Transcript.{IsStageShown}
 use Rattle.tx_ring.specs.Shown.{ring_size}
@@ -129,8 +130,8 @@ module _ {W : Type 0} (put_may : W → Bor (List ℕ) → (W × Bool) → Type 0
 
   abbrev pub one_of : (number : ℕ) (first : Driving W) (last : Leaving W) → WasDriven number first last → OneDriven W
   one_of number first last was = record {
-    input = first.pump.left;
-    left = last.pump.left;
+    given = last.pump.given;
+    ended = last.pump.ended;
     end = last.end;
     list = last.mine;
     seat = last.seat;
@@ -195,7 +196,7 @@ module _ {W : Type 0} (put_may : W → Bor (List ℕ) → (W × Bool) → Type 0
         deeds = own_deeds last.mine;
       } in
       let driven : ℕ × ℕ × ℕ → Type 0 = λ q.
-      (ran : SessionHasRun z shards q.0 first.pump.left last.pump.left last.end last.mine last.seat was.texts)
+      (ran : SessionHasRun z shards q.0 last.pump.given last.pump.ended last.end last.mine last.seat was.texts)
       × IsRightSession (terms q ran.run.commands) (events_of number lines)
       × WireGrew sends last.end.failed was.whole (texts_of (terms q ran.run.commands)) was.start last.wire in
       let own = subst driven (λ i. (fit.number_is i, fit.ring_is i, fit.threshold_is i)) (was.ran, was.told, was.grew)
@@ -234,6 +235,15 @@ module _ {W : Type 0} (put_may : W → Bor (List ℕ) → (W × Bool) → Type 0
   all_reads number (first ∷ firsts) [] all = absurd all
   all_reads number (first ∷ firsts) (last ∷ lasts) all =
       (all.0.reads, all_reads (number + 1) firsts lasts all.1)
+
+  -- their sources are the ones that they had
+  pub all_origins : (number : ℕ) (firsts : List (Driving W)) (lasts : List (Leaving W)) → WereAll number firsts lasts
+      → map (λ (last : Leaving W). last.pump.origin) lasts ≡ map (λ (first : Driving W). first.pump.origin) firsts
+  all_origins number [] [] all = refl
+  all_origins number [] (last ∷ lasts) all = absurd all
+  all_origins number (first ∷ firsts) [] all = absurd all
+  all_origins number (first ∷ firsts) (last ∷ lasts) all =
+      (λ i. all.0.origin i ∷ all_origins (number + 1) firsts lasts all.1 i)
 
   -- the credits of all their seats
   pub all_credits : (number : ℕ) (firsts : List (Driving W)) (lasts : List (Leaving W)) → WereAll number firsts lasts

@@ -31,6 +31,7 @@ use Rattle.flake_base.specs.declared.session.SessionEnd.{SessionEnd}
 use Rattle.pin_core.specs.declared.sizes.Sizes as pool_sizes
 use Rattle.pinned_pool.specs.Ends.{End}
 use Rattle.pinned_pool.specs.declared.view.View.{View}
+use Rattle.command_pump.specs.Pump.{Origin, origin_of}
 use Rattle.order_book.specs.Pages.{SessionList}
 use Rattle.order_book.specs.declared.rule.Sizes as book_sizes
 use Rattle.schedule_text.specs.declared.line.Line.{Line}
@@ -64,6 +65,18 @@ all_there {A} (x ∷ xs) (y ∷ ys) same =
     let first : x ≡ y = cc in
     let others : map Some xs ≡ map Some ys = cc in
     ap (λ (a : A). a ∷ xs) first ∙ ap (λ (more : List A). y ∷ more) (all_there xs ys others)
+
+-- sources with the same origins have the same names, and hold the same
+pub same_origins : {S : Type 0} (name : S → List ℕ) (whole : S → Option (List ℕ)) (news olds : List S)
+    → map (λ (s : S). origin_of (name s) (whole s)) news ≡ map (λ (s : S). origin_of (name s) (whole s)) olds
+    → (map name news ≡ map name olds) × (map whole news ≡ map whole olds)
+same_origins {S} name whole news olds same =
+    let from : S → Origin = λ s. origin_of (name s) (whole s) in (
+      sym (maps_in (λ (o : Origin). o.name) from news) ∙ ap (map (λ (o : Origin). o.name)) same
+          ∙ maps_in (λ (o : Origin). o.name) from olds,
+      sym (maps_in (λ (o : Origin). o.whole) from news) ∙ ap (map (λ (o : Origin). o.whole)) same
+          ∙ maps_in (λ (o : Origin). o.whole) from olds,
+    )
 
 module _ {W D A : Type 0} (put_may : W → Bor (List ℕ) → (W × Bool) → Type 0) (flush_may : W → (W × Bool) → Type 0)
     (z : pool_sizes.Sizes) (shards : ℕ) (view : D → Driving W) (leave : A → Leaving W) (schedule : List Line)
@@ -104,6 +117,14 @@ module _ {W D A : Type 0} (put_may : W → Bor (List ℕ) → (W × Bool) → Ty
       let n = nows_is ∙ sym (maps_in (λ (l : Leaving W). l.pump.faults) leave accounts) in
       subst (λ (q : List SessionEnd × List ℕ × List ℕ). AreReads q.0 q.1 q.2) (λ i. (sym a i, b i, sym n i))
       (each.all_reads put_may flush_may z shards drove.lines 0 firsts lasts (all_were drove))
+
+  pub origins : (befores nows : List Origin) → Drove
+      → map (λ (d : D). (view d).pump.origin) drivings ≡ befores
+      → nows ≡ map (λ (a : A). (leave a).pump.origin) accounts → nows ≡ befores
+  origins befores nows drove befores_are nows_are =
+      nows_are ∙ sym (maps_in (λ (l : Leaving W). l.pump.origin) leave accounts)
+      ∙ each.all_origins put_may flush_may z shards drove.lines 0 firsts lasts (all_were drove)
+      ∙ maps_in (λ (f : Driving W). f.pump.origin) view drivings ∙ befores_are
 
   -- all sessions of the law, with their lists and seats
   are_driven : (ring threshold : ℕ) (lists : List SessionList) (spare main : View) (drove : Drove) (all : Were drove)
@@ -160,20 +181,21 @@ module _ {W D A : Type 0} (put_may : W → Bor (List ℕ) → (W × Bool) → Ty
       (map-append Some own past ∙ ap (λ (l : List (Option W)). l ++ map Some past) firsts_are ∙ is)
 
   pub drove_inputs : (books : book_sizes.Sizes) (y : pool_sizes.Sizes) (ring threshold : ℕ)
-      (inputs lefts : List (Option (List ℕ))) (ends : List SessionEnd) (lists : List SessionList)
+      (givens : List (List ℕ)) (endeds : List Bool) (ends : List SessionEnd) (lists : List SessionList)
       (journal : List (List Entry)) (closed : End) (spare main : View) (past olds news : List W) → Drove
       → shards ≡ books.shards → z ≡ y → AreFit z ring threshold 0 (map (λ (d : D). (view d).session) drivings)
       → lists ≡ map (λ (a : A). (leave a).mine) accounts → IsSpare spare
       → HasJoined (map (λ (a : A). (leave a).seat) accounts) spare main → length lists ≡ books.sessions
       → WasClosed books z lists main journal closed → DrivenTogether (sends_by put_may flush_may)
-      → map (λ (d : D). (view d).pump.left) drivings ≡ inputs → lefts ≡ map (λ (a : A). (leave a).pump.left) accounts
+      → givens ≡ map (λ (a : A). (leave a).pump.given) accounts
+      → endeds ≡ map (λ (a : A). (leave a).pump.ended) accounts
       → ends ≡ map (λ (a : A). (leave a).end) accounts
       → map (λ (d : D). (view d).wire) drivings ++ map Some past ≡ map Some olds
       → news ≡ map (λ (a : A). (leave a).wire) accounts ++ past
-      → DroveInputs put_may flush_may y ring threshold schedule failed inputs lefts ends journal closed olds news old
+      → DroveInputs put_may flush_may y ring threshold schedule failed givens endeds ends journal closed olds news old
       new
-  drove_inputs books y ring threshold inputs lefts ends lists journal closed spare main past olds news drove shards_are
-      same fit lists_is empty joins many end together inputs_is lefts_is ends_is olds_is news_is =
+  drove_inputs books y ring threshold givens endeds ends lists journal closed spare main past olds news drove shards_are
+      same fit lists_is empty joins many end together givens_are endeds_are ends_is olds_is news_is =
       let all = all_were drove in
       let own : List (OneDriven W) = ones drove all in
       let are = subst (λ (n : ℕ). AreDriven (sends_by put_may flush_may) z n ring threshold drove.lines own lists main)
@@ -188,12 +210,12 @@ module _ {W D A : Type 0} (put_may : W → Bor (List ℕ) → (W × Bool) → Ty
         looked = end.looked;
         closed_is = end.closed_is;
       }) in
-      let a = each.by_firsts put_may flush_may z shards drove.lines (λ (one : OneDriven W). one.input)
-      (λ (f : Driving W). f.pump.left) (λ n f l was. refl) 0 firsts lasts all
-      ∙ maps_in (λ (f : Driving W). f.pump.left) view drivings ∙ inputs_is in
-      let b = each.by_lasts put_may flush_may z shards drove.lines (λ (one : OneDriven W). one.left)
-      (λ (l : Leaving W). l.pump.left) (λ n f l was. refl) 0 firsts lasts all
-      ∙ maps_in (λ (l : Leaving W). l.pump.left) leave accounts ∙ sym lefts_is in
+      let a = each.by_lasts put_may flush_may z shards drove.lines (λ (one : OneDriven W). one.given)
+      (λ (l : Leaving W). l.pump.given) (λ n f l was. refl) 0 firsts lasts all
+      ∙ maps_in (λ (l : Leaving W). l.pump.given) leave accounts ∙ sym givens_are in
+      let b = each.by_lasts put_may flush_may z shards drove.lines (λ (one : OneDriven W). one.ended)
+      (λ (l : Leaving W). l.pump.ended) (λ n f l was. refl) 0 firsts lasts all
+      ∙ maps_in (λ (l : Leaving W). l.pump.ended) leave accounts ∙ sym endeds_are in
       let e = each.by_lasts put_may flush_may z shards drove.lines (λ (one : OneDriven W). one.end)
       (λ (l : Leaving W). l.end) (λ n f l was. refl) 0 firsts lasts all
       ∙ maps_in (λ (l : Leaving W). l.end) leave accounts ∙ sym ends_is in
@@ -204,7 +226,7 @@ module _ {W D A : Type 0} (put_may : W → Bor (List ℕ) → (W × Bool) → Ty
       let first_olds : List W = map (λ (one : OneDriven W). one.old) own ++ past in
       let first_news : List W = map (λ (one : OneDriven W). one.new) own ++ past in
       let drove_ones : DroveInputs put_may flush_may z ring threshold schedule failed
-      (map (λ (one : OneDriven W). one.input) own) (map (λ (one : OneDriven W). one.left) own)
+      (map (λ (one : OneDriven W). one.given) own) (map (λ (one : OneDriven W). one.ended) own)
       (map (λ (one : OneDriven W). one.end) own) journal closed first_olds first_news old new = record {
         ran = has.ran;
         sends = subst (λ (texts : List (Bool × List ℕ)). AllSent put_may flush_may texts first_olds first_news)
@@ -217,8 +239,7 @@ module _ {W D A : Type 0} (put_may : W → Bor (List ℕ) → (W × Bool) → Ty
         sources = has.sources;
         apart = has.apart;
       } in
-      subst (λ (q : pool_sizes.Sizes × List (Option (List ℕ)) × List (Option (List ℕ)) × List SessionEnd × List W
-      × List W).
+      subst (λ (q : pool_sizes.Sizes × List (List ℕ) × List Bool × List SessionEnd × List W × List W).
       DroveInputs put_may flush_may q.0 ring threshold schedule failed q.1 q.2 q.3 journal closed q.4 q.5 old new)
       (λ i. (same i, a i, b i, e i, o i, n i)) drove_ones
 

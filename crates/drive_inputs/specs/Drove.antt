@@ -1,5 +1,5 @@
 -- What driven inputs come to.
-use Rattle.std.specs.Prelude.{ℕ, Bool, false, List, Option}
+use Rattle.std.specs.Prelude.{ℕ, Bool, false, List}
 use Rattle.std.specs.Borrow.{Bor}
 use Rattle.std.specs.List.{flat_map}
 use Rattle.flake_base.specs.Told.{HostTold}
@@ -16,16 +16,16 @@ use Rattle.transcript_model.specs.Sources.{AreSources}
 use Rattle.transcript_model.specs.Transcript.{AreAllApart, transcript_places, IsToldBy}
 use Rattle.drive_script.specs.Lanes.{sends_by}
 use Rattle.drive_script.specs.Says.{PrintsText}
-use Rattle.run_resources.specs.Ran.{no_wires, AllSent}
+use Rattle.run_resources.specs.Ran.{AllSent}
 use Rattle.drive_told.specs.Together.{driven_run}
 
 module _ {W : Type 0} (put_may : W → Bor (List ℕ) → (W × Bool) → Type 0) (flush_may : W → (W × Bool) → Type 0) where
   -- The inputs were served as a whole, and what was said is right by the sessions' own deeds, which are those of the
   -- shards' histories. After a say that failed a front of it was said.
   pub record DroveInputs (z : Sizes) (ring threshold : ℕ) (schedule : List Line) (failed : Bool)
-      (inputs lefts : List (Option (List ℕ))) (ends : List SessionEnd) (journal : List (List Entry)) (closed : End)
-      (olds news : List W) (old new : HostTold) : Type 0 where
-    pub ran : WasRun z inputs lefts ends journal (no_wires ends) (no_wires ends) closed
+      (givens : List (List ℕ)) (endeds : List Bool) (ends : List SessionEnd) (journal : List (List Entry))
+      (closed : End) (olds news : List W) (old new : HostTold) : Type 0 where
+    pub ran : WasRun z givens endeds ends journal closed
     pub sends : AllSent put_may flush_may (wire_texts ran.served.sessions journal) olds news
     pub lines : List EventLine
     pub said : PrintsText false failed (flat_map transcript_line lines) old new

@@ -1,6 +1,7 @@
 // The sessions with their sources and wires.
 ghost use Rattle.std.specs.Prelude.{◌≡◌, ◌<◌, ◌≤◌, ◌++◌, [], All, Some, length, map, vec_capacity};
 ghost use Rattle.std.specs.Vec.Iter.{into_iter_items};
+ghost use Rattle.command_pump.specs.Pump.{origin_of};
 ghost use Rattle.session_serve.specs.Working.{IsFresh};
 ghost use Rattle.drive_script.specs.Driving.{driving_of, IsNew};
 ghost use Rattle.run_resources.specs.Opened.{IsSessionSlot};
@@ -24,13 +25,15 @@ pub(crate) fn pair_up<N: BookName, P: PoolName + Send, S: Source + Drop, W: Drop
 ) -> (Vec<Driving<N, P, S, W>>, IntoIter<W>)
     requires slots { All (λ d. IsSessionSlot P.sizes d.session d.device.end d.device.failed) slots.items }
     requires sources { length sources.items ≡ length slots.items }
+    requires unread { All (λ s. S.given s ≡ []) sources.items }
     requires wires { length slots.items ≤ length wires.items }
     requires room { (drivings.items ≡ []) × (length slots.items ≤ vec_capacity drivings) }
     ensures fresh { All (λ d. IsNew P.sizes (driving_of d.lane.session d.lane.device.failed d.lane.device.end
         d.asking.kept d.asking.end d.asking.pump d.wire) × IsFresh P.sizes d.lane.session d.asking.pump)
         result.0.items }
     ensures sessions { map (λ d. d.lane.session) result.0.items ≡ map (λ d. d.session) slots.items }
-    ensures lefts { map (λ d. d.asking.pump.left) result.0.items ≡ map (λ s. S.left s) sources.items }
+    ensures origins { map (λ d. d.asking.pump.origin) result.0.items
+        ≡ map (λ s. origin_of (S.name s) (S.whole s)) sources.items }
     ensures faults { map (λ d. d.asking.pump.faults) result.0.items ≡ map (λ s. S.read_faults s) sources.items }
     ensures wires { map (λ d. d.wire) result.0.items ++ map Some (into_iter_items result.1) ≡ map Some wires.items }
 {

@@ -1,6 +1,7 @@
 // What comes back of the sessions.
 ghost use Rattle.std.specs.Prelude.{◌≡◌, ◌+◌, ◌≤◌, ◌++◌, [], length, map, vec_len, vec_capacity, IfOk};
 ghost use Rattle.std.specs.Vec.Iter.{into_iter_items};
+ghost use Rattle.command_pump.specs.Pump.{origin_of};
 ghost use Rattle.run_resources.specs.Joined.{HasJoined};
 
 use drive_script::Account;
@@ -51,7 +52,10 @@ pub(crate) fn bring_in<N: BookName, P: PoolName, S: Source + Drop, W: Drop>(
         × (length accounts.items + length (into_iter_items past) ≤ vec_capacity results.wires) }
     ensures ends { result.ends.items ≡ map (λ a. a.end) accounts.items }
     ensures lists { result.lists.items ≡ map (λ a. a.mine) accounts.items }
-    ensures lefts { map (λ s. S.left s) result.sources.items ≡ map (λ a. a.pump.left) accounts.items }
+    ensures origins { map (λ s. origin_of (S.name s) (S.whole s)) result.sources.items
+        ≡ map (λ a. a.pump.origin) accounts.items }
+    ensures givens { map (λ s. S.given s) result.sources.items ≡ map (λ a. a.pump.given) accounts.items }
+    ensures endeds { map (λ s. S.ended s) result.sources.items ≡ map (λ a. a.pump.ended) accounts.items }
     ensures faults { map (λ s. S.read_faults s) result.sources.items ≡ map (λ a. a.pump.faults) accounts.items }
     ensures wires { result.wires.items ≡ map (λ a. a.wire) accounts.items ++ into_iter_items past }
     ensures seats { HasJoined (map (λ a. a.seat) accounts.items) main.old main.new }

@@ -1,5 +1,5 @@
 // Some sources and a schedule, from nothing to nothing.
-ghost use Rattle.std.specs.Prelude.{◌≡◌, ◌<◌, ◌≤◌, All, length, map, IfOk, IfErr, OnErr};
+ghost use Rattle.std.specs.Prelude.{◌≡◌, ◌<◌, ◌≤◌, [], All, length, map, IfOk, IfErr, OnErr};
 ghost use Rattle.schedule_text.specs.Text.{line_session};
 ghost use Rattle.flake_base.specs.Histories.{histories};
 ghost use Rattle.run_resources.specs.Opened.{HasRunSizes, IsPool, IsBook, pool_sizes};
@@ -43,14 +43,17 @@ fn drive_named<
     requires sized { HasRunSizes (length sources.items) sizes.now }
     requires wires { length sources.items ≤ length wires.items }
     requires there { All (λ line. line_session line < length sources.items) schedule.now }
+    requires unread { All (λ s. S.given s ≡ []) sources.items }
     requires pool { (P.table ≡ pool.table) × (P.sizes ≡ pool.sizes)
         × IsPool (length sources.items) sizes.now P.sizes }
     requires book { (N.table ≡ book.table) × (N.sizes ≡ book.sizes)
         × IsBook (length sources.items) sizes.now N.sizes }
     ensures drove { IfOk result (λ r. DroveInputs (λ w p r. PUT.post put.now w p r) (λ w r. FLUSH.post flush.now w r)
         (pool_sizes (length sources.items) sizes.now) sizes.now.ring sizes.now.threshold schedule.now r.failed
-        (map (λ s. S.left s) sources.items) (map (λ s. S.left s) r.sources.items) r.ends.items
+        (map (λ s. S.given s) r.sources.items) (map (λ s. S.ended s) r.sources.items) r.ends.items
         (histories r.journal.items) r.pool wires.items r.wires.items (H.host_told host.old) (H.host_told host.new)) }
+    ensures names { IfOk result (λ r. map (λ s. S.name s) r.sources.items ≡ map (λ s. S.name s) sources.items) }
+    ensures wholes { IfOk result (λ r. map (λ s. S.whole s) r.sources.items ≡ map (λ s. S.whole s) sources.items) }
     ensures shards { IfOk result (λ r. length r.journal.items ≡ sizes.now.shards) }
     ensures reads { IfOk result (λ r. AreReads r.ends.items (map (λ s. S.read_faults s) sources.items)
         (map (λ s. S.read_faults s) r.sources.items)) }
@@ -93,10 +96,13 @@ pub fn drive_inputs<
     requires sized { HasRunSizes (length sources.items) sizes.now }
     requires wires { length sources.items ≤ length wires.items }
     requires there { All (λ line. line_session line < length sources.items) schedule.now }
+    requires unread { All (λ s. S.given s ≡ []) sources.items }
     ensures drove { IfOk result (λ r. DroveInputs (λ w p r. PUT.post put.now w p r) (λ w r. FLUSH.post flush.now w r)
         (pool_sizes (length sources.items) sizes.now) sizes.now.ring sizes.now.threshold schedule.now r.failed
-        (map (λ s. S.left s) sources.items) (map (λ s. S.left s) r.sources.items) r.ends.items
+        (map (λ s. S.given s) r.sources.items) (map (λ s. S.ended s) r.sources.items) r.ends.items
         (histories r.journal.items) r.pool wires.items r.wires.items (H.host_told host.old) (H.host_told host.new)) }
+    ensures names { IfOk result (λ r. map (λ s. S.name s) r.sources.items ≡ map (λ s. S.name s) sources.items) }
+    ensures wholes { IfOk result (λ r. map (λ s. S.whole s) r.sources.items ≡ map (λ s. S.whole s) sources.items) }
     ensures shards { IfOk result (λ r. length r.journal.items ≡ sizes.now.shards) }
     ensures reads { IfOk result (λ r. AreReads r.ends.items (map (λ s. S.read_faults s) sources.items)
         (map (λ s. S.read_faults s) r.sources.items)) }

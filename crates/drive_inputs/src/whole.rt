@@ -67,6 +67,7 @@ pub(crate) fn drive_opened<
     requires book { IsBook (length sources.items) sizes.now N.sizes }
     requires wires { length sources.items ≤ length wires.items }
     requires there { All (λ line. line_session line < length sources.items) schedule.now }
+    requires unread { All (λ s. S.given s ≡ []) sources.items }
     requires main { IsSpare resources.main × (resources.main.credits ≡ 1) }
     requires slots { All (λ d. IsSessionSlot P.sizes d.session d.device.end d.device.failed) resources.slots.items }
     requires numbers { map (λ d. d.session.pass.list.number) resources.slots.items
@@ -82,9 +83,11 @@ pub(crate) fn drive_opened<
     requires wire_room { (space.results.wires.items ≡ []) × (length wires.items ≤ vec_capacity space.results.wires) }
     ensures drove { DroveInputs (λ w p r. PUT.post put.now w p r) (λ w r. FLUSH.post flush.now w r)
         (pool_sizes (length sources.items) sizes.now) sizes.now.ring sizes.now.threshold schedule.now result.failed
-        (map (λ s. S.left s) sources.items) (map (λ s. S.left s) result.sources.items) result.ends.items
+        (map (λ s. S.given s) result.sources.items) (map (λ s. S.ended s) result.sources.items) result.ends.items
         (histories result.journal.items) result.pool wires.items result.wires.items (H.host_told host.old)
         (H.host_told host.new) }
+    ensures names { map (λ s. S.name s) result.sources.items ≡ map (λ s. S.name s) sources.items }
+    ensures wholes { map (λ s. S.whole s) result.sources.items ≡ map (λ s. S.whole s) sources.items }
     ensures shards { length result.journal.items ≡ sizes.now.shards }
     ensures reads { AreReads result.ends.items (map (λ s. S.read_faults s) sources.items)
         (map (λ s. S.read_faults s) result.sources.items) }

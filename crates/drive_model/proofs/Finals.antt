@@ -15,12 +15,13 @@ use Rattle.reply_layout.specs.Frames.{Frame}
 use Rattle.transcript_model.specs.Standing.{Standing, at_first}
 use Rattle.transcript_model.specs.Frames.{deeds_of}
 use Rattle.transcript_model.specs.Right.{is_known, IsRight, AreRight}
-use Rattle.transcript_model.specs.Sessions.{texts_from, texts_of, AreWhole, IsRightSession}
+use Rattle.any_wire.specs.Texts.{AreWhole}
+use Rattle.transcript_model.specs.Sessions.{texts_from, texts_of, IsRightSession}
 use Rattle.transcript_model.specs.News.{with_news, LeavesSaid}
-use Rattle.reply_planner.specs.Parcels.{Sent}
+use Rattle.reply_planner.specs.Parcels.{Sent, texts_in}
 use Rattle.drive_model.specs.Views.{SessionShown, DeviceShown}
 use Rattle.drive_model.specs.Quiet.{IsAtStart, IsQuiet}
-use Rattle.drive_model.specs.Matches.{IsWholeSoFar, texts_in, IsRightSoFar}
+use Rattle.drive_model.specs.Matches.{IsRightSoFar}
 use Rattle.transcript_model.proofs.Stays.{all_stay}
 use Rattle.drive_model.proofs.Keeps.{replies_stay}
 use Rattle.drive_model.proofs.KeepsReaps.{frames_count}
@@ -46,7 +47,7 @@ kept_at_first terms session device is = record {
     frames = ap (map _) (sym is.posted);
     reaped = ap (λ (parcels : List Sent). length parcels) (sym is.reaped);
     gathered = ap (λ (parcels : List Sent). length parcels) (sym is.completed);
-    whole = subst (λ b. IsWholeSoFar b terms.whole (length device.completed)) (sym is.failed)
+    whole = subst (λ b. AreWhole b terms.whole (length device.completed)) (sym is.failed)
         (is.none_sent ∙ ap (λ (parcels : List Sent). length parcels) (sym is.completed));
     in_order = record {
       reaped = (device.completed, ap (λ parcels. parcels ++ device.completed) (sym is.reaped));
@@ -195,7 +196,7 @@ all_texts terms session device events kept posted_all =
     ))
 
 -- all frames were sent, or one was the first that wasn't
-all_sent : (failed : Bool) (whole completed replies : ℕ) → completed ≡ replies → IsWholeSoFar failed whole completed
+all_sent : (failed : Bool) (whole completed replies : ℕ) → completed ≡ replies → AreWhole failed whole completed
     → AreWhole failed whole replies
 all_sent false whole completed replies is so = so ∙ is
 all_sent true whole completed replies is so = omega arith
@@ -220,5 +221,5 @@ told_at_last terms session device events quiet kept all posted_all gathered_all 
       ended = sym said.3 ∙ ended;
       sent = all_sent terms.end.failed terms.whole (length device.completed) terms.end.replies
           (gathered_all ∙ posted_all)
-          (subst (λ b. IsWholeSoFar b terms.whole (length device.completed)) failed m.whole);
+          (subst (λ b. AreWhole b terms.whole (length device.completed)) failed m.whole);
     }

@@ -16,7 +16,8 @@ use Rattle.transcript_model.specs.News.{with_news, LeavesSaid}
 use Rattle.transcript_model.proofs.Stays.{found_stay, all_stay, right-append}
 use Rattle.drive_model.specs.Views.{SessionShown, DeviceShown, InOrder, frames_shown}
 use Rattle.drive_model.specs.Calls.{Gathers, BothEnds}
-use Rattle.drive_model.specs.Matches.{IsWholeSoFar, AreReplies, Matches, IsRightSoFar}
+use Rattle.any_wire.specs.Texts.{AreWhole}
+use Rattle.drive_model.specs.Matches.{AreReplies, Matches, IsRightSoFar}
 use Rattle.drive_model.proofs.Lists.{get_map, get_next, get_below}
 
 abbrev gather_line : Bool → ℕ → ℕ → LineEvent
@@ -120,7 +121,7 @@ module _ (terms : Terms) (session session' : SessionShown) (device device' : Dev
             device.completed (gathers.parcel ∷ []),
       )
 
-      gather_matches : IsWholeSoFar gathered.failed whole (length gathered.completed)
+      gather_matches : AreWhole gathered.failed whole (length gathered.completed)
           → Matches (with_whole terms whole) told_session told_device after_gather
       unfolding told_session told_device after_gather
       gather_matches so_far = record {
@@ -157,18 +158,18 @@ module _ (terms : Terms) (session session' : SessionShown) (device device' : Dev
           (sym both.device) at)
 
 -- as many frames at most were sent whole as were gathered, and as many where none failed
-whole_at_most : (failed : Bool) (whole completed : ℕ) → IsWholeSoFar failed whole completed → whole ≤ completed
+whole_at_most : (failed : Bool) (whole completed : ℕ) → AreWhole failed whole completed → whole ≤ completed
 whole_at_most false whole completed is = omega arith
 whole_at_most true whole completed is = omega arith
 
-whole_is : (failed : Bool) (whole completed : ℕ) → IsWholeSoFar failed whole completed → failed ≡ false
+whole_is : (failed : Bool) (whole completed : ℕ) → AreWhole failed whole completed → failed ≡ false
     → whole ≡ completed
 whole_is false whole completed is whole_yet = is
 whole_is true whole completed is whole_yet = absurd (cc)
 
-so_far : (failed expected : Bool) (whole completed : ℕ) → failed ≡ expected → IsWholeSoFar expected whole completed
-    → IsWholeSoFar failed whole completed
-so_far failed expected whole completed is at = subst (λ (b : Bool). IsWholeSoFar b whole completed) (sym is) at
+so_far : (failed expected : Bool) (whole completed : ℕ) → failed ≡ expected → AreWhole expected whole completed
+    → AreWhole failed whole completed
+so_far failed expected whole completed is at = subst (λ (b : Bool). AreWhole b whole completed) (sym is) at
 
 -- a frame was sent
 pub kept_sent : (terms : Terms) (session session' : SessionShown) (device gathered device' : DeviceShown)

@@ -10,7 +10,8 @@ use Rattle.transcript_model.specs.Right.{IsReaped, IsRight}
 use Rattle.drive_model.specs.Views.{SessionShown, DeviceShown, InOrder, frames_shown}
 use Rattle.drive_model.specs.Calls.{GathersNone, ShowsOneReap, ShowsNoReap, BothEnds}
 use Rattle.command_exec.specs.Executed.{frame_shown}
-use Rattle.drive_model.specs.Matches.{IsWholeSoFar, Matches, IsRightSoFar}
+use Rattle.any_wire.specs.Texts.{AreWhole}
+use Rattle.drive_model.specs.Matches.{Matches, IsRightSoFar}
 use Rattle.drive_model.proofs.Lists.{get_map, front_length}
 use Rattle.transcript_model.proofs.Stays.{right-append}
 
@@ -31,7 +32,7 @@ frames_count session = length-map session.posted (frame_shown session.sizes)
 
 -- a flush that failed leaves it at what was sent whole
 still_whole : (failed now : Bool) (whole completed : ℕ) → (failed ≡ true → now ≡ true)
-    → IsWholeSoFar failed whole completed → IsWholeSoFar now whole completed
+    → AreWhole failed whole completed → AreWhole now whole completed
 still_whole false false whole completed stays is = is
 still_whole false true whole completed stays is = omega arith
 still_whole true false whole completed stays is = let never : false ≡ true = stays refl in absurd (cc)

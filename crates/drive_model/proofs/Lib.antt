@@ -7,4 +7,3 @@ pub mod KeepsReaps
 pub mod Lists
 pub mod Lookups
 pub mod Told
-pub mod Wires

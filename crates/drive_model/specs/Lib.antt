@@ -2,4 +2,3 @@ pub mod Views
 pub mod Calls
 pub mod Matches
 pub mod Quiet
-pub mod Wires

@@ -1,5 +1,5 @@
 -- A session and its device stand where the judge has them.
-use Rattle.std.specs.Prelude.{◌≡◌, ℕ, ◌<◌, ◌≤◌, Bool, true, false, List, length, map, slice_get, Some}
+use Rattle.std.specs.Prelude.{◌≡◌, ℕ, ◌<◌, true, false, List, length, slice_get, Some}
 use Rattle.std.specs.List.{AllByRecursion}
 use Rattle.flake_model.specs.Deed.{Deed}
 use Rattle.flake_model.specs.Command.{Command}
@@ -9,14 +9,10 @@ use Rattle.transcript_model.specs.Frames.{deeds_of}
 use Rattle.transcript_model.specs.Lines.{LineEvent}
 use Rattle.transcript_model.specs.Terms.{Terms}
 use Rattle.transcript_model.specs.Standing.{Standing, at_first}
+use Rattle.any_wire.specs.Texts.{AreWhole}
 use Rattle.reply_planner.specs.Parcels.{Sent}
 use Rattle.drive_model.specs.Views.{SessionShown, DeviceShown, InOrder, frames_shown}
 use Rattle.transcript_model.specs.Right.{is_known, AreRight}
-
--- how many frames were sent whole, as far as the device has come
-abbrev pub IsWholeSoFar : Bool → ℕ → ℕ → Type 0
-IsWholeSoFar false whole completed = whole ≡ completed
-IsWholeSoFar true whole completed = whole ≤ completed
 
 -- the commands that were given before, and perhaps more
 abbrev pub HasMore : List Command → List Command → Type 0
@@ -32,9 +28,6 @@ pub record IsShownBy (terms : Terms) (session : SessionShown) : Type 0 where
   pub stage : session.stage ≡ terms.stage
   pub deeds : session.deeds ≡ terms.deeds
 
-abbrev pub texts_in : List Sent → List (List ℕ)
-texts_in parcels = map (λ (parcel : Sent). parcel.text) parcels
-
 pub record IsReply (terms : Terms) (call : ℕ) (parcel : Sent) : Type 0 where
   pub command : Command
   pub asked : slice_get terms.commands call ≡ Some command
@@ -48,7 +41,7 @@ pub record Matches (terms : Terms) (session : SessionShown) (device : DeviceShow
   pub frames : standing.frames ≡ frames_shown session
   pub reaped : standing.reaped ≡ length session.reaped
   pub gathered : standing.gathered ≡ length device.completed
-  pub whole : IsWholeSoFar device.failed terms.whole (length device.completed)
+  pub whole : AreWhole device.failed terms.whole (length device.completed)
   pub in_order : InOrder session device
   pub told : session.told ≡ length device.completed
   pub device_told : device.told ≡ length session.posted

@@ -16,9 +16,10 @@ ghost use Rattle.transcript_model.specs.News.{with_news};
 ghost use Rattle.drive_model.specs.Views.{SessionShown, DeviceShown};
 ghost use Rattle.drive_model.specs.Calls.{ShowsPost, ShowsOneReap, ShowsNoReap, Gathers, GathersNone, ShowsRingFull};
 ghost use Rattle.drive_model.specs.Calls.{ShowsStageFull, ShowsRefusal, BothEnds};
-ghost use Rattle.drive_model.specs.Matches.{IsRightSoFar, HasMore, texts_in};
+ghost use Rattle.reply_planner.specs.Parcels.{texts_in};
+ghost use Rattle.drive_model.specs.Matches.{IsRightSoFar, HasMore};
 ghost use Rattle.drive_model.specs.Quiet.{IsAtStart, IsQuiet};
-ghost use Rattle.drive_model.specs.Wires.{IsSending};
+ghost use Rattle.any_wire.specs.Texts.{IsSending};
 
 /// Before the first line.
 pub fn first_line()

@@ -3,22 +3,20 @@ use Rattle.std.proofs.Common.{◌≡◌, ℕ, ◌≤◌, Bool, List, [], ◌∷�
 use Rattle.std.proofs.lemmas.List.{map-append, length-map}
 use Rattle.flake_base.specs.declared.session.End.{End}
 use Rattle.flake_model.specs.Command.{Command}
-use Rattle.command_pump.specs.Pump.{PumpState}
-use Rattle.reply_planner.specs.Parcels.{Sent}
+use Rattle.command_pump.specs.Pump.{Origin, PumpState}
+use Rattle.reply_planner.specs.Parcels.{Sent, texts_in}
 use Rattle.transcript_model.specs.Lines.{LineEvent}
-use Rattle.transcript_model.specs.Sessions.{Sending, WireGrew}
-use Rattle.drive_model.specs.Matches.{IsWholeSoFar, texts_in}
+use Rattle.any_wire.specs.Texts.{Sending, WireGrew, AreWhole, IsSending}
 use Rattle.drive_model.specs.Views.{SessionShown, DeviceShown}
-use Rattle.drive_model.specs.Wires.{IsSending}
 use Rattle.drive_model.proofs.Lists.{front_length}
-use Rattle.drive_model.proofs.Wires.{wire_longer}
+use Rattle.any_wire.proofs.Texts.{wire_longer}
 use Rattle.drive_script.specs.Asked.{IsAsked, GoesOn}
 use Rattle.drive_script.specs.Lanes.{Fixed, IsDriven, IsLane}
 
 module _ {W : Type 0} (sends : Sending W) (is : IsSending sends) where
   -- at most one reply more
   wire_more : (failed : Bool) (whole completed : ℕ) (olds more : List Sent) (start wire : W) → length more ≤ 1
-      → IsWholeSoFar failed whole completed → completed ≤ length olds
+      → AreWhole failed whole completed → completed ≤ length olds
       → WireGrew sends failed whole (texts_in olds) start wire
       → WireGrew sends failed whole (texts_in (olds ++ more)) start wire
   wire_more failed whole completed olds [] start wire few so below grew =
@@ -41,8 +39,8 @@ module _ {W : Type 0} (sends : Sending W) (is : IsSending sends) where
         → IsLane sends fixed start now said' (events ++ event ∷ []) session' device' wire
     lane_goes said said' lane now driven =
         let m = lane.driven.kept.matches in
-        let so : IsWholeSoFar device.failed lane.whole (length device.completed) =
-        subst (λ n. IsWholeSoFar device.failed n (length device.completed)) lane.driven.whole_is m.whole in
+        let so : AreWhole device.failed lane.whole (length device.completed) =
+        subst (λ n. AreWhole device.failed n (length device.completed)) lane.driven.whole_is m.whole in
         record {
           whole = lane.whole;
           driven = driven;
@@ -54,14 +52,14 @@ module _ {W : Type 0} (sends : Sending W) (is : IsSending sends) where
               lane.grew));
         }
 
-    pub call_goes : (Also : List Command → Type 0) (input : Option (List ℕ)) (before n : ℕ) (kept : Option Command)
+    pub call_goes : (Also : List Command → Type 0) (origin : Origin) (before n : ℕ) (kept : Option Command)
         (pump : PumpState) (said said' : Option End)
         (lane : IsLane sends fixed start given said events session device wire)
-        → GoesOn input before n kept said' pump
+        → GoesOn origin before n kept said' pump
         (λ now. IsDriven fixed now said' lane.whole (events ++ event ∷ []) session' device' × Also now)
-        → GoesOn input before n kept said' pump
+        → GoesOn origin before n kept said' pump
         (λ now. IsLane sends fixed start now said' (events ++ event ∷ []) session' device' wire × Also now)
-    call_goes Also input before n kept pump said said' lane goes = record {
+    call_goes Also origin before n kept pump said said' lane goes = record {
       given = goes.given;
       asked = goes.asked;
       is = (lane_goes said said' lane goes.given goes.is.0, goes.is.1);
@@ -73,14 +71,14 @@ module _ {W : Type 0} (sends : Sending W) (is : IsSending sends) where
     reap_goes said lane driven = lane_goes said said lane given driven
 
 -- nothing was asked, and it goes on
-pub stays_asked : (input : Option (List ℕ)) (before : ℕ) (given : List Command) (olds news : List Sent)
+pub stays_asked : (origin : Origin) (before : ℕ) (given : List Command) (olds news : List Sent)
     (kept : Option Command) (end : Option End) (pump : PumpState) (right : List Command → Type 0)
-    → news ≡ olds → IsAsked input before given (length olds) kept end pump → right given
-    → GoesOn input before (length news) kept end pump right
-stays_asked input before given olds news kept end pump right same asked is =
+    → news ≡ olds → IsAsked origin before given (length olds) kept end pump → right given
+    → GoesOn origin before (length news) kept end pump right
+stays_asked origin before given olds news kept end pump right same asked is =
     record {
       given = given;
-      asked = subst (λ (list : List Sent). IsAsked input before given (length list) kept end pump)
+      asked = subst (λ (list : List Sent). IsAsked origin before given (length list) kept end pump)
           (sym same) asked;
       is = is;
     }

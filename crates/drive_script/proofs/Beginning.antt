@@ -8,14 +8,12 @@ use Rattle.flake_base.specs.declared.session.End.TheVariants.{Left}
 use Rattle.flake_model.specs.Command.{Command}
 use Rattle.flake_model.specs.Deed.{Deed}
 use Rattle.pin_core.specs.declared.sizes.Sizes.{Sizes}
-use Rattle.reply_planner.specs.Parcels.{Sent}
+use Rattle.reply_planner.specs.Parcels.{Sent, texts_in}
 use Rattle.session_serve.specs.Working.{IsFresh}
-use Rattle.transcript_model.specs.Sessions.{Sending, WireGrew}
+use Rattle.any_wire.specs.Texts.{Sending, WireGrew, IsSending}
 use Rattle.transcript_model.specs.Terms.{Terms}
-use Rattle.drive_model.specs.Matches.{texts_in}
-use Rattle.drive_model.specs.Wires.{IsSending}
 use Rattle.drive_model.proofs.Finals.{kept_at_first}
-use Rattle.drive_model.proofs.Wires.{wire_fresh}
+use Rattle.any_wire.proofs.Texts.{wire_fresh}
 use Rattle.drive_script.specs.Asked.{IsAsked}
 use Rattle.drive_script.specs.Driving.{Driving, fixed_at, IsNew, IsUnderWay, AreFresh}
 use Rattle.drive_script.specs.Lanes.{IsEndSaid}
@@ -36,9 +34,9 @@ module _ {W : Type 0} (sends : Sending W) (is : IsSending sends) (z : Sizes) (sh
         wire = new.wire;
         wire_is = new.wire_is;
         given = [];
-        asked = subst (λ (k : Option Command). IsAsked d.pump.left d.pump.faults [] (length d.session.posted) k d.end
+        asked = subst (λ (k : Option Command). IsAsked d.pump.origin d.pump.faults [] (length d.session.posted) k d.end
             d.pump) (sym new.none_kept)
-            (subst (λ (e : Option End). IsAsked d.pump.left d.pump.faults [] (length d.session.posted) None e d.pump)
+            (subst (λ (e : Option End). IsAsked d.pump.origin d.pump.faults [] (length d.session.posted) None e d.pump)
             (sym new.none_ended)
             (record {
               pump_is = new.unread;

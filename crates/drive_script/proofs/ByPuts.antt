@@ -4,7 +4,7 @@ use Rattle.std.specs.Borrow.{Bor}
 use Rattle.view_sums.specs.Total.{Each}
 use Rattle.any_wire.specs.Sends.{WireStep, puts, flushes, steps_bytes, IsShortPut, Chain, Sends}
 use Rattle.any_wire.proofs.Sending.{sends-none, sends-on}
-use Rattle.drive_model.specs.Wires.{IsSending}
+use Rattle.any_wire.specs.Texts.{IsSending}
 use Rattle.drive_script.specs.Lanes.{sends_by}
 
 -- a put for each byte

@@ -8,7 +8,7 @@ use Rattle.flake_base.specs.declared.session.End.TheVariants.{Left}
 use Rattle.flake_base.specs.declared.session.SessionEnd.{SessionEnd}
 use Rattle.flake_model.specs.Command.{Command}
 use Rattle.flake_model.specs.Deed.{Deed}
-use Rattle.command_pump.specs.Pump.{PumpState, HasEnded}
+use Rattle.command_pump.specs.Pump.{Origin, PumpState, HasEnded}
 use Rattle.reply_planner.specs.Parcels.{Sent}
 use Rattle.transcript_model.specs.Lines.{LineEvent, posted, ring_full, stage_full, at_end}
 use Rattle.transcript_model.specs.News.{with_news}
@@ -67,7 +67,7 @@ not_called session = record {
 }
 
 module _ (Also : List Command → Type 0) (fixed : Fixed) (given : List Command) (whole : ℕ) (events : List LineEvent)
-    (input : Option (List ℕ)) (before : ℕ) (session : SessionShown) (device : DeviceShown) where
+    (origin : Origin) (before : ℕ) (session : SessionShown) (device : DeviceShown) where
   -- the end is said again
   pub called_again : (end : End) → IsDriven fixed given (Some end) whole events session device
       → IsDriven fixed given (Some end) whole (events ++ at_end ∷ []) session device
@@ -96,9 +96,9 @@ module _ (Also : List Command → Type 0) (fixed : Fixed) (given : List Command)
         }
 
     -- the input ended
-    pub called_at_end : (end : End) (pump : PumpState) → HasEnded input before given end pump → length given
+    pub called_at_end : (end : End) (pump : PumpState) → HasEnded origin before given end pump → length given
         ≡ length session.posted → Also given
-        → GoesOn input before (length session.posted) None (Some end) pump
+        → GoesOn origin before (length session.posted) None (Some end) pump
         (λ now. IsDriven fixed now (Some end) whole (events ++ at_end ∷ []) session device × Also now)
     unfolding not_called
     called_at_end end pump ended count also = record {
@@ -124,7 +124,7 @@ module _ (Also : List Command → Type 0) (fixed : Fixed) (given : List Command)
 
     module _ (between session' : SessionShown) (device' : DeviceShown) (both : BothEnds between session' device device')
         (command : Command) (pump : PumpState)
-        (next : AsksNext input before given (length session.posted) command pump) where
+        (next : AsksNext origin before given (length session.posted) command pump) where
       now : List Command
       now = next.front ++ command ∷ []
 
@@ -142,7 +142,7 @@ module _ (Also : List Command → Type 0) (fixed : Fixed) (given : List Command)
 
       pub called : Also (next.front ++ command ∷ []) → (call freed : ℕ) (sent stored : List Seg)
           → ShowsPost command session between call freed sent stored
-          → GoesOn input before (length session'.posted) None None pump
+          → GoesOn origin before (length session'.posted) None None pump
           (λ list. IsDriven fixed list None whole (events ++ posted call freed sent stored ∷ []) session' device'
           × Also list)
       unfolding now
@@ -182,7 +182,7 @@ module _ (Also : List Command → Type 0) (fixed : Fixed) (given : List Command)
 
       pub called_ring : Also (next.front ++ command ∷ []) → (need room : ℕ)
           → ShowsRingFull command session between need room
-          → GoesOn input before (length session'.posted) (Some command) None pump
+          → GoesOn origin before (length session'.posted) (Some command) None pump
           (λ list. IsDriven fixed list None whole (events ++ ring_full need room ∷ []) session' device' × Also list)
       unfolding now
       called_ring also need room finds = record {
@@ -210,7 +210,7 @@ module _ (Also : List Command → Type 0) (fixed : Fixed) (given : List Command)
 
       pub called_stage : Also (next.front ++ command ∷ []) → (need free : ℕ)
           → ShowsStageFull command session between need free
-          → GoesOn input before (length session'.posted) (Some command) None pump
+          → GoesOn origin before (length session'.posted) (Some command) None pump
           (λ list. IsDriven fixed list None whole (events ++ stage_full need free ∷ []) session' device' × Also list)
       unfolding now
       called_stage also need free finds = record {
@@ -237,7 +237,7 @@ module _ (Also : List Command → Type 0) (fixed : Fixed) (given : List Command)
       }
 
       pub called_short : Also (next.front ++ command ∷ []) → ShowsRefusal session between
-          → GoesOn input before (length session'.posted) None (Some Memory) pump
+          → GoesOn origin before (length session'.posted) None (Some Memory) pump
           (λ list. IsDriven fixed list (Some Memory) whole (events ++ at_end ∷ []) session' device' × Also list)
       unfolding now
       called_short also refused =

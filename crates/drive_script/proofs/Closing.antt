@@ -9,18 +9,19 @@ use Rattle.flake_base.specs.declared.session.End.TheVariants.{Left}
 use Rattle.flake_base.specs.declared.session.SessionEnd.{SessionEnd}
 use Rattle.flake_model.specs.Command.{Command}
 use Rattle.pin_core.specs.declared.sizes.Sizes.{Sizes}
-use Rattle.command_pump.specs.Pump.{PumpState, ended_at}
+use Rattle.command_pump.specs.Pump.{Origin, PumpState, ended_at}
 use Rattle.order_book.specs.Closed.{own_deeds}
 use Rattle.order_book.specs.Pages.{SessionList}
 use Rattle.reply_layout.specs.Frames.{Frame}
-use Rattle.reply_planner.specs.Parcels.{Sent}
+use Rattle.reply_planner.specs.Parcels.{Sent, texts_in}
 use Rattle.transcript_model.specs.Lines.{LineEvent, posted, ring_full, stage_full, at_end, sent, dropped}
 use Rattle.transcript_model.specs.Lines.{nothing_posted, reaped, nothing_reaped}
 use Rattle.transcript_model.specs.News.{with_news}
 use Rattle.transcript_model.specs.Right.{is_known}
-use Rattle.transcript_model.specs.Sessions.{Sending, WireGrew, IsRightSession, texts_of}
+use Rattle.any_wire.specs.Texts.{Sending, WireGrew}
+use Rattle.transcript_model.specs.Sessions.{IsRightSession, texts_of}
 use Rattle.transcript_model.specs.Terms.{Terms}
-use Rattle.drive_model.specs.Matches.{HasMore, IsRightSoFar, texts_in}
+use Rattle.drive_model.specs.Matches.{HasMore, IsRightSoFar}
 use Rattle.drive_model.specs.Quiet.{IsQuiet, says_end}
 use Rattle.drive_model.proofs.Ended.{kept_ended, says_end-append}
 use Rattle.drive_model.proofs.Finals.{kept_news, all_texts, told_at_last}
@@ -68,12 +69,12 @@ known Memory other = refl
 known Left other = absurd (other refl)
 
 -- the end that was said is one that is known
-known_end : (input : Option (List ℕ)) (before : ℕ) (given : List Command) (count : ℕ) (kept : Option Command)
-    (said : Option End) (pump : PumpState) → IsAsked input before given count kept said pump → is_some said
+known_end : (origin : Origin) (before : ℕ) (given : List Command) (count : ℕ) (kept : Option Command)
+    (said : Option End) (pump : PumpState) → IsAsked origin before given count kept said pump → is_some said
     ≡ is_known (unwrap_or said Left)
-known_end input before given count kept None pump asked = refl
-known_end input before given count kept (Some end) pump (inl ended) = sym (known end ended.0.to_the_end)
-known_end input before given count kept (Some end) pump (inr stopped) = ap is_known (sym stopped.0)
+known_end origin before given count kept None pump asked = refl
+known_end origin before given count kept (Some end) pump (inl ended) = sym (known end ended.0.to_the_end)
+known_end origin before given count kept (Some end) pump (inr stopped) = ap is_known (sym stopped.0)
 
 same_end : (said : Option End) (end : End) → IsEndSaid said end → is_some said ≡ true → unwrap_or said Left ≡ end
 same_end None end is some = absurd (cc)
@@ -129,7 +130,7 @@ module _ {W : Type 0} (sends : Sending W) (z : Sizes) (shards : ℕ) where
         let session = session_shown z now.session in
         let says = kept_ended terms session now.device (events ++ all.quiet) kept_at_last in
         let last : is_some now.end ≡ is_known end.end =
-        known_end first.pump.left first.pump.faults all.is.given (length now.session.posted) now.kept now.end now.pump
+        known_end first.pump.origin first.pump.faults all.is.given (length now.session.posted) now.kept now.end now.pump
         all.is.asked ∙ ap (λ (e : SessionEnd). is_known e.end) (sym end_is) in
         subst (λ (t : Terms). IsRightSession t events) news_are
         (told_at_last terms session now.device events all.quiet kept_at_last all.are
@@ -173,7 +174,7 @@ module _ {W : Type 0} (sends : Sending W) (z : Sizes) (shards : ℕ) where
     end_is = ap (λ (e : SessionEnd). e.end) end_is;
     says = says_quiet events all.quiet all.are ∙ all.is.lane.driven.ended_is;
     kept = now.kept;
-    asked = subst (λ n. IsAsked first.pump.left first.pump.faults all.is.given n now.kept now.end now.pump)
+    asked = subst (λ n. IsAsked first.pump.origin first.pump.faults all.is.given n now.kept now.end now.pump)
         (ap (λ (e : SessionEnd). e.replies) (sym end_is)) all.is.asked;
     taken = ap (λ (e : SessionEnd). e.taken) end_is;
   }

@@ -9,7 +9,7 @@ use Rattle.flake_model.specs.Command.{Command, fault, command_of}
 use Rattle.flake_model.specs.Input.{commands_in, protocol_error}
 use Rattle.flake_model.specs.Resp.{Words, stream, IsClean, IsTruncated, Parses, judged_bytes}
 use Rattle.flake_model.proofs.Streams.{requests_fit}
-use Rattle.command_pump.specs.Pump.{PumpState, HasEnded}
+use Rattle.command_pump.specs.Pump.{Origin, PumpState, HasEnded}
 use Rattle.command_pump.proofs.Pumped.{bounded}
 use Rattle.drive_script.specs.Asked.{IsAsked}
 
@@ -66,33 +66,33 @@ one_error_more requests ReadFault = omega (arith, length-map requests command_of
 one_error_more requests Memory = omega (arith, length-map requests command_of)
 one_error_more requests Left = omega (arith, length-map requests command_of)
 
-few_at_end : (input : Option (List ℕ)) (before : ℕ) (given : List Command) (end : End) (pump : PumpState)
-    → HasEnded input before given end pump → length given ≤ judged_bytes + 1
-few_at_end input before given end pump ended =
+few_at_end : (origin : Origin) (before : ℕ) (given : List Command) (end : End) (pump : PumpState)
+    → HasEnded origin before given end pump → length given ≤ judged_bytes + 1
+few_at_end origin before given end pump ended =
     let s = ended.session false in
     omega (
       arith,
       length-append given ended.more,
       ap length s.commands_are,
       one_error_more s.requests s.shown,
-      few_requests s.gave s.requests s.shown s.parsed,
+      few_requests pump.given s.requests s.shown s.parsed,
     )
 
 -- so many were posted at most
-pub few_posted : (input : Option (List ℕ)) (before : ℕ) (given : List Command) (posted : ℕ) (kept : Option Command)
-    (end : Option End) (pump : PumpState) → IsAsked input before given posted kept end pump → posted ≤ judged_bytes + 1
-few_posted input before given posted None None pump asked =
-    omega (arith, bounded input before given pump asked.pump_is, asked.kept_back)
-few_posted input before given posted (Some command) None pump asked =
+pub few_posted : (origin : Origin) (before : ℕ) (given : List Command) (posted : ℕ) (kept : Option Command)
+    (end : Option End) (pump : PumpState) → IsAsked origin before given posted kept end pump → posted ≤ judged_bytes + 1
+few_posted origin before given posted None None pump asked =
+    omega (arith, bounded origin before given pump asked.pump_is, asked.kept_back)
+few_posted origin before given posted (Some command) None pump asked =
     let back = asked.kept_back in
     omega (
       arith,
-      bounded input before given pump asked.pump_is,
+      bounded origin before given pump asked.pump_is,
       ap (λ (list : List Command). length list) back.1,
       length-append back.0 (command ∷ []),
       back.2,
     )
-few_posted input before given posted kept (Some end) pump (inl ended) =
-    omega (arith, few_at_end input before given end pump ended.0, ended.1)
-few_posted input before given posted kept (Some end) pump (inr stopped) =
-    omega (arith, bounded input before given pump stopped.1, stopped.2)
+few_posted origin before given posted kept (Some end) pump (inl ended) =
+    omega (arith, few_at_end origin before given end pump ended.0, ended.1)
+few_posted origin before given posted kept (Some end) pump (inr stopped) =
+    omega (arith, bounded origin before given pump stopped.1, stopped.2)

@@ -3,22 +3,20 @@ use Rattle.std.proofs.Common.{◌≡◌, ℕ, ◌+◌, Bool, true, false, List, 
 use Rattle.std.proofs.Common.{refl, ap, sym, ◌∙◌, subst, arith, length-append}
 use Rattle.flake_base.specs.declared.session.End.{End}
 use Rattle.flake_model.specs.Command.{Command}
-use Rattle.reply_planner.specs.Parcels.{Sent}
+use Rattle.reply_planner.specs.Parcels.{Sent, texts_in}
 use Rattle.transcript_model.specs.Lines.{LineEvent, sent, dropped, nothing_posted, reaped, nothing_reaped}
 use Rattle.transcript_model.specs.News.{with_news}
-use Rattle.transcript_model.specs.Sessions.{Sending, WireGrew}
+use Rattle.any_wire.specs.Texts.{Sending, WireGrew, AreWhole, IsSending}
 use Rattle.drive_model.specs.Calls.{Gathers, GathersNone, ShowsOneReap, ShowsNoReap, BothEnds}
-use Rattle.drive_model.specs.Matches.{IsWholeSoFar, texts_in}
 use Rattle.drive_model.specs.Views.{SessionShown, DeviceShown}
-use Rattle.drive_model.specs.Wires.{IsSending}
 use Rattle.drive_model.proofs.Ended.{says_end-other}
 use Rattle.drive_model.proofs.Keeps.{kept_sent, kept_dropped}
 use Rattle.drive_model.proofs.KeepsReaps.{kept_empty, kept_none, kept_reap}
 use Rattle.drive_model.proofs.Lists.{get_map, get_next}
-use Rattle.drive_model.proofs.Wires.{wire_sent, wire_cut, wire_idle}
+use Rattle.any_wire.proofs.Texts.{wire_sent, wire_cut, wire_idle}
 use Rattle.drive_script.specs.Lanes.{Fixed, IsDriven, IsLane}
 
-whole_now : (failed : Bool) (whole completed : ℕ) → IsWholeSoFar failed whole completed → failed ≡ false
+whole_now : (failed : Bool) (whole completed : ℕ) → AreWhole failed whole completed → failed ≡ false
     → whole ≡ completed
 whole_now false whole completed is none = is
 whole_now true whole completed is none = let never : true ≡ false = none in absurd (cc)

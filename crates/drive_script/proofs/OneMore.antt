@@ -8,7 +8,7 @@ use Rattle.command_exec.specs.Passes.{PassView}
 use Rattle.command_pump.specs.Pump.{PumpState}
 use Rattle.reply_planner.specs.Parcels.{Sent}
 use Rattle.transcript_model.specs.Lines.{LineEvent}
-use Rattle.transcript_model.specs.Sessions.{Sending}
+use Rattle.any_wire.specs.Texts.{Sending}
 use Rattle.drive_script.specs.Asked.{IsAsked, GoesOn}
 use Rattle.drive_script.specs.Driving.{Driving, fixed_at, IsUnderWay}
 use Rattle.drive_script.specs.Lanes.{IsLane}
@@ -23,10 +23,10 @@ module _ {W : Type 0} (sends : Sending W) (z : Sizes) (shards : ℕ) where
   pub goes_on : (first old new : Driving W) (events : List LineEvent) (event : LineEvent) (wire wire' : W)
       → old.wire ≡ Some wire → new.ring ≡ new.session.ring → new.session.pass.stage ≡ old.session.pass.stage
       → new.wire ≡ Some wire'
-      → ((start : W) (given : List Command) → IsAsked first.pump.left first.pump.faults given
+      → ((start : W) (given : List Command) → IsAsked first.pump.origin first.pump.faults given
       (length old.session.posted) old.kept old.end old.pump
       → IsLane sends (fixed_at z first.session) start given old.end events (session_shown z old.session) old.device wire
-      → GoesOn first.pump.left first.pump.faults (length new.session.posted) new.kept new.end new.pump
+      → GoesOn first.pump.origin first.pump.faults (length new.session.posted) new.kept new.end new.pump
       (λ now. IsLane sends (fixed_at z first.session) start now new.end (events ++ event ∷ [])
       (session_shown z new.session) new.device wire'
       × RunsOn z shards given old.end old.session now new.end new.session))
@@ -66,13 +66,13 @@ module _ {W : Type 0} (sends : Sending W) (z : Sizes) (shards : ℕ) where
       goes_on first old new events event wire wire' wire_is ring (ap (λ (p : PassView). p.stage) pass) wire_is'
       (λ start given asked lane. record {
         given = given;
-        asked = subst (λ n. IsAsked first.pump.left first.pump.faults given n new.kept new.end new.pump)
+        asked = subst (λ n. IsAsked first.pump.origin first.pump.faults given n new.kept new.end new.pump)
             (ap (λ (list : List Sent). length list) (sym posted))
-            (subst (λ (k : Option Command). IsAsked first.pump.left first.pump.faults given (length old.session.posted)
-            k new.end new.pump) (sym kept)
-            (subst (λ (e : Option End). IsAsked first.pump.left first.pump.faults given (length old.session.posted)
+            (subst (λ (k : Option Command). IsAsked first.pump.origin first.pump.faults given
+            (length old.session.posted) k new.end new.pump) (sym kept)
+            (subst (λ (e : Option End). IsAsked first.pump.origin first.pump.faults given (length old.session.posted)
             old.kept e new.pump) (sym end)
-            (subst (λ (p : PumpState). IsAsked first.pump.left first.pump.faults given (length old.session.posted)
+            (subst (λ (p : PumpState). IsAsked first.pump.origin first.pump.faults given (length old.session.posted)
             old.kept old.end p) (sym pump) asked)));
         is = (
           subst (λ (e : Option End). IsLane sends (fixed_at z first.session) start given e (events ++ event ∷ [])

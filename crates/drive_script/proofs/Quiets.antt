@@ -7,7 +7,7 @@ use Rattle.pin_core.specs.declared.sizes.Sizes.{Sizes}
 use Rattle.transcript_model.specs.Lines.{LineEvent, line_of, posted, ring_full, stage_full, at_end, sent, dropped}
 use Rattle.transcript_model.specs.Lines.{nothing_posted, reaped, nothing_reaped}
 use Rattle.transcript_model.specs.Right.{IsRight, AreRight}
-use Rattle.transcript_model.specs.Sessions.{Sending}
+use Rattle.any_wire.specs.Texts.{Sending}
 use Rattle.transcript_model.specs.Standing.{Standing, at_first}
 use Rattle.transcript_model.specs.Terms.{Terms}
 use Rattle.reply_layout.specs.Frames.{Frame}

@@ -18,16 +18,16 @@ use Rattle.flake_base.specs.declared.session.End.TheVariants.{Left}
 use Rattle.flake_base.specs.declared.session.SessionEnd.{SessionEnd}
 use Rattle.flake_model.specs.Command.{Command, parts}
 use Rattle.flake_model.specs.Journal.{next_parts}
-use Rattle.flake_model.specs.Session.{IsSession, AreKnownBytes}
-use Rattle.command_pump.specs.Given.{Gave}
-use Rattle.command_pump.specs.Pump.{PumpState, EndFaults, ended_at, session_at}
+use Rattle.flake_model.specs.Session.{IsSession}
+use Rattle.command_pump.specs.Pump.{Origin, PumpState, EndFaults, ended_at, session_at}
 use Rattle.command_pump.proofs.Pumped.{Meant, meant, stopped_at}
 use Rattle.order_book.specs.Closed.{own_deeds}
 use Rattle.order_book.specs.Pages.{SessionList}
 use Rattle.reply_planner.specs.Owned.{bare_all, fresh_all}
-use Rattle.reply_planner.specs.Parcels.{Sent}
+use Rattle.reply_planner.specs.Parcels.{Sent, texts_in}
 use Rattle.call_model.specs.Outcomes.{Outcomes, missed_in}
-use Rattle.drive_model.specs.Matches.{HasMore, IsWholeSoFar, texts_in}
+use Rattle.any_wire.specs.Texts.{AreWhole, WireGrew, joined}
+use Rattle.drive_model.specs.Matches.{HasMore}
 use Rattle.drive_model.proofs.Lists.{get_front}
 use Rattle.serve_model.specs.Demand.{commands_row}
 use Rattle.serve_model.specs.Going as model
@@ -39,7 +39,7 @@ use Rattle.session_pass.specs.Views.{SessionView}
 use Rattle.session_serve.specs.Wires.{SendsOut}
 use Rattle.session_serve.specs.Working.{IsFresh, IsSame, IsLeft, run_of}
 use Rattle.transcript_model.specs.Lines.{LineEvent}
-use Rattle.transcript_model.specs.Sessions.{AreWhole, WireGrew, texts_of, joined}
+use Rattle.transcript_model.specs.Sessions.{texts_of}
 use Rattle.drive_script.specs.Asked.{IsAsked}
 use Rattle.drive_script.specs.Driving.{Driving, fixed_at, IsUnderWay}
 use Rattle.drive_script.specs.Lanes.{sends_by}
@@ -50,35 +50,28 @@ use Rattle.drive_script.proofs.ByPuts.{puts_are_sending}
 use Rattle.drive_script.proofs.Closing.{told_left, sent_left}
 use Rattle.drive_script.proofs.OneMore.{one_wire}
 
--- what a source gave, and what it has left, is the input
-told_rest : (input left : Option (List ℕ)) (bytes : List ℕ) → Gave input left bytes → (rest : List ℕ)
-    × AreKnownBytes input (bytes ++ rest) × AreKnownBytes left rest
-told_rest None None bytes gave = ([], tt, tt)
-told_rest None (Some l) bytes gave = absurd (cc gave)
-told_rest (Some all) None bytes gave = absurd (cc (gave.1))
-told_rest (Some all) (Some l) bytes gave = let is : l ≡ gave.0 = cc (gave.1) in (gave.0, gave.2, is)
-
 -- a session that was left behind so many replies
-left_at : (input left : Option (List ℕ)) (given : List Command) (taken replies : ℕ) (failed : Bool)
-    → (m : Meant input left given taken) → replies ≤ length given
-    → IsSession (session_at input left (given ++ m.more) (ended_at Left taken replies failed) 0)
-left_at input left given taken replies failed m few =
-    let told = told_rest input left m.bytes m.gave in
-    record {
-      gave = m.bytes;
-      left = told.0;
-      input_is = told.1;
-      left_is = told.2;
-      requests = m.requests;
-      shown = m.shown;
-      parsed = m.parsed;
-      commands_are = sym m.commands_are;
-      shown_is = tt;
-      read_out = tt;
-      taken_is = m.taken_is;
-      replied = omega (arith, few, length-append given m.more);
-      begun_is = refl;
-    }
+left_at : (bytes : List ℕ) (ended : Bool) (given : List Command) (taken replies : ℕ) (failed : Bool)
+    → (m : Meant bytes given taken) → replies ≤ length given
+    → IsSession (session_at bytes ended (given ++ m.more) (ended_at Left taken replies failed) 0)
+left_at bytes ended given taken replies failed m few = record {
+  requests = m.requests;
+  shown = m.shown;
+  parsed = m.parsed;
+  commands_are = sym m.commands_are;
+  shown_is = tt;
+  read_out = tt;
+  taken_is = m.taken_is;
+  replied = omega (arith, few, length-append given m.more);
+  begun_is = refl;
+}
+
+-- no call changes where its commands come from
+origin_stays : (origin : Origin) (before : ℕ) (given : List Command) (posted : ℕ) (kept : Option Command)
+    (said : Option End) (pump : PumpState) → IsAsked origin before given posted kept said pump → pump.origin ≡ origin
+origin_stays origin before given posted kept None pump asked = asked.pump_is.origin_is
+origin_stays origin before given posted kept (Some end) pump (inl ended) = ended.0.origin_is
+origin_stays origin before given posted kept (Some end) pump (inr stopped) = stopped.1.origin_is
 
 -- the command behind the first ones
 next_is : (given : List Command) (command : Command) (more : List Command)
@@ -97,7 +90,7 @@ module _ (z : Sizes) (shards : ℕ) (first session : SessionView) (unread pump :
     (end : SessionEnd) (seat : View) (mine : SessionList) where
   -- the session ran, on these commands and perhaps more
   pub record RanBy (how : End) : Type 0 where
-    pub ran : SessionHasRun z shards first.pass.list.number unread.left pump.left end mine seat
+    pub ran : SessionHasRun z shards first.pass.list.number pump.given pump.ended end mine seat
         (texts_in session.posted)
     pub more : HasMore given ran.run.commands
     pub reads : EndFaults how unread.faults pump.faults
@@ -124,7 +117,7 @@ module _ (z : Sizes) (shards : ℕ) (first session : SessionView) (unread pump :
 
       ran_by : model.CallsNoMore z shards first.pass.list.number the_run (texts_in session.posted)
           (holds_paid session.posted) session.pass.list.told first.pass.seat after
-          → IsSession (session_of unread.left pump.left the_run) → HasMore given commands
+          → IsSession (session_of pump.given pump.ended the_run) → HasMore given commands
           → EndFaults how unread.faults pump.faults → RanBy how
       ran_by ended is_session more reads =
           let n = first.pass.list.number in
@@ -187,19 +180,19 @@ module _ (z : Sizes) (shards : ℕ) (first session : SessionView) (unread pump :
     -- as it was left, or said its end
     pub ran_so : (kept : Option Command) (said : Option End) → end ≡ ended_at (unwrap_or said Left) pump.taken
         (length session.posted) failed
-        → IsAsked unread.left unread.faults given (length session.posted) kept said pump
+        → IsAsked unread.origin unread.faults given (length session.posted) kept said pump
         → IsRunning z shards first given said session → RanBy (unwrap_or said Left)
     ran_so kept None end_is asked (inl b) =
-        let m = meant unread.left unread.faults given pump asked.pump_is in
+        let m = meant unread.origin unread.faults given pump asked.pump_is in
         ran_by Left session.pass.seat refl refl b.same end_is (given ++ m.more) b.calls [] (between_ended b m.more Left)
-        (left_at unread.left pump.left given pump.taken (length session.posted) failed m (few_called b))
+        (left_at pump.given pump.ended given pump.taken (length session.posted) failed m (few_called b))
         (front_more given m.more) asked.unfailed
     ran_so kept None end_is asked (inr w) = absurd (cc (w.0))
     ran_so kept (Some how) end_is (inl ended) (inl b) =
         let e = ended.0 in
         ran_by how session.pass.seat refl refl b.same end_is (given ++ e.more) b.calls [] (between_ended b e.more how)
         (subst (λ (n : ℕ). IsSession
-        (session_at unread.left pump.left (given ++ e.more) (ended_at how pump.taken n failed) 0)) ended.1
+        (session_at pump.given pump.ended (given ++ e.more) (ended_at how pump.taken n failed) 0)) ended.1
         (e.session failed)) (front_more given e.more) e.faults_are
     ran_so kept (Some how) end_is (inl ended) (inr w) =
         absurd (omega (
@@ -211,12 +204,12 @@ module _ (z : Sizes) (shards : ℕ) (first session : SessionView) (unread pump :
           w.1.count,
         ))
     ran_so kept (Some how) end_is (inr stopped) (inl b) =
-        let m = meant unread.left unread.faults given pump stopped.1 in
+        let m = meant unread.origin unread.faults given pump stopped.1 in
         ran_by how session.pass.seat refl refl b.same end_is (given ++ m.more) b.calls [] (between_ended b m.more how)
         (subst (λ (e : End). IsSession
-        (session_at unread.left pump.left (given ++ m.more) (ended_at e pump.taken (length session.posted) failed)
+        (session_at pump.given pump.ended (given ++ m.more) (ended_at e pump.taken (length session.posted) failed)
         0)) (sym stopped.0)
-        (stopped_at unread.left pump.left given pump.taken (length session.posted) 0 failed m (omega (arith, stopped.2))
+        (stopped_at pump.given pump.ended given pump.taken (length session.posted) 0 failed m (omega (arith, stopped.2))
         (inl refl)))
         (front_more given m.more)
         (subst (λ (e : End). EndFaults e unread.faults pump.faults) (sym stopped.0) stopped.3)
@@ -225,7 +218,7 @@ module _ (z : Sizes) (shards : ℕ) (first session : SessionView) (unread pump :
         let n = first.pass.list.number in
         let looks = session.pass.list.looks in
         let posted = length session.posted in
-        let m = meant unread.left unread.faults given pump stopped.1 in
+        let m = meant unread.origin unread.faults given pump stopped.1 in
         let split : given ++ m.more ≡ b.called ++ b.command ∷ m.more =
         ap (λ (list : List Command). list ++ m.more) b.given_is ∙ append_assoc b.called (b.command ∷ []) m.more in
         let next : next_parts posted (given ++ m.more) ≡ parts b.command = (λ i. next_parts (b.count i) (split i))
@@ -236,9 +229,9 @@ module _ (z : Sizes) (shards : ℕ) (first session : SessionView) (unread pump :
         (holds_paid session.posted) session.pass.list.told first.pass.seat b.after) (sym split)
         (b.ended m.more looks (ended_at how pump.taken posted failed) b.count stopped.0))
         (subst (λ (e : End). IsSession
-        (session_at unread.left pump.left (given ++ m.more) (ended_at e pump.taken posted failed)
+        (session_at pump.given pump.ended (given ++ m.more) (ended_at e pump.taken posted failed)
         (length b.behind))) (sym stopped.0)
-        (stopped_at unread.left pump.left given pump.taken posted (length b.behind) failed m (omega (arith, stopped.2))
+        (stopped_at pump.given pump.ended given pump.taken posted (length b.behind) failed m (omega (arith, stopped.2))
         (subst (λ ps. (length b.behind ≡ 0) ⊎ (length b.behind < length ps)) (sym next) b.short)))
         (front_more given m.more)
         (subst (λ (e : End). EndFaults e unread.faults pump.faults) (sym stopped.0) stopped.3)
@@ -264,7 +257,7 @@ texts_split (text ∷ texts) (suc whole) =
           ∙ append_assoc text (sent ++ next) more.0 ∙ ap (λ (list : List ℕ). text ++ list) more.1,
     )
 
-are_whole : (failed : Bool) (whole completed posted : ℕ) → completed ≡ posted → IsWholeSoFar failed whole completed
+are_whole : (failed : Bool) (whole completed posted : ℕ) → completed ≡ posted → AreWhole failed whole completed
     → AreWhole failed whole posted
 are_whole false whole completed posted all so = so ∙ all
 are_whole true whole completed posted all so = omega (arith, so, all)
@@ -306,7 +299,7 @@ module _ {W : Type 0} (put_may : W → Bor (List ℕ) → (W × Bool) → Type 0
         ∙ sym (length-map old.session.posted (λ (parcel : Sent). parcel.text)) in
         let whole : AreWhole failed was.lane.whole (length texts) =
         are_whole failed was.lane.whole (length old.device.completed) (length texts) completed
-        (subst (λ (n : ℕ). IsWholeSoFar failed n (length old.device.completed)) was.lane.driven.whole_is m.whole) in
+        (subst (λ (n : ℕ). AreWhole failed n (length old.device.completed)) was.lane.driven.whole_is m.whole) in
         let sent : Sends put_may flush_may false failed (joined texts) was.start was.wire =
         all_sent failed was.lane.whole texts was.start was.wire whole was.lane.grew in
         record {
@@ -358,6 +351,8 @@ module _ {W : Type 0} (put_may : W → Bor (List ℕ) → (W × Bool) → Type 0
               way.start wire) failed
               (subst (λ (w : W). SendsOut put_may flush_may false now.device.failed
               (joined (texts_in now.session.posted)) way.start w) wire_same out.out);
+          origin = origin_stays first.pump.origin first.pump.faults way.given (length now.session.posted) now.kept
+              now.end now.pump way.asked;
           reads = subst (λ (e : End). EndFaults e first.pump.faults now.pump.faults) how by.reads;
           credits = left.credits ∙ ap (λ (v : View). v.credits) same.opened;
           looks = ap (λ (l : SessionList). l.looks) left.list ∙ same.looks;

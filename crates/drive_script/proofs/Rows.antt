@@ -10,7 +10,8 @@ use Rattle.flake_base.specs.Told.{HostTold}
 use Rattle.pin_core.specs.declared.sizes.Sizes.{Sizes}
 use Rattle.schedule_text.specs.declared.line.Line.{Line}
 use Rattle.transcript_model.specs.Lines.{LineEvent}
-use Rattle.transcript_model.specs.Sessions.{Sending, events_of}
+use Rattle.any_wire.specs.Texts.{Sending}
+use Rattle.transcript_model.specs.Sessions.{events_of}
 use Rattle.drive_script.specs.Driven.{Leaving, DroveAll}
 use Rattle.drive_script.specs.Driving.{Driving, IsUnderWay, WereDriven}
 use Rattle.drive_script.specs.Lanes.{sends_by}

@@ -8,11 +8,10 @@ use Rattle.pin_core.specs.declared.sizes.Sizes.{Sizes}
 use Rattle.flake_base.specs.declared.segment.Seg.{Seg}
 use Rattle.flake_base.specs.declared.session.End.{End}
 use Rattle.flake_model.specs.Command.{Command}
-use Rattle.command_pump.specs.Pump.{PumpState}
+use Rattle.command_pump.specs.Pump.{Origin, PumpState}
 use Rattle.order_book.specs.Pages.{SessionList}
-use Rattle.reply_planner.specs.Parcels.{Sent}
+use Rattle.reply_planner.specs.Parcels.{Sent, texts_in}
 use Rattle.call_model.specs.Calls.{IsExecuted, IsCutShort}
-use Rattle.drive_model.specs.Matches.{texts_in}
 use Rattle.serve_model.specs.Going as model
 use Rattle.serve_model.proofs.Going.{going_rests, going_on, going_breaks}
 use Rattle.session_pass.specs.Calls.{KeepsRest, KeepsAll, CallPosts, CallReaps, CallRefused, ReapsOne, ReapsNone}
@@ -187,9 +186,9 @@ module _ (z : Sizes) (shards : ℕ) (first : SessionView) where
         same = w.same;
       })
 
-  module _ (input : Option (List ℕ)) (before : ℕ) (given : List Command) (old : SessionView)
+  module _ (origin : Origin) (before : ℕ) (given : List Command) (old : SessionView)
       (b : IsBetween z shards first given old) (command : Command) (pump : PumpState)
-      (next : AsksNext input before given (length old.posted) command pump) where
+      (next : AsksNext origin before given (length old.posted) command pump) where
     called_is : b.called ≡ next.front
     called_is = called_front given b.called b.rest next.front command b.given_is next.given_is
         (sym b.count ∙ sym next.count)
@@ -303,9 +302,9 @@ module _ (z : Sizes) (shards : ℕ) (first : SessionView) where
       → IsRunning z shards first given said s → IsRunning z shards first given end s
   running_ends given said end s none r = inl (open_yet given said s none r)
 
-  module _ (input : Option (List ℕ)) (before : ℕ) (given : List Command) (old between new : SessionView) (told : ℕ)
+  module _ (origin : Origin) (before : ℕ) (given : List Command) (old between new : SessionView) (told : ℕ)
       (told_is : new ≡ record between { told = told }) (command : Command) (pump : PumpState)
-      (next : AsksNext input before given (length old.posted) command pump) (said end : Option End)
+      (next : AsksNext origin before given (length old.posted) command pump) (said end : Option End)
       (none : is_some said ≡ false) where
     pub running_posted : (call freed : ℕ) (sent stored : List Seg)
         → CallPosts z shards command old between call freed sent stored → IsRunning z shards first given said old
@@ -313,22 +312,22 @@ module _ (z : Sizes) (shards : ℕ) (first : SessionView) where
     running_posted call freed sent stored posts r =
         let b = open_yet given said old none r in
         inl (between_stays (next.front ++ command ∷ []) between new (stays_told between new told told_is)
-        (between_posted input before given old b command pump next between call freed sent stored posts))
+        (between_posted origin before given old b command pump next between call freed sent stored posts))
 
     pub running_refused : (error : CallError) → end ≡ ended_by error said
         → WhyCallRefused z shards command old between error → IsRunning z shards first given said old
         → IsRunning z shards first (next.front ++ command ∷ []) end new
     running_refused (RingFull need room) end_is why r =
         inl (between_stays (next.front ++ command ∷ []) between new (stays_told between new told told_is)
-        (between_kept input before given old (open_yet given said old none r) command pump next between why.reaps))
+        (between_kept origin before given old (open_yet given said old none r) command pump next between why.reaps))
     running_refused (StageFull need free) end_is why r =
         inl (between_stays (next.front ++ command ∷ []) between new (stays_told between new told told_is)
-        (between_kept input before given old (open_yet given said old none r) command pump next between why.reaps))
+        (between_kept origin before given old (open_yet given said old none r) command pump next between why.reaps))
     running_refused Memory end_is why r =
         inr (
           end_is,
           broken_stays (next.front ++ command ∷ []) between new (stays_told between new told told_is)
-              (broken_short input before given old (open_yet given said old none r) command pump next between why),
+              (broken_short origin before given old (open_yet given said old none r) command pump next between why),
         )
 
   -- a look at the device

@@ -1,6 +1,6 @@
 -- One text said behind another.
-use Rattle.std.proofs.Common.{◌≡◌, ℕ, ◌+◌, Bool, true, false, List, [], ◌∷◌, ◌++◌, length, take, get_or, ◌<◌, Option}
-use Rattle.std.proofs.Common.{None, Some, refl, ap, sym, ◌∙◌, subst, append_assoc, append-nil, arith}
+use Rattle.std.proofs.Common.{◌≡◌, ℕ, ◌+◌, Bool, true, false, List, [], ◌∷◌, ◌++◌, length, take, get_or, ◌<◌}
+use Rattle.std.proofs.Common.{refl, ap, sym, ◌∙◌, subst, append_assoc, append-nil, arith}
 use Rattle.std.specs.List.{flat_map}
 use Rattle.std.proofs.lemmas.List.{take_more}
 use Rattle.std.proofs.lemmas.Grind.{flat_map-append}
@@ -18,30 +18,25 @@ use Rattle.drive_script.specs.Happened.{line_event}
 use Rattle.drive_script.specs.Says.{SameFiles, PrintsText}
 
 -- a whole text and a piece behind it
-grew_more : (failed : Bool) (text piece : List ℕ) (old mid new : Option (List ℕ)) → Grew false text old mid
-    → Grew failed piece mid new → Grew failed (text ++ piece) old new
-grew_more failed text piece None mid new first next = subst (λ was. Grew failed piece was new) first next
-grew_more false text piece (Some old) mid new first next =
-    let at : Grew false piece (Some (old ++ first.0)) new = subst (λ was. Grew false piece was new) first.2 next in
-    (first.0 ++ at.0, (λ i. first.1 i ++ at.1 i), at.2 ∙ ap Some (append_assoc old first.0 at.0))
-grew_more true text piece (Some old) mid new first next =
-    let at : Grew true piece (Some (old ++ first.0)) new = subst (λ was. Grew true piece was new) first.2 next in (
+grew_more : (failed : Bool) (text piece old mid new : List ℕ) → Grew false text old mid → Grew failed piece mid new
+    → Grew failed (text ++ piece) old new
+grew_more false text piece old mid new first next =
+    let at : Grew false piece (old ++ first.0) new = subst (λ was. Grew false piece was new) first.2 next in
+    (first.0 ++ at.0, (λ i. first.1 i ++ at.1 i), at.2 ∙ append_assoc old first.0 at.0)
+grew_more true text piece old mid new first next =
+    let at : Grew true piece (old ++ first.0) new = subst (λ was. Grew true piece was new) first.2 next in (
       first.0 ++ at.0,
       (at.1.0, (λ i. sym first.1 i ++ at.1.1 i) ∙ sym (append_assoc first.0 at.0 at.1.0)),
-      at.2
-          ∙ ap Some (append_assoc old first.0 at.0),
+      at.2 ∙ append_assoc old first.0 at.0,
     )
 
 -- after a failure a front of the longer text too
-grew_no_more : (text piece : List ℕ) (old new : Option (List ℕ)) → Grew true text old new
-    → Grew true (text ++ piece) old new
-grew_no_more text piece None new grew = grew
-grew_no_more text piece (Some old) new grew =
+grew_no_more : (text piece old new : List ℕ) → Grew true text old new → Grew true (text ++ piece) old new
+grew_no_more text piece old new grew =
     (grew.0, (grew.1.0 ++ piece, ap (λ front. front ++ piece) grew.1.1 ∙ append_assoc grew.0 grew.1.0 piece), grew.2)
 
-grew_nothing : (old : Option (List ℕ)) → Grew false [] old old
-grew_nothing None = refl
-grew_nothing (Some bytes) = ([], refl, ap Some (sym (append-nil bytes)))
+grew_nothing : (old : List ℕ) → Grew false [] old old
+grew_nothing old = ([], refl, sym (append-nil old))
 
 same_files : {a b c : HostTold} → SameFiles a b → SameFiles b c → SameFiles a c
 same_files first next = record {
@@ -84,7 +79,7 @@ says_then false true now text more old mid new first next =
       silent = λ is. never (sym is);
       said = λ is. subst (λ (b : Bool). Grew b (text ++ more) old.said new.said
           × FaultIs b old.say_faults new.say_faults) (sym two.0) (
-            subst (λ (s : Option (List ℕ)). Grew true (text ++ more) old.said s) (sym two.1)
+            subst (λ (s : List ℕ). Grew true (text ++ more) old.said s) (sym two.1)
                 (grew_no_more text more old.said mid.said one.0),
             subst (Rose old.say_faults) (sym two.2) one.1,
           );

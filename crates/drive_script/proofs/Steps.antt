@@ -13,7 +13,8 @@ use Rattle.pin_core.specs.declared.sizes.Sizes.{Sizes}
 use Rattle.schedule_text.specs.declared.line.Line.{Line}
 use Rattle.schedule_text.specs.Text.{line_session}
 use Rattle.transcript_model.specs.Lines.{LineEvent, EventLine, line_of, transcript_line}
-use Rattle.transcript_model.specs.Sessions.{Sending, events_of}
+use Rattle.any_wire.specs.Texts.{Sending}
+use Rattle.transcript_model.specs.Sessions.{events_of}
 use Rattle.transcript_text.specs.Told.{said}
 use Rattle.drive_script.specs.Driving.{Driving, IsAble, IsUnderWay, AreUnderWay, AreFresh, WereDriven}
 use Rattle.drive_script.specs.Says.{PrintsText}
@@ -128,7 +129,7 @@ module _ {W : Type 0} (sends : Sending W) (z : Sizes) (shards : ℕ) where
   able_of first events now is = record {
     ring = is.ring;
     small = is.small;
-    few = let few = few_posted first.pump.left first.pump.faults is.given (length now.session.posted) now.kept now.end
+    few = let few = few_posted first.pump.origin first.pump.faults is.given (length now.session.posted) now.kept now.end
         now.pump is.asked in omega (arith, few);
     wire = subst IsSome (sym is.wire_is) (search rules);
   }

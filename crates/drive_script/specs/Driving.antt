@@ -18,7 +18,8 @@ use Rattle.session_pass.specs.Views.{SessionView}
 use Rattle.session_serve.specs.Working.{IsFresh}
 use Rattle.schedule_text.specs.declared.line.Line.{Line}
 use Rattle.transcript_model.specs.Lines.{LineEvent, EventLine, line_of, transcript_line}
-use Rattle.transcript_model.specs.Sessions.{Sending, events_of}
+use Rattle.any_wire.specs.Texts.{Sending}
+use Rattle.transcript_model.specs.Sessions.{events_of}
 use Rattle.drive_model.specs.Views.{DeviceShown}
 use Rattle.drive_script.specs.Asked.{IsAsked}
 use Rattle.drive_script.specs.Lanes.{Fixed, IsLane}
@@ -81,7 +82,7 @@ pub record IsNew {W : Type 0} (z : Sizes) (d : Driving W) : Type 0 where
   pub device_told : d.device.told ≡ 0
   pub none_kept : d.kept ≡ None
   pub none_ended : d.end ≡ None
-  pub unread : IsPump d.pump.left d.pump.faults [] d.pump
+  pub unread : IsPump d.pump.origin d.pump.faults [] d.pump
   pub wire : W
   pub wire_is : d.wire ≡ Some wire
 
@@ -95,7 +96,7 @@ module _ {W : Type 0} (sends : Sending W) (z : Sizes) (shards : ℕ) where
     pub wire : W
     pub wire_is : now.wire ≡ Some wire
     pub given : List Command
-    pub asked : IsAsked first.pump.left first.pump.faults given (length now.session.posted) now.kept now.end now.pump
+    pub asked : IsAsked first.pump.origin first.pump.faults given (length now.session.posted) now.kept now.end now.pump
     pub lane : IsLane sends (fixed_at z first.session) start given now.end events (session_shown z now.session)
         now.device wire
     pub fresh : IsFresh z first.session first.pump

@@ -6,9 +6,10 @@ use Rattle.flake_base.specs.declared.session.End.{End}
 use Rattle.flake_model.specs.Command.{Command}
 use Rattle.pin_core.specs.declared.sizes.Sizes.{Sizes}
 use Rattle.transcript_model.specs.Lines.{LineEvent}
-use Rattle.transcript_model.specs.Sessions.{Sending, WireGrew}
+use Rattle.any_wire.specs.Texts.{Sending, WireGrew}
 use Rattle.transcript_model.specs.Terms.{Terms}
-use Rattle.drive_model.specs.Matches.{IsRightSoFar, texts_in}
+use Rattle.reply_planner.specs.Parcels.{texts_in}
+use Rattle.drive_model.specs.Matches.{IsRightSoFar}
 use Rattle.drive_model.specs.Quiet.{says_end}
 use Rattle.drive_model.specs.Views.{SessionShown, DeviceShown}
 

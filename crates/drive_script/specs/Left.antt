@@ -11,7 +11,8 @@ use Rattle.command_pump.specs.Pump.{PumpState}
 use Rattle.order_book.specs.Closed.{own_deeds}
 use Rattle.order_book.specs.Pages.{SessionList}
 use Rattle.transcript_model.specs.Lines.{LineEvent, sent, dropped}
-use Rattle.transcript_model.specs.Sessions.{Sending, WireGrew, IsRightSession, texts_of}
+use Rattle.any_wire.specs.Texts.{Sending, WireGrew}
+use Rattle.transcript_model.specs.Sessions.{IsRightSession, texts_of}
 use Rattle.transcript_model.specs.Terms.{Terms}
 use Rattle.drive_model.specs.Matches.{HasMore}
 use Rattle.drive_model.specs.Quiet.{IsQuiet, says_end}
@@ -79,5 +80,5 @@ module _ {W : Type 0} (sends : Sending W) (z : Sizes) where
     pub end_is : end.end ≡ unwrap_or said Left
     pub says : says_end events ≡ is_some said
     pub kept : Option Command
-    pub asked : IsAsked first.pump.left first.pump.faults given end.replies kept said left
+    pub asked : IsAsked first.pump.origin first.pump.faults given end.replies kept said left
     pub taken : end.taken ≡ left.taken

@@ -11,8 +11,9 @@ use Rattle.pinned_pool.specs.declared.view.View.{View}
 use Rattle.serve_model.specs.Handed.{SessionHasRun}
 use Rattle.session_serve.specs.Wires.{SendsOut}
 use Rattle.transcript_model.specs.Lines.{LineEvent}
-use Rattle.transcript_model.specs.Sessions.{WireGrew, IsRightSession, texts_of, joined}
-use Rattle.drive_model.specs.Matches.{texts_in}
+use Rattle.any_wire.specs.Texts.{WireGrew, joined}
+use Rattle.transcript_model.specs.Sessions.{IsRightSession, texts_of}
+use Rattle.reply_planner.specs.Parcels.{texts_in}
 use Rattle.drive_script.specs.Driving.{Driving, fixed_at}
 use Rattle.drive_script.specs.Lanes.{sends_by}
 use Rattle.drive_script.specs.Left.{terms_at, GathersAll}
@@ -44,7 +45,8 @@ module _
       (seat : View)
       (left : PumpState) (new : W) : Type 0 where
     pub texts : List (List ℕ)
-    pub ran : SessionHasRun z shards first.session.pass.list.number first.pump.left left.left end mine seat texts
+    pub ran : SessionHasRun z shards first.session.pass.list.number left.given left.ended end mine seat texts
+    pub origin : left.origin ≡ first.pump.origin
     pub whole : ℕ
     pub told : IsRightSession (terms_at (fixed_at z first.session) ran.run.commands end whole (own_deeds mine)) events
     pub start : W

@@ -12,7 +12,7 @@ use Rattle.serve_model.specs.Going as model
 use Rattle.session_pass.specs.Kept.{holds_paid}
 use Rattle.session_pass.specs.Views.{SessionView}
 use Rattle.session_serve.specs.Working.{IsSame}
-use Rattle.drive_model.specs.Matches.{texts_in}
+use Rattle.reply_planner.specs.Parcels.{texts_in}
 
 -- Between two calls: the first ones of the given commands were called, and the reply of each was posted.
 pub record IsBetween (z : Sizes) (shards : ℕ) (first : SessionView) (given : List Command) (session : SessionView)

@@ -2,6 +2,7 @@
 ghost use Rattle.std.specs.Prelude.{◌≡◌, ◌-◌, ◌^◌, ◌<◌, ◌++◌, ◌∷◌, [], ℕ, List, Option, length};
 ghost use Rattle.view_sums.specs.Total.{Each};
 ghost use Rattle.flake_model.specs.Command.{Command as Meaning};
+ghost use Rattle.command_pump.specs.Pump.{Origin};
 ghost use Rattle.schedule_text.specs.Text.{line_session};
 ghost use Rattle.tx_ring.specs.Shown.{device_ring};
 ghost use Rattle.transcript_model.specs.Lines.{LineEvent, line_of};
@@ -54,13 +55,13 @@ impl<N: BookName, P: PoolName + Send> Lane<N, P> {
         }) ≡ line }
         ensures recycles { Recycles result.1 self.old.session self.new.session }
         ensures right { (fixed : Fixed) (start : W) (given : List Meaning) (events : List LineEvent)
-            (input : Option (List ℕ)) (before : ℕ)
-            → IsAsked input before given (length self.old.session.posted) asking.old.kept asking.old.end
+            (origin : Origin) (before : ℕ)
+            → IsAsked origin before given (length self.old.session.posted) asking.old.kept asking.old.end
             asking.old.pump
             → IsLane (sends_by (λ w p r. PUT.post put.now w p r) (λ w r. FLUSH.post flush.now w r)) fixed start given
             asking.old.end events (session_shown P.sizes self.old.session)
             (device_shown self.old.device.failed self.old.device.end) wire
-            → GoesOn input before (length self.new.session.posted) asking.new.kept asking.new.end asking.new.pump
+            → GoesOn origin before (length self.new.session.posted) asking.new.kept asking.new.end asking.new.pump
             (λ now. IsLane (sends_by (λ w p r. PUT.post put.now w p r) (λ w r. FLUSH.post flush.now w r)) fixed
             start now asking.new.end (events ++ line_event result.1 sent.new.items stored.new.items ∷ [])
             (session_shown P.sizes self.new.session) (device_shown self.new.device.failed self.new.device.end)

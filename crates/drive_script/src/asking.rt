@@ -1,7 +1,7 @@
 // What a driven session is asked.
 ghost use Rattle.std.specs.Prelude.{◌≡◌, ℕ, List, Option, None, IfOk, IfErr, length};
 ghost use Rattle.flake_model.specs.Command.{Command as Meaning};
-ghost use Rattle.command_pump.specs.Pump.{HasEnded};
+ghost use Rattle.command_pump.specs.Pump.{Origin, HasEnded};
 ghost use Rattle.drive_script.specs.Asked.{MayGiveMore, AsksNext};
 ghost use Rattle.drive_script.specs.Refused.{refused_so, kept_back, ended_by};
 
@@ -24,12 +24,12 @@ pub struct Asking<S: Source> {
 impl<S: Source> Asking<S> {
     /// The next command, or how the input ended.
     pub(crate) fn next(&mut self) -> Result<Command, End>
-        ensures command { IfOk result (λ command. (input : Option (List ℕ)) (before : ℕ) (given : List Meaning)
-            (posted : ℕ) → MayGiveMore input before given posted self.old.kept self.old.pump
-            → AsksNext input before given posted command self.new.pump) }
-        ensures ended { IfErr result (λ end. (input : Option (List ℕ)) (before : ℕ) (given : List Meaning)
-            (posted : ℕ) → MayGiveMore input before given posted self.old.kept self.old.pump
-            → HasEnded input before given end self.new.pump × (length given ≡ posted)) }
+        ensures command { IfOk result (λ command. (origin : Origin) (before : ℕ) (given : List Meaning)
+            (posted : ℕ) → MayGiveMore origin before given posted self.old.kept self.old.pump
+            → AsksNext origin before given posted command self.new.pump) }
+        ensures ended { IfErr result (λ end. (origin : Origin) (before : ℕ) (given : List Meaning)
+            (posted : ℕ) → MayGiveMore origin before given posted self.old.kept self.old.pump
+            → HasEnded origin before given end self.new.pump × (length given ≡ posted)) }
         ensures kept { self.new.kept ≡ None }
         ensures end { self.new.end ≡ self.old.end }
     {

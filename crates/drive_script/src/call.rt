@@ -3,6 +3,7 @@ ghost use Rattle.std.specs.Prelude.{◌≡◌, ◌-◌, ◌^◌, ◌<◌, ◌≤
 ghost use Rattle.view_sums.specs.Total.{Each};
 ghost use Rattle.flake_base.specs.declared.segment.Seg.{Seg};
 ghost use Rattle.flake_model.specs.Command.{Command as Meaning};
+ghost use Rattle.command_pump.specs.Pump.{Origin};
 ghost use Rattle.reply_planner.specs.Parcels.{Sent};
 ghost use Rattle.schedule_text.specs.declared.line.Line.TheVariants as asked;
 ghost use Rattle.tx_ring.specs.Shown.{device_ring};
@@ -45,12 +46,12 @@ impl<N: BookName, P: PoolName + Send> Lane<N, P> {
             → line_of (record { session = session; event = line_event result segments fragments })
             ≡ asked.Call session }
         ensures right { (fixed : Fixed) (given : List Meaning) (whole : ℕ) (events : List LineEvent)
-            (input : Option (List ℕ)) (before : ℕ)
-            → IsAsked input before given (length self.old.session.posted) asking.old.kept asking.old.end
+            (origin : Origin) (before : ℕ)
+            → IsAsked origin before given (length self.old.session.posted) asking.old.kept asking.old.end
             asking.old.pump
             → IsDriven fixed given asking.old.end whole events (session_shown P.sizes self.old.session)
             (device_shown self.old.device.failed self.old.device.end)
-            → GoesOn input before (length self.new.session.posted) asking.new.kept asking.new.end asking.new.pump
+            → GoesOn origin before (length self.new.session.posted) asking.new.kept asking.new.end asking.new.pump
             (λ now. IsDriven fixed now asking.new.end whole
             (events ++ line_event result sent.new.items stored.new.items ∷ [])
             (session_shown P.sizes self.new.session) (device_shown self.new.device.failed self.new.device.end)

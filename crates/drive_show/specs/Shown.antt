@@ -1,5 +1,5 @@
 -- What is shown of a drive.
-use Rattle.std.specs.Prelude.{ℕ, Bool, List, Option, map}
+use Rattle.std.specs.Prelude.{ℕ, Bool, List, map}
 use Rattle.std.specs.Borrow.{Bor}
 use Rattle.flake_base.specs.Told.{HostTold, WireTold}
 use Rattle.flake_base.specs.declared.journal.Entry.{Entry}
@@ -13,10 +13,6 @@ use Rattle.drive_inputs.specs.Drove.{DroveInputs}
 use Rattle.drive_told.specs.Together.{driven_run}
 use Rattle.wire_told.specs.Sent.{AreTold}
 
--- the bytes that each wire has, where it tells them
-abbrev pub sent_on : {W : Type 0} → (W → WireTold) → List W → List (Option (List ℕ))
-sent_on tells wires = map (λ wire. (tells wire).sent) wires
-
 module _
     {W : Type 0}
     (put_may : W → Bor (List ℕ) → (W × Bool) → Type 0)
@@ -26,9 +22,9 @@ module _
   -- the journal and the wires.
   abbrev pub IsTranscriptTold : Type 0
   IsTranscriptTold = AreTold put_may flush_may tells → (z : Sizes) (ring threshold : ℕ) (schedule : List Line)
-      (failed : Bool) (inputs lefts : List (Option (List ℕ))) (ends : List SessionEnd) (journal : List (List Entry))
-      (closed : End) (olds news : List W) (old new : HostTold)
-      (d : DroveInputs put_may flush_may z ring threshold schedule failed inputs lefts ends journal closed olds news old
-      new)
+      (failed : Bool) (givens : List (List ℕ)) (endeds : List Bool) (ends : List SessionEnd)
+      (journal : List (List Entry)) (closed : End) (olds news : List W) (old new : HostTold)
+      (d : DroveInputs put_may flush_may z ring threshold schedule failed givens endeds ends journal closed olds news
+      old new)
       → IsTranscript (driven_run z ring threshold (all_commands d.ran.served.sessions) ends journal closed)
-      (sent_on tells olds) (sent_on tells news) schedule d.lines
+      (map tells olds) (map tells news) schedule d.lines

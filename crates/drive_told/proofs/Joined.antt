@@ -26,7 +26,7 @@ use Rattle.serve_model.proofs.Ran.{was_run}
 use Rattle.serve_model.proofs.Seats.{joins_add}
 use Rattle.serve_model.proofs.Served.{lists_long}
 use Rattle.transcript_model.specs.Lines.{EventLine, line_of}
-use Rattle.transcript_model.specs.Sessions.{Sending}
+use Rattle.any_wire.specs.Texts.{Sending}
 use Rattle.transcript_model.specs.Sources.{AreSources}
 use Rattle.transcript_model.specs.Transcript as transcript
 use Rattle.transcript_model.specs.Transcript.{shown_by, deeds_in, AreAllApart, IsToldBy}
@@ -137,7 +137,7 @@ module _ {W : Type 0} (sends : Sending W) (books : book_sizes.Sizes) (z : pool_s
   pub have : HaveDriven sends z ring threshold schedule lines each past journal closed
   have =
       let served = ran.served sends z books.shards ring threshold lines each are.all in
-      let whole = was_run books z shards own_lists journal store _ _ ends _ _ _ book as_many were.parts served last
+      let whole = was_run books z shards own_lists journal store _ _ ends _ book as_many were.parts served last
       (are.spare ∷ []) last_seat in
       let right : IsJudged (pool_end z last) whole.0.served.sessions =
       subst (IsJudged (pool_end z last)) (sym whole.1.sessions_are) (judged (pool_end z last)) in

@@ -1,22 +1,21 @@
 -- Driven sessions were served together.
-use Rattle.std.proofs.Common.{◌≡◌, Bool, ℕ, zero, suc, ◌+◌, List, [], ◌∷◌, Option, Some, map, slice_get}
+use Rattle.std.proofs.Common.{◌≡◌, Bool, ℕ, zero, suc, ◌+◌, List, [], ◌∷◌, Some, map, slice_get}
 use Rattle.std.proofs.Common.{refl, ap, sym, ◌∙◌, subst, arith}
 use Rattle.std.specs.List.{AllByRecursion, flat_map}
 use Rattle.std.proofs.lemmas.List.Folds.{flat_map-map}
 use Rattle.view_sums.specs.Total.{Each}
 use Rattle.flake_model.specs.Reply.{reply_text}
 use Rattle.flake_model.specs.Session.{IsSession}
-use Rattle.flake_model.specs.Wire.{WiresGrew}
 use Rattle.pin_core.specs.declared.sizes.Sizes.{Sizes}
 use Rattle.serve_model.specs.Handed.{SessionRun, session_in, runs_in, AreServed}
 use Rattle.serve_model.specs.Runs.{Run, IsRun, run_text, run_texts, replies_told, lists_told, texts_told}
 use Rattle.serve_model.specs.Runs.{all_texts_told}
 use Rattle.serve_model.specs.Seats.{AreSpentSeats}
 use Rattle.transcript_model.specs.Lines.{EventLine}
-use Rattle.transcript_model.specs.Sessions.{Sending, events_of}
+use Rattle.any_wire.specs.Texts.{Sending}
+use Rattle.transcript_model.specs.Sessions.{events_of}
 use Rattle.transcript_model.specs.Transcript.{IsStageShown}
 use Rattle.drive_told.specs.Driven.{OneDriven, IsDriven, AllDriven}
-use Rattle.drive_told.specs.Together.{untold}
 
 run_text_is : (run : Run) → run_text run ≡ flat_map (λ text. text) (run_texts run)
 run_text_is run = sym (flat_map-map (λ text. text) reply_text (replies_told run.commands run.calls))
@@ -39,19 +38,18 @@ module _ {W : Type 0} (sends : Sending W) (z : Sizes) (shards ring threshold : �
   abbrev pub runs_from : (session : ℕ) (each : List (OneDriven W)) → Drove session each → List SessionRun
   runs_from session [] all = []
   runs_from session (one ∷ each) all =
-      record { input = one.input; left = one.left; run = all.0.ran.run } ∷ runs_from (session + 1) each all.1
+      record { given = one.given; ended = one.ended; run = all.0.ran.run } ∷ runs_from (session + 1) each all.1
 
-  pub inputs_are : (session : ℕ) (each : List (OneDriven W)) (all : Drove session each)
-      → map (λ (one : OneDriven W). one.input) each ≡ map (λ (ran : SessionRun). ran.input) (runs_from session each all)
-  inputs_are session [] all = refl
-  inputs_are session (one ∷ each) all =
-      ap (λ (l : List (Option (List ℕ))). one.input ∷ l) (inputs_are (session + 1) each all.1)
+  pub givens_are : (session : ℕ) (each : List (OneDriven W)) (all : Drove session each)
+      → map (λ (one : OneDriven W). one.given) each ≡ map (λ (ran : SessionRun). ran.given) (runs_from session each all)
+  givens_are session [] all = refl
+  givens_are session (one ∷ each) all =
+      ap (λ (l : List (List ℕ)). one.given ∷ l) (givens_are (session + 1) each all.1)
 
-  pub lefts_are : (session : ℕ) (each : List (OneDriven W)) (all : Drove session each)
-      → map (λ (one : OneDriven W). one.left) each ≡ map (λ (ran : SessionRun). ran.left) (runs_from session each all)
-  lefts_are session [] all = refl
-  lefts_are session (one ∷ each) all =
-      ap (λ (l : List (Option (List ℕ))). one.left ∷ l) (lefts_are (session + 1) each all.1)
+  pub endeds_are : (session : ℕ) (each : List (OneDriven W)) (all : Drove session each)
+      → map (λ (one : OneDriven W). one.ended) each ≡ map (λ (ran : SessionRun). ran.ended) (runs_from session each all)
+  endeds_are session [] all = refl
+  endeds_are session (one ∷ each) all = ap (λ (l : List Bool). one.ended ∷ l) (endeds_are (session + 1) each all.1)
 
   pub ends_are : (session : ℕ) (each : List (OneDriven W)) (all : Drove session each)
       → map (λ (one : OneDriven W). one.end) each ≡ map (λ (ran : SessionRun). ran.run.end) (runs_from session each all)
@@ -100,34 +98,26 @@ module _ {W : Type 0} (sends : Sending W) (z : Sizes) (shards ring threshold : �
       ∙ ap (λ (t : Bool × List (List ℕ)). (t.0, flat_map (λ text. text) t.1)) (texts_of session one all.0) in
       (λ i. text i ∷ texts_are (session + 1) each all.1 i)
 
-  pub wires_are : (session : ℕ) (each : List (OneDriven W)) (all : Drove session each)
-      → WiresGrew (texts_told (runs_in (runs_from session each all)))
-      (untold (map (λ (one : OneDriven W). one.end) each)) (untold (map (λ (one : OneDriven W). one.end) each))
-  wires_are session [] all = refl
-  wires_are session (one ∷ each) all = (refl, wires_are (session + 1) each all.1)
-
-  -- they were served, and nothing is told of their wires
+  -- they were served
   abbrev pub served : (each : List (OneDriven W)) → Drove 0 each
-      → AreServed z shards (map (λ (one : OneDriven W). one.input) each) (map (λ (one : OneDriven W). one.left) each)
+      → AreServed z shards (map (λ (one : OneDriven W). one.given) each) (map (λ (one : OneDriven W). one.ended) each)
       (map (λ (one : OneDriven W). one.end) each) (map (λ (one : OneDriven W). one.list) each)
-      (map (λ (one : OneDriven W). one.seat) each) (untold (map (λ (one : OneDriven W). one.end) each))
-      (untold (map (λ (one : OneDriven W). one.end) each))
+      (map (λ (one : OneDriven W). one.seat) each)
   served each all = record {
     all = runs_from 0 each all;
-    inputs_are = inputs_are 0 each all;
-    lefts_are = lefts_are 0 each all;
+    givens_are = givens_are 0 each all;
+    endeds_are = endeds_are 0 each all;
     ends_are = ends_are 0 each all;
     sessions_are = sessions_are 0 each all;
     runs_are = runs_are 0 each all;
     told = lists_are 0 each all;
     seats_are = seats_are 0 each all;
-    wires = wires_are 0 each all;
   }
 
   -- one of them, with its number, at its place
   abbrev pub IsAt : ℕ → List SessionRun → ℕ → OneDriven W → Type 0
   IsAt number runs k one = (driven : Driven number one)
-      × (slice_get runs k ≡ Some (record { input = one.input; left = one.left; run = driven.ran.run }))
+      × (slice_get runs k ≡ Some (record { given = one.given; ended = one.ended; run = driven.ran.run }))
 
   pub at_place : (session : ℕ) (each : List (OneDriven W)) (all : Drove session each) (k : ℕ) (one : OneDriven W)
       → slice_get each k ≡ Some one → IsAt (session + k) (runs_from session each all) k one

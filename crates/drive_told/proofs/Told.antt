@@ -19,7 +19,8 @@ use Rattle.serve_model.specs.Handed.{SessionRun, session_in}
 use Rattle.serve_model.proofs.Places.{index_at, get_map}
 use Rattle.transcript_model.specs.Frames.{deeds_of}
 use Rattle.transcript_model.specs.Lines.{EventLine, line_of}
-use Rattle.transcript_model.specs.Sessions.{Sending, WireGrew, IsRightSession, events_of, texts_from, texts_of}
+use Rattle.any_wire.specs.Texts.{Sending, WireGrew}
+use Rattle.transcript_model.specs.Sessions.{IsRightSession, events_of, texts_from, texts_of}
 use Rattle.transcript_model.specs.Terms.{Terms}
 use Rattle.transcript_model.specs.Transcript.{DrivenRun, terms_of, SessionsAreRight, AreSent, IsToldBy}
 use Rattle.drive_told.specs.Driven.{OneDriven, IsDriven, AllDriven, terms_by}
@@ -68,7 +69,7 @@ module _ {W : Type 0} (sends : Sending W) (z : Sizes) (shards ring threshold : �
   same_terms : (session : ℕ) (one : OneDriven W) (there : slice_get each session ≡ Some one)
       (driven : IsDriven sends z shards ring threshold session (events_of session lines) one)
       → slice_get (runs_from sends z shards ring threshold lines 0 each all) session
-      ≡ Some (record { input = one.input; left = one.left; run = driven.ran.run })
+      ≡ Some (record { given = one.given; ended = one.ended; run = driven.ran.run })
       → terms_by sends z shards ring threshold session driven.ran.run.commands one
       ≡ terms_of run (own_of lists_in session) session one.end one.stage (slice_index wholes session)
   same_terms session one there driven is =
@@ -107,7 +108,7 @@ module _ {W : Type 0} (sends : Sending W) (z : Sizes) (shards ring threshold : �
       let e : 0 + session ≡ session = omega arith in
       let at = subst (λ n. (driven : IsDriven sends z shards ring threshold n (events_of n lines) one)
       × (slice_get (runs_from sends z shards ring threshold lines 0 each all) session
-      ≡ Some (record { input = one.input; left = one.left; run = driven.ran.run }))) e
+      ≡ Some (record { given = one.given; ended = one.ended; run = driven.ran.run }))) e
       (at_place sends z shards ring threshold lines 0 each all session one there) in
       let terms = same_terms session one there at.0 at.1 in
       let whole_is : one.whole ≡ slice_index wholes session =

@@ -33,7 +33,8 @@ use Rattle.serve_model.specs.Handed.{SessionHasRun}
 use Rattle.serve_model.specs.Runs.{session_of, list_of}
 use Rattle.serve_model.specs.Seats.{IsSpentSeat}
 use Rattle.serve_model.specs.Worked.{setting, getting, key_a, bytes, set_input, get_input}
-use Rattle.transcript_model.specs.Sessions.{IsRightSession, WireGrew, events_of, texts_of}
+use Rattle.any_wire.specs.Texts.{WireGrew}
+use Rattle.transcript_model.specs.Sessions.{IsRightSession, events_of, texts_of}
 use Rattle.transcript_model.specs.Standing.{at_first}
 use Rattle.transcript_model.specs.Terms.{Terms}
 use Rattle.transcript_model.specs.Transcript.{IsStageShown}
@@ -215,12 +216,8 @@ get_parsed = (
   },
 )
 
-set_session : IsSession (session_of (Some set_input) (Some []) set_run)
+set_session : IsSession (session_of set_input true set_run)
 set_session = record {
-  gave = set_input;
-  left = [];
-  input_is = refl;
-  left_is = refl;
   requests = _;
   shown = Clean;
   parsed = set_parsed;
@@ -232,12 +229,8 @@ set_session = record {
   begun_is = refl;
 }
 
-get_session : IsSession (session_of (Some get_input) (Some []) get_run)
+get_session : IsSession (session_of get_input true get_run)
 get_session = record {
-  gave = get_input;
-  left = [];
-  input_is = refl;
-  left_is = refl;
   requests = _;
   shown = Clean;
   parsed = get_parsed;
@@ -283,7 +276,7 @@ get_seat = record {
   returned = omega arith;
 }
 
-set_ran : SessionHasRun pool 1 0 (Some set_input) (Some []) set_run.end (list_of 1 0 set_run)
+set_ran : SessionHasRun pool 1 0 set_input true set_run.end (list_of 1 0 set_run)
     (view [] 1 set_claims [] 0 [])
     (codes "+OK\r\n" ∷ [])
 unfolding digits
@@ -297,7 +290,7 @@ set_ran = record {
   texts_are = refl;
 }
 
-get_ran : SessionHasRun pool 1 1 (Some get_input) (Some []) get_run.end (list_of 1 1 get_run)
+get_ran : SessionHasRun pool 1 1 get_input true get_run.end (list_of 1 1 get_run)
     (view [] 1 get_claims [] 0 [])
     (codes "$1\r\nx\r\n" ∷ [])
 unfolding digits
@@ -342,10 +335,10 @@ get_stage = record {
   addresses = refl;
 }
 
-abbrev set_one : OneDriven (Option (List ℕ))
+abbrev set_one : OneDriven (List ℕ)
 set_one = one_of 0 set_input set_run set_claims (codes "+OK\r\n")
 
-abbrev get_one : OneDriven (Option (List ℕ))
+abbrev get_one : OneDriven (List ℕ)
 get_one = one_of 1 get_input get_run get_claims (codes "$1\r\nx\r\n")
 
 abbrev set_terms : Terms
@@ -384,13 +377,13 @@ get_told = record {
   sent = refl;
 }
 
-set_grew : WireGrew Grew false 1 (texts_of set_terms) (Some []) (Some (codes "+OK\r\n"))
+set_grew : WireGrew Grew false 1 (texts_of set_terms) [] (codes "+OK\r\n")
 unfolding digits
-set_grew = record { middle = Some (codes "+OK\r\n"); before = (_, refl, refl); behind = (_, refl, refl) }
+set_grew = record { middle = codes "+OK\r\n"; before = (_, refl, refl); behind = (_, refl, refl) }
 
-get_grew : WireGrew Grew false 1 (texts_of get_terms) (Some []) (Some (codes "$1\r\nx\r\n"))
+get_grew : WireGrew Grew false 1 (texts_of get_terms) [] (codes "$1\r\nx\r\n")
 unfolding digits
-get_grew = record { middle = Some (codes "$1\r\nx\r\n"); before = (_, refl, refl); behind = (_, refl, refl) }
+get_grew = record { middle = codes "$1\r\nx\r\n"; before = (_, refl, refl); behind = (_, refl, refl) }
 
 two_added : (some more : List ℕ) (weight : ℕ → ℕ)
     → total weight (some ++ more) ≡ 0 + (total weight some + (total weight more + 0))
@@ -420,6 +413,6 @@ worked_drive = record {
   answers = refl;
   driven = are;
   closed = were;
-  have = together Grew books pool 1160 1 schedule lines both (None ∷ []) shards lists (journal_of shards) main store
+  have = together Grew books pool 1160 1 schedule lines both ([] ∷ []) shards lists (journal_of shards) main store
       last (pool_end pool last) refl are were;
 }

@@ -1,5 +1,5 @@
 -- What driven sessions hand up, one by one and together.
-use Rattle.std.specs.Prelude.{◌≡◌, ℕ, ◌+◌, List, [], ◌∷◌, Option, map}
+use Rattle.std.specs.Prelude.{◌≡◌, ℕ, ◌+◌, Bool, List, [], ◌∷◌, map}
 use Rattle.flake_base.specs.declared.session.SessionEnd.{SessionEnd}
 use Rattle.flake_model.specs.Command.{Command}
 use Rattle.pin_core.specs.declared.sizes.Sizes.{Sizes}
@@ -9,15 +9,17 @@ use Rattle.order_book.specs.Pages.{SessionList}
 use Rattle.serve_model.specs.Handed.{SessionHasRun}
 use Rattle.serve_model.specs.Seats.{HasAll, IsSpare}
 use Rattle.transcript_model.specs.Lines.{LineEvent, EventLine}
-use Rattle.transcript_model.specs.Sessions.{Sending, WireGrew, IsRightSession, events_of, texts_of}
+use Rattle.any_wire.specs.Texts.{Sending, WireGrew}
+use Rattle.transcript_model.specs.Sessions.{IsRightSession, events_of, texts_of}
 use Rattle.transcript_model.specs.Terms.{Terms}
 use Rattle.transcript_model.specs.Transcript.{IsStageShown}
 
--- what comes of one session: its end, its list, its seat, its replies' texts, the addresses of its staging buffers, how
--- many replies were sent whole, and its wire before and behind it
+-- what comes of one session: what its source gave, and whether it gave none at last; its end, its list, its seat,
+-- its replies' texts, the addresses of its staging buffers, how many replies were sent whole, and its wire before and
+-- behind it
 pub record OneDriven (W : Type 0) : Type 0 where
-  pub input : Option (List ℕ)
-  pub left : Option (List ℕ)
+  pub given : List ℕ
+  pub ended : Bool
   pub end : SessionEnd
   pub list : SessionList
   pub seat : View
@@ -44,7 +46,7 @@ module _ {W : Type 0} (sends : Sending W) (z : Sizes) (shards ring threshold : �
 
   -- The session ran, what was said of it is right by its own list, and its wire was sent the texts of its replies.
   pub record IsDriven (session : ℕ) (events : List LineEvent) (one : OneDriven W) : Type 0 where
-    pub ran : SessionHasRun z shards session one.input one.left one.end one.list one.seat one.texts
+    pub ran : SessionHasRun z shards session one.given one.ended one.end one.list one.seat one.texts
     pub stage_is : IsStageShown z one.stage
     pub told : IsRightSession (terms_by session ran.run.commands one) events
     pub grew : WireGrew sends one.end.failed one.whole (texts_of (terms_by session ran.run.commands one)) one.old

@@ -1,7 +1,7 @@
 -- What driven sessions come to, when book and pool are closed.
-use Rattle.std.specs.Prelude.{◌≡◌, ℕ, Bool, List, ◌++◌, Option, None, map}
+use Rattle.std.specs.Prelude.{◌≡◌, ℕ, Bool, List, ◌++◌, map}
 use Rattle.std.specs.List.{flat_map}
-use Rattle.flake_base.specs.Growth.{Grew}
+use Rattle.flake_base.specs.Told.{WireTold}
 use Rattle.flake_base.specs.declared.journal.Entry.{Entry}
 use Rattle.flake_base.specs.declared.session.SessionEnd.{SessionEnd}
 use Rattle.pin_core.specs.declared.sizes.Sizes as pool_sizes
@@ -16,9 +16,10 @@ use Rattle.schedule_text.specs.declared.line.Line.{Line}
 use Rattle.serve_model.specs.Replies.{all_replies}
 use Rattle.serve_model.specs.Shown.{WasRun}
 use Rattle.transcript_model.specs.Lines.{EventLine, line_of}
-use Rattle.transcript_model.specs.Sessions.{Sending}
+use Rattle.any_wire.specs.Texts.{Sending}
 use Rattle.transcript_model.specs.Sources.{AreSources}
 use Rattle.transcript_model.specs.Transcript.{DrivenRun, AreAllApart, transcript_places, IsToldBy, IsTranscript}
+use Rattle.wire_told.specs.Sent.{WasSentByPuts}
 use Rattle.drive_told.specs.Closed.{WereClosed}
 use Rattle.drive_told.specs.Driven.{OneDriven, AreDriven}
 
@@ -36,18 +37,13 @@ driven_run z ring threshold sessions ends journal closed = record {
   large_held = closed.large;
 }
 
--- nothing is told of the wires
-abbrev pub untold : List SessionEnd → List (Option (List ℕ))
-untold ends = map (λ (_ : SessionEnd). None) ends
-
 module _ {W : Type 0} (sends : Sending W) where
   -- The inputs were served as a whole, the returned journal gives the texts of the replies, and what was said is right
   -- by the sessions' own deeds, which are those of the shards' histories.
   pub record HaveDriven (z : pool_sizes.Sizes) (ring threshold : ℕ) (schedule : List Line) (lines : List EventLine)
       (each : List (OneDriven W)) (past : List W) (journal : List (List Entry)) (closed : End) : Type 0 where
-    pub ran : WasRun z (map (λ (one : OneDriven W). one.input) each) (map (λ (one : OneDriven W). one.left) each)
-        (map (λ (one : OneDriven W). one.end) each) journal (untold (map (λ (one : OneDriven W). one.end) each))
-        (untold (map (λ (one : OneDriven W). one.end) each)) closed
+    pub ran : WasRun z (map (λ (one : OneDriven W). one.given) each) (map (λ (one : OneDriven W). one.ended) each)
+        (map (λ (one : OneDriven W). one.end) each) journal closed
     pub texts_are : wire_texts ran.served.sessions journal
         ≡ map (λ (one : OneDriven W). (one.end.failed, flat_map (λ text. text) one.texts)) each
     pub replies_are : all_replies ran.served.sessions journal
@@ -71,14 +67,14 @@ module _ {W : Type 0} (sends : Sending W) where
       → WereClosed books z shards lists journal main store last closed
       → HaveDriven z ring threshold schedule lines each past journal closed
 
-  -- what a wire tells grows by the texts that it is sent
-  abbrev pub AreTold : (W → Option (List ℕ)) → Type 0
+  -- what a wire tells is that it was sent its texts
+  abbrev pub AreTold : (W → WireTold) → Type 0
   AreTold tells = (failed : Bool) (text : List ℕ) (old new : W) → sends failed text old new
-      → Grew failed text (tells old) (tells new)
+      → WasSentByPuts failed text (tells old) (tells new)
 
   -- what is right by the sessions' own deeds is a transcript of wires that tell what they are sent
   abbrev pub TranscriptTold : Type 0
-  TranscriptTold = (tells : W → Option (List ℕ)) → AreTold tells → (run : DrivenRun) (olds news : List W)
+  TranscriptTold = (tells : W → WireTold) → AreTold tells → (run : DrivenRun) (olds news : List W)
       (own : ℕ → List Deed) (schedule : List Line) (lines : List EventLine) (shards : List (List Deed))
       (by_own : IsToldBy sends run olds news own schedule lines) → AreSources run shards own by_own.stages
       → AreAllApart (transcript_places run lines) → IsTranscript run (map tells olds) (map tells news) schedule lines

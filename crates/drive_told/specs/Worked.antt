@@ -1,6 +1,6 @@
 -- Two driven sessions over one shard, and a pool of one buffer besides their stages: the first sets a key, and its
 -- reply is gathered and given back; then the second gets the key, and its reply is gathered without a line.
-use Rattle.std.specs.Prelude.{◌≡◌, ℕ, ◌*◌, false, List, [], ◌∷◌, ◌++◌, Option, Some, None, map, codes}
+use Rattle.std.specs.Prelude.{◌≡◌, ℕ, ◌*◌, true, false, List, [], ◌∷◌, ◌++◌, Some, map, codes}
 use Rattle.std.specs.List.{range_with_len}
 use Rattle.flake_base.specs.Growth.{Grew}
 use Rattle.flake_base.specs.declared.session.End.TheVariants.{Left}
@@ -67,21 +67,21 @@ set_claims = range_with_len 0 128 ++ 256 ∷ []
 abbrev pub get_claims : List ℕ
 get_claims = range_with_len 128 128
 
-abbrev pub one_of : ℕ → List ℕ → Run → List ℕ → List ℕ → OneDriven (Option (List ℕ))
+abbrev pub one_of : ℕ → List ℕ → Run → List ℕ → List ℕ → OneDriven (List ℕ)
 one_of session input run claims text = record {
-  input = Some input;
-  left = Some [];
+  given = input;
+  ended = true;
   end = run.end;
   list = list_of 1 session run;
   seat = view [] 1 claims [] 0 [];
   texts = text ∷ [];
   stage = stage_from (128 * session);
   whole = 1;
-  old = Some [];
-  new = Some text;
+  old = [];
+  new = text;
 }
 
-abbrev pub both : List (OneDriven (Option (List ℕ)))
+abbrev pub both : List (OneDriven (List ℕ))
 both =
     one_of 0 set_input set_run set_claims (codes "+OK\r\n")
     ∷ one_of 1 get_input get_run get_claims (codes "$1\r\nx\r\n")
@@ -112,7 +112,7 @@ abbrev pub shards : List ShardList
 shards = shown_shard (page 0 (set_deed ∷ get_deed ∷ [])) ∷ []
 
 abbrev pub lists : List SessionList
-lists = map (λ (driven : OneDriven (Option (List ℕ))). driven.list) both
+lists = map (λ (driven : OneDriven (List ℕ)). driven.list) both
 
 -- the pool: the shard's seat, and that with which the opening began, the sessions' in it
 abbrev pub store : View
@@ -143,4 +143,4 @@ pub record WorkedDrive : Type 0 where
   pub answers : map line_of lines ≡ schedule
   pub driven : AreDriven Grew pool books.shards 1160 1 lines both lists main
   pub closed : WereClosed books pool shards lists (journal_of shards) main store last (pool_end pool last)
-  pub have : HaveDriven Grew pool 1160 1 schedule lines both (None ∷ []) (journal_of shards) (pool_end pool last)
+  pub have : HaveDriven Grew pool 1160 1 schedule lines both ([] ∷ []) (journal_of shards) (pool_end pool last)

@@ -1,8 +1,10 @@
 -- What is known of a reader or a writer, over several calls; windows of a list.
 use Rattle.std.proofs.Common.{◌≡◌, ℕ, ◌+◌, ◌-◌, ◌≤◌, List, [], ◌++◌, length, take, drop, slice_range, Option, Some}
-use Rattle.std.proofs.Common.{None, refl, sym, ap, ◌∙◌, arith, append_assoc}
+use Rattle.std.proofs.Common.{None, Result, Ok, Err, OnErr, true, refl, sym, ap, ◌∙◌, arith, append_assoc}
 use Rattle.std.proofs.lemmas.List.{append-nil, take-append-drop, take_all, drop-take, drop-drop, length-drop}
 use Rattle.std.specs.Io.KnownBytes.{Keeps, Appends, Consumes}
+use Rattle.flake_base.specs.Growth.{Grew}
+use Rattle.file_outside.specs.Unwritten.{Rest, PutsFront, put_of}
 use lib.Seq.{take-add}
 
 pub Keeps-refl : (a : Option (List ℕ)) → Keeps a a
@@ -64,3 +66,21 @@ given_front xs start end n inside =
     = sym (ap (λ j. drop n (take j (drop start xs))) parts ∙ drop-take n _ (drop start xs)
     ∙ ap (take (end - (start + n))) (drop-drop n start xs)) in
     sym (take-append-drop n window) ∙ ap (λ (t : List ℕ). take n window ++ t) (sym rest)
+
+-- what is written of a list, and what is still to be
+pub written_front : (xs : List ℕ) (start n : ℕ)
+    → slice_range xs start (start + n) ++ drop (start + n) xs ≡ drop start xs
+written_front xs start n =
+    let count : start + n - start ≡ n = omega arith in
+    ap (λ j. take j (drop start xs) ++ drop (start + n) xs) count
+    ∙ ap (λ (t : List ℕ). take n (drop start xs) ++ t) (sym (drop-drop n start xs))
+    ∙ take-append-drop n (drop start xs)
+
+-- where a put failed, a front of its piece was put
+pub front_grew : {T E : Type 0} (result : Result T E) (piece : List ℕ) (had has : Option (List ℕ)) (old new from : Rest)
+    → old ≡ from → OnErr result (PutsFront piece had old has new)
+    → OnErr result (Grew true piece (put_of from) (put_of new))
+front_grew (Ok done) piece had has old new from same front = tt
+front_grew (Err failed) piece had has old new from same front =
+    let put = front.2.put ∙ ap (λ rest. put_of rest ++ take front.0 piece) same in
+    (take front.0 piece, (drop front.0 piece, sym (take-append-drop front.0 piece)), put)

@@ -1,10 +1,10 @@
-ghost use Rattle.std.specs.Prelude.{◌≡◌, ◌+◌, length, None, IfOk, OnErr, OnOk};
+ghost use Rattle.std.specs.Prelude.{◌≡◌, ◌+◌, [], length, None, false, IfOk, OnErr, OnOk};
 
+use crate::again::write_front;
 use crate::ahead::Ahead;
 use crate::source::FileSource;
-use flake_base::{Failed, Host, Memory};
+use flake_base::{Failed, Host, Memory, Past};
 use std::alloc::Global;
-use std::io::Write;
 use std::rt::Files;
 use std::{fs, io};
 
@@ -14,6 +14,7 @@ pub struct FileHost<R> {
     rt: R,
     // For the files that may still be opened.
     rooms: Vec<Ahead>,
+    said: Past,
     opens: u64,
     open_faults: u64,
     say_faults: u64,
@@ -31,6 +32,7 @@ impl<R: Drop> FileHost<R> {
         Ok(FileHost {
             rt,
             rooms,
+            said: Past::new(),
             opens: 0,
             open_faults: 0,
             say_faults: 0,
@@ -62,18 +64,22 @@ impl<R: Drop> FileHost<R> {
 impl<R: Files + Drop> FileHost<R> {
     // A file that doesn't open takes no room.
     fn source(&mut self, name: &str) -> Result<FileSource<R::File>, Failed>
+        ensures named { IfOk result (λ source. source.name.bytes ≡ name.now) }
+        ensures unread { IfOk result (λ source. source.given.bytes ≡ []) }
+        ensures open { IfOk result (λ source. source.ended ≡ false) }
         ensures fresh { IfOk result (λ source. source.faults ≡ 0) }
         ensures room { OnOk result (length self.old.rooms.items ≡ length self.new.rooms.items + 1) }
         ensures kept { OnErr result (length self.old.rooms.items ≡ length self.new.rooms.items) }
         ensures opens { self.new.opens ≡ self.old.opens }
         ensures open_faults { self.new.open_faults ≡ self.old.open_faults }
+        ensures said { self.new.said ≡ self.old.said }
         ensures say_faults { self.new.say_faults ≡ self.old.say_faults }
     {
         let Ok(file) = fs::open(&self.rt, name) else {
             return Err(Failed);
         };
         match self.rooms.pop() {
-            Some(ahead) => Ok(FileSource::new(file, ahead)),
+            Some(ahead) => Ok(FileSource::new(name, file, ahead)),
             None => Err(Failed),
         }
     }
@@ -89,7 +95,7 @@ where
       holds = λ _. None;
       opens = h.opens;
       open_faults = λ _. h.open_faults;
-      said = None;
+      said = h.said.bytes;
       say_faults = h.say_faults;
     } };
 
@@ -103,7 +109,9 @@ where
     }
 
     fn say(&mut self, piece: &[u8]) -> Result<(), Failed> {
-        if io::writer(&self.rt).write_all(piece).is_err() {
+        let count = write_front(&mut io::writer(&self.rt), piece);
+        self.said.add(&piece[..count]);
+        if count < piece.len() {
             self.say_faults = self.say_faults.saturating_add(1);
             return Err(Failed);
         }

@@ -3,7 +3,7 @@ ghost use Rattle.std.specs.Prelude.{◌≡◌, ◌≤◌, ◌==◌, [], length, 
 ghost use Rattle.file_outside.specs.Unwritten.{Puts, PutsFront, and_waits};
 
 use crate::again::write_front;
-use flake_base::{Failed, Memory};
+use flake_base::{Failed, Memory, Past};
 use std::alloc::Global;
 use std::io::Write;
 use std::marker::Model;
@@ -11,12 +11,12 @@ use std::marker::Model;
 /// The most bytes that wait.
 const ROOM: usize = 262_144;
 
-/// Room for bytes that wait, of which those before `start` are written, and how many were written in all.
+/// Room for bytes that wait, of which those before `start` are written. What was written in all only contracts see.
 #[derive(Drop)]
 pub struct Unwritten {
     room: Vec<u8>,
     start: usize,
-    written: u64,
+    written: Past,
 }
 
 impl Model for Unwritten {
@@ -27,7 +27,7 @@ impl Model for Unwritten {
 
     ghost view = { λ u. record {
       waiting = drop u.start u.room.items;
-      written = u.written;
+      written = u.written.bytes;
       free = 262144 - length u.room.items;
     } };
 
@@ -37,13 +37,13 @@ impl Model for Unwritten {
 
 impl Unwritten {
     pub fn new(alloc: Global) -> Result<Self, Memory>
-        ensures { IfOk result (λ unwritten. unwritten ≡ record { waiting = []; written = 0; free = 262144 }) }
+        ensures { IfOk result (λ unwritten. unwritten ≡ record { waiting = []; written = []; free = 262144 }) }
     {
         let room = Vec::with_capacity(alloc, ROOM)?;
         Ok(Unwritten {
             room,
             start: 0,
-            written: 0,
+            written: Past::new(),
         })
     }
 
@@ -91,8 +91,8 @@ impl Unwritten {
         ensures ok { OnOk result ((self.new.waiting ≡ []) × (self.new.free ≡ 262144)) }
     {
         let count = write_front(writer, &self.room[self.start..]);
+        self.written.add(&self.room[self.start..self.start + count]);
         self.start += count;
-        self.written = self.written.saturating_add(count as u64);
         if self.start < self.room.len() {
             return Err(Failed);
         }
@@ -109,7 +109,7 @@ impl Unwritten {
             (PutsFront piece.now (F.contents writer.old) self.old (F.contents writer.new) self.new) }
     {
         let count = write_front(writer, piece);
-        self.written = self.written.saturating_add(count as u64);
+        self.written.add(&piece[..count]);
         if count < piece.len() {
             return Err(Failed);
         }

@@ -1,7 +1,7 @@
-ghost use Rattle.std.specs.Prelude.{◌≡◌, ◌≤◌, ◌+◌, [], None, length, OnOk, OnErr, true};
+ghost use Rattle.std.specs.Prelude.{◌≡◌, ◌≤◌, ◌+◌, [], length, IfOk, OnOk, OnErr, true, false};
 ghost use Rattle.flake_base.specs.Causes.{HasCause};
-ghost use Rattle.flake_base.specs.Told.{Counted, raised};
-ghost use Rattle.file_outside.specs.Unwritten.{put_count};
+ghost use Rattle.flake_base.specs.Growth.{Grew};
+ghost use Rattle.file_outside.specs.Unwritten.{put_of};
 
 use crate::unwritten::Unwritten;
 use flake_base::{Failed, Memory, Wire};
@@ -16,32 +16,44 @@ pub struct FileWire<R: Files> {
     name: String,
     file: Option<R::File>,
     unwritten: Unwritten,
-    faults: u64,
+    put_faults: u64,
+    flush_faults: u64,
 }
 
 impl<R: Files + Drop> FileWire<R> {
-    pub fn new(rt: R, alloc: Global, name: String) -> Result<Self, Memory> {
+    pub fn new(rt: R, alloc: Global, name: String) -> Result<Self, Memory>
+        ensures { IfOk result (λ wire. put_of wire.unwritten ≡ []) }
+    {
         let unwritten = Unwritten::new(alloc)?;
         Ok(FileWire {
             rt,
             name,
             file: None,
             unwritten,
-            faults: 0,
+            put_faults: 0,
+            flush_faults: 0,
         })
     }
 
-    /// How often a put or a flush failed.
-    pub fn faults(&self) -> u64
-        ensures { result ≡ self.now.faults }
+    /// How often a put failed.
+    pub fn put_faults(&self) -> u64
+        ensures { result ≡ self.now.put_faults }
     {
-        self.faults
+        self.put_faults
+    }
+
+    /// How often a flush failed.
+    pub fn flush_faults(&self) -> u64
+        ensures { result ≡ self.now.flush_faults }
+    {
+        self.flush_faults
     }
 
     // Takes the file out, which is made now if it wasn't.
     fn take_file(&mut self) -> Result<R::File, Failed>
         ensures unwritten { self.new.unwritten ≡ self.old.unwritten }
-        ensures faults { self.new.faults ≡ self.old.faults }
+        ensures put_faults { self.new.put_faults ≡ self.old.put_faults }
+        ensures flush_faults { self.new.flush_faults ≡ self.old.flush_faults }
     {
         match self.file.take() {
             Some(file) => Ok(file),
@@ -51,12 +63,13 @@ impl<R: Files + Drop> FileWire<R> {
 
     // Puts a piece into the room, before which the file is made.
     fn keep(&mut self, piece: &[u8]) -> Result<(), Failed>
-        ensures ok { OnOk result (put_count self.new.unwritten
-            ≡ raised (put_count self.old.unwritten) (length piece.now)) }
+        ensures ok { OnOk result
+            (Grew false piece.now (put_of self.old.unwritten) (put_of self.new.unwritten)) }
         ensures failed { OnErr result
-            (Counted true (length piece.now) (put_count self.old.unwritten) (put_count self.new.unwritten)) }
+            (Grew true piece.now (put_of self.old.unwritten) (put_of self.new.unwritten)) }
         ensures kept { length self.new.unwritten.waiting ≤ length self.old.unwritten.waiting + length piece.now }
-        ensures faults { self.new.faults ≡ self.old.faults }
+        ensures put_faults { self.new.put_faults ≡ self.old.put_faults }
+        ensures flush_faults { self.new.flush_faults ≡ self.old.flush_faults }
     {
         let mut file = self.take_file()?;
         let done = self.unwritten.put(&mut file, piece);
@@ -67,9 +80,10 @@ impl<R: Files + Drop> FileWire<R> {
     // A wire that keeps nothing back makes no file.
     fn write_out(&mut self) -> Result<(), Failed>
         ensures ok { OnOk result (self.new.unwritten.waiting ≡ []) }
-        ensures count { put_count self.new.unwritten ≡ put_count self.old.unwritten }
+        ensures put { put_of self.new.unwritten ≡ put_of self.old.unwritten }
         ensures kept { length self.new.unwritten.waiting ≤ length self.old.unwritten.waiting }
-        ensures faults { self.new.faults ≡ self.old.faults }
+        ensures put_faults { self.new.put_faults ≡ self.old.put_faults }
+        ensures flush_faults { self.new.flush_faults ≡ self.old.flush_faults }
     {
         if self.unwritten.is_empty() {
             return Ok(());
@@ -79,40 +93,41 @@ impl<R: Files + Drop> FileWire<R> {
         self.file = Some(file);
         done
     }
+}
 
-    fn count_fault(&mut self, done: Result<(), Failed>) -> Result<(), Failed>
-        ensures same { result ≡ done }
-        ensures unwritten { self.new.unwritten ≡ self.old.unwritten }
-        ensures cause { HasCause self.old.faults self.new.faults result }
-    {
-        if done.is_err() {
-            self.faults = self.faults.saturating_add(1);
-        }
-        done
+// The count of faults once this call was made, which failed or not.
+fn faults_after(faults: u64, done: &Result<(), Failed>) -> u64
+    ensures { HasCause faults result done.now }
+{
+    if done.is_err() {
+        return faults.saturating_add(1);
     }
+    faults
 }
 
 impl<R: Files + Send + Drop> Wire for FileWire<R>
 where
     R::File: Send,
 {
-    ghost use Rattle.file_outside.specs.Unwritten.{put_count};
+    ghost use Rattle.file_outside.specs.Unwritten.{put_of};
 
     ghost wire_told = { λ w. record {
-      sent = None;
-      bytes = put_count w.unwritten;
+      put = put_of w.unwritten;
       kept = length w.unwritten.waiting;
-      faults = w.faults;
+      put_faults = w.put_faults;
+      flush_faults = w.flush_faults;
     } };
 
     fn put(&mut self, piece: &[u8]) -> Result<(), Failed> {
         let done = self.keep(piece);
-        self.count_fault(done)
+        self.put_faults = faults_after(self.put_faults, &done);
+        done
     }
 
     fn flush(&mut self) -> Result<(), Failed> {
         let done = self.write_out();
-        self.count_fault(done)
+        self.flush_faults = faults_after(self.flush_faults, &done);
+        done
     }
 
     fn shown(&self) -> Option<&[u8]> {

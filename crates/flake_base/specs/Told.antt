@@ -1,37 +1,27 @@
 -- What the outside tells, and how a call changes it.
-use Rattle.std.specs.Prelude.{◌≡◌, ℕ, ◌+◌, ◌-◌, ◌^◌, ◌≤◌, min, Bool, true, false, List, length, Option}
+use Rattle.std.specs.Prelude.{◌≡◌, ℕ, ◌+◌, ◌≤◌, Bool, List, length, Option}
 use Rattle.flake_base.specs.Growth.{Grew}
 
--- a count of bytes once so many more were counted: it stands still at the last value of a `u64`
-abbrev pub raised : ℕ → ℕ → ℕ
-raised count n = min (count + n) (2 ^ 64 - 1)
-
 pub record WireTold : Type 0 where
-  -- all bytes that were put, where they are told
-  pub sent : Option (List ℕ)
-  -- how many bytes were put, which each wire tells
-  pub bytes : ℕ
+  -- all bytes that were put; a front of a piece where that failed
+  pub put : List ℕ
   -- how many of these are kept back, for a flush
   pub kept : ℕ
-  -- how often a put or a flush failed
-  pub faults : ℕ
+  -- how often a put failed, and how often a flush
+  pub put_faults : ℕ
+  pub flush_faults : ℕ
 
--- all bytes of a piece were counted, or after a failure at most so many
-abbrev pub Counted : Bool → ℕ → ℕ → ℕ → Type 0
-Counted false n old new = new ≡ raised old n
-Counted true n old new = (old ≤ new) × (new ≤ raised old n)
-
--- a wire took a whole piece, or after a failure a front of it
+-- a wire took a whole piece, or after a failure a front of it; no flush failed
 pub record Took (failed : Bool) (piece : List ℕ) (old new : WireTold) : Type 0 where
-  pub sent : Grew failed piece old.sent new.sent
-  pub bytes : Counted failed (length piece) old.bytes new.bytes
+  pub put : Grew failed piece old.put new.put
   pub kept : new.kept ≤ old.kept + length piece
+  pub flush_faults : new.flush_faults ≡ old.flush_faults
 
--- a flush puts nothing, and keeps no more back than before
+-- a flush puts nothing, and keeps no more back than before; no put failed
 pub record Flushed (old new : WireTold) : Type 0 where
-  pub sent : new.sent ≡ old.sent
-  pub bytes : new.bytes ≡ old.bytes
+  pub put : new.put ≡ old.put
   pub kept : new.kept ≤ old.kept
+  pub put_faults : new.put_faults ≡ old.put_faults
 
 pub record HostTold : Type 0 where
   -- what is held under a name, where that is told
@@ -40,7 +30,7 @@ pub record HostTold : Type 0 where
   pub opens : ℕ
   -- how often an open of a name failed; it may rise with failed opens of other names too
   pub open_faults : List ℕ → ℕ
-  -- all that was said, where that is told
-  pub said : Option (List ℕ)
+  -- all that was said; a front of a piece where that failed
+  pub said : List ℕ
   -- how often a say failed
   pub say_faults : ℕ

@@ -14,7 +14,8 @@ use Rattle.flake_model.specs.Order.{EntriesRise}
 use Rattle.flake_model.specs.OneThread.{replies_on, entries_of, IsSharded}
 use Rattle.flake_model.specs.OneHistory.{HasOneHistory}
 use Rattle.flake_model.specs.Session.{Session, IsSession}
-use Rattle.flake_model.specs.Run.{ran_by, WasServed, missing_writes}
+use Rattle.flake_model.specs.Run.{ran_by, wire_texts, WasServed, missing_writes}
+use Rattle.flake_model.specs.Wire.{WiresGrew}
 use Rattle.flake_model.proofs.OneSession.{IsOwn, ran_own, ran_stands, all_filter, each_once}
 use Rattle.flake_model.proofs.OneOrder.{Among, ran_rising, many_shards_one_order}
 use Rattle.flake_model.proofs.ManyShards.{journal_answers, AreFound, found_front, all_own, none_of_others}
@@ -88,28 +89,28 @@ in_order session journal some sharded (suc other) shard history is =
 abbrev pub own_text : Session → List ℕ
 own_text session = flat_map reply_text (replies_on finite.empty (take session.end.replies session.commands))
 
-pub one_served : (session : Session) (journal : List (List Entry)) (old new : Option (List ℕ))
-    (olds : List (Option (List ℕ))) → IsSession session → 0 < length journal
-    → IsSharded (ran_by (session ∷ []) 0) journal → Grew session.end.failed (own_text session) old new
-    → (served : WasServed (session.input ∷ []) (session.left ∷ []) (session.end ∷ []) journal (old ∷ olds) (new ∷ olds))
-    × (served.sessions ≡ session ∷ [])
+pub one_served : (session : Session) (journal : List (List Entry)) (old new : List ℕ) (olds : List (List ℕ))
+    → IsSession session → 0 < length journal → IsSharded (ran_by (session ∷ []) 0) journal
+    → Grew session.end.failed (own_text session) old new
+    → (served : WasServed (session.given ∷ []) (session.ended ∷ []) (session.end ∷ []) journal)
+    × (served.sessions ≡ session ∷ []) × WiresGrew (wire_texts served.sessions journal) (old ∷ olds) (new ∷ olds)
     × (missing_writes served.sessions journal ≡ 0)
 one_served session journal old new olds is some sharded grew = (
   record {
     sessions = session ∷ [];
-    inputs_are = refl;
-    lefts_are = refl;
+    given_is = refl;
+    ended_is = refl;
     ends_are = refl;
     each_is = (is, tt);
     orderly = in_order session journal some sharded;
     one_order = many_shards_one_order session.commands session.end.replies session.begun journal some sharded;
     one_history = one_history session.commands session.end.replies session.begun journal some sharded;
-    wires = (
-      subst (λ text. Grew session.end.failed text old new)
-          (sym (many_shards_wire session.commands session.end.replies session.begun journal some sharded)) grew,
-      refl,
-    );
   },
   refl,
+  (
+    subst (λ text. Grew session.end.failed text old new)
+        (sym (many_shards_wire session.commands session.end.replies session.begun journal some sharded)) grew,
+    refl,
+  ),
   nothing_missing session journal some sharded,
 )

@@ -24,10 +24,6 @@ two_parsed = (
 pub sessions_are : AllByRecursion IsSession worked_sessions
 sessions_are = (
   record {
-    gave = set_and_get;
-    left = [];
-    input_is = refl;
-    left_is = refl;
     requests = _;
     shown = Clean;
     parsed = vectors_parse.0;
@@ -40,10 +36,6 @@ sessions_are = (
   },
   (
     record {
-      gave = ping_and_front;
-      left = [];
-      input_is = refl;
-      left_is = refl;
       requests = _;
       shown = Truncated 14;
       parsed = vectors_parse.1.1.0;
@@ -56,10 +48,6 @@ sessions_are = (
     },
     (
       record {
-        gave = codes "PING\r\n";
-        left = codes "*";
-        input_is = refl;
-        left_is = refl;
         requests = [];
         shown = Protocol 4 0;
         parsed = vectors_parse.1.1.1.1.1.1.1.1.0;
@@ -72,10 +60,6 @@ sessions_are = (
       },
       (
         record {
-          gave = ping_and_front;
-          left = codes "T\r\n";
-          input_is = refl;
-          left_is = refl;
           requests = _;
           shown = Truncated 14;
           parsed = vectors_parse.1.1.0;
@@ -88,10 +72,6 @@ sessions_are = (
         },
         (
           record {
-            gave = get_two;
-            left = [];
-            input_is = refl;
-            left_is = refl;
             requests = _;
             shown = Clean;
             parsed = two_parsed;
@@ -104,10 +84,6 @@ sessions_are = (
           },
           (
             record {
-              gave = codes "PING\r\n";
-              left = [];
-              input_is = refl;
-              left_is = refl;
               requests = [];
               shown = Protocol 4 0;
               parsed = vectors_parse.1.1.1.1.1.1.1.1.0;
@@ -120,10 +96,6 @@ sessions_are = (
             },
             (
               record {
-                gave = set_and_get;
-                left = codes "*";
-                input_is = refl;
-                left_is = refl;
                 requests = _;
                 shown = Clean;
                 parsed = vectors_parse.0;

@@ -1,5 +1,5 @@
 -- One session of a run: its input, its commands, and how it ended.
-use Rattle.std.specs.Prelude.{◌≡◌, ℕ, ◌+◌, ◌<◌, ◌≤◌, ◌⊎◌, Bool, true, false, List, [], ◌++◌, Option, Some, None, length}
+use Rattle.std.specs.Prelude.{◌≡◌, ℕ, ◌+◌, ◌<◌, ◌≤◌, ◌⊎◌, Bool, true, false, List, length}
 use Rattle.flake_base.specs.declared.session.End.{End}
 use Rattle.flake_base.specs.declared.session.End.TheVariants.{Clean, Protocol, Truncated, TooLong, ReadFault, Memory}
 use Rattle.flake_base.specs.declared.session.End.TheVariants.{Left}
@@ -10,18 +10,13 @@ use Rattle.flake_model.specs.Input.{commands_in}
 use Rattle.flake_model.specs.Journal.{next_parts}
 
 pub record Session : Type 0 where
-  -- what its source held, and what it has left, where it tells that
-  pub input : Option (List ℕ)
-  pub left : Option (List ℕ)
+  -- what its source gave, and whether it gave none at last
+  pub given : List ℕ
+  pub ended : Bool
   pub commands : List Command
   pub end : SessionEnd
   -- how many parts it ran of the call behind its last reply
   pub begun : ℕ
-
--- these are the bytes, where bytes are told
-abbrev pub AreKnownBytes : Option (List ℕ) → List ℕ → Type 0
-AreKnownBytes None bytes = Unit {0}
-AreKnownBytes (Some told) bytes = told ≡ bytes
 
 -- a failed read, want of memory or a schedule stopped the session, whatever its input is
 abbrev pub is_stopped : End → Bool
@@ -42,11 +37,11 @@ EndsAs Memory shown = Unit {0}
 EndsAs Left shown = Unit {0}
 EndsAs end shown = shown ≡ end
 
--- an input that was read to its end has nothing left
-abbrev pub IsReadOut : End → List ℕ → Type 0
-IsReadOut Clean left = left ≡ []
-IsReadOut (Truncated place) left = left ≡ []
-IsReadOut end left = Unit {0}
+-- such an input was read to its end
+abbrev pub IsReadOut : End → Bool → Type 0
+IsReadOut Clean ended = ended ≡ true
+IsReadOut (Truncated place) ended = ended ≡ true
+IsReadOut end ended = Unit {0}
 
 -- How many bytes a session took, of so many that its source gave: up to an error, or as many as are judged; else all.
 abbrev pub taken_of : End → ℕ → ℕ
@@ -67,22 +62,16 @@ abbrev pub IsBegun : End → ℕ → ℕ → Type 0
 IsBegun Memory begun parts = (begun ≡ 0) ⊎ (begun < parts)
 IsBegun end begun parts = begun ≡ 0
 
--- What a session has done with its input. Of an input that isn't told all stands that needs no bytes: some bytes are
--- such.
+-- What a session has done with what its source gave.
 pub record IsSession (session : Session) : Type 0 where
-  -- the bytes that its source gave, and those that it has left: the input, where it is told
-  pub gave : List ℕ
-  pub left : List ℕ
-  pub input_is : AreKnownBytes session.input (gave ++ left)
-  pub left_is : AreKnownBytes session.left left
   -- what the given bytes mean
   pub requests : List Words
   pub shown : End
-  pub parsed : Parses gave requests shown
+  pub parsed : Parses session.given requests shown
   pub commands_are : session.commands ≡ commands_in requests shown
   -- how the session ended on them
   pub shown_is : EndsAs session.end.end shown
-  pub read_out : IsReadOut session.end.end left
-  pub taken_is : session.end.taken ≡ taken_of session.end.end (length gave)
+  pub read_out : IsReadOut session.end.end session.ended
+  pub taken_is : session.end.taken ≡ taken_of session.end.end (length session.given)
   pub replied : IsReplied session.end.end session.end.replies (length requests) (length session.commands)
   pub begun_is : IsBegun session.end.end session.begun (length (next_parts session.end.replies session.commands))

@@ -1,5 +1,6 @@
--- Worked sessions, one for each way to end but an input that is too long: what each took and left, and how far it came.
-use Rattle.std.specs.Prelude.{ℕ, false, List, [], ◌∷◌, ◌++◌, Some, codes}
+-- Worked sessions, one for each way to end but an input that is too long: what each was given and took, and how far it
+-- came.
+use Rattle.std.specs.Prelude.{ℕ, Bool, true, false, List, [], ◌∷◌, codes}
 use Rattle.flake_base.specs.declared.reply.ErrorKind.TheVariants.{ProtocolInline}
 use Rattle.flake_base.specs.declared.session.End.{End}
 use Rattle.flake_base.specs.declared.session.End.TheVariants.{Clean, Protocol, Truncated, ReadFault, Memory, Left}
@@ -7,10 +8,10 @@ use Rattle.flake_model.specs.Store.{always}
 use Rattle.flake_model.specs.Command.{Command, ping, get, set, mget, fault}
 use Rattle.flake_model.specs.Session.{Session}
 
-abbrev pub session : List ℕ → List ℕ → List Command → End → ℕ → ℕ → ℕ → Session
-session gave left commands end taken replies begun = record {
-  input = Some (gave ++ left);
-  left = Some left;
+abbrev pub session : List ℕ → Bool → List Command → End → ℕ → ℕ → ℕ → Session
+session given ended commands end taken replies begun = record {
+  given = given;
+  ended = ended;
   commands = commands;
   end = record { end = end; taken = taken; replies = replies; failed = false };
   begun = begun;
@@ -33,15 +34,15 @@ get_two = codes "*3\r\n$4\r\nMGET\r\n$1\r\na\r\n$1\r\nb\r\n"
 
 abbrev pub worked_sessions : List Session
 worked_sessions =
-    session set_and_get [] set_get Clean 47 2 0
-    ∷ session ping_and_front [] (ping ∷ []) (Truncated 14) 24 1 0
+    session set_and_get true set_get Clean 47 2 0
+    ∷ session ping_and_front true (ping ∷ []) (Truncated 14) 24 1 0
     -- an error is answered, whatever is behind it
-    ∷ session (codes "PING\r\n") (codes "*") (fault ProtocolInline ∷ []) (Protocol 4 0) 1 1 0
+    ∷ session (codes "PING\r\n") false (fault ProtocolInline ∷ []) (Protocol 4 0) 1 1 0
     -- all that was given is taken, the front of a request too
-    ∷ session ping_and_front (codes "T\r\n") (ping ∷ []) ReadFault 24 1 0
+    ∷ session ping_and_front false (ping ∷ []) ReadFault 24 1 0
     -- the first part of a call was run, and not its last
-    ∷ session get_two [] (mget (codes "a" ∷ codes "b" ∷ []) ∷ []) Memory 28 0 1
+    ∷ session get_two true (mget (codes "a" ∷ codes "b" ∷ []) ∷ []) Memory 28 0 1
     -- an error that isn't answered yet
-    ∷ session (codes "PING\r\n") [] (fault ProtocolInline ∷ []) Memory 6 0 0
-    ∷ session set_and_get (codes "*") set_get Left 47 1 0
+    ∷ session (codes "PING\r\n") false (fault ProtocolInline ∷ []) Memory 6 0 0
+    ∷ session set_and_get false set_get Left 47 1 0
     ∷ []

@@ -1,7 +1,7 @@
 -- What a run of `drive` says, by what came of the files that it opened.
 use Rattle.std.proofs.Common.{◌≡◌, ◌≢◌, ◌⊎◌, ◌≤◌, inl, inr, ℕ, List, [], ◌∷◌, Option, Some, None, length, arith, refl}
 use Rattle.std.proofs.Common.{sym, ap, ◌∙◌, subst, ⊎_elim}
-use Rattle.std.specs.List.{AllByRecursion, range_with_len}
+use Rattle.std.specs.List.{range_with_len}
 use Rattle.flake_base.specs.Told.{HostTold, WireTold}
 use Rattle.flake_base.specs.declared.session.SessionEnd.{SessionEnd}
 use Rattle.flake_model.specs.Run.{all_commands}
@@ -12,23 +12,23 @@ use Rattle.drive_told.specs.Together.{driven_run}
 use Rattle.flake_run.specs.Checked.{ConcludesBy, IsConcluded, IsStatus}
 use Rattle.flake_run.specs.Driven.{CameOf, WasDriven}
 use Rattle.flake_run.specs.DriveTask.{DriveJob, IsUndrivable, served_names}
-use Rattle.flake_run.specs.Drove.{AllOpened, Drove, DroveFiles, IsAccepted, NoneDriven, NothingServed, OneFails}
-use Rattle.flake_run.specs.Drove.{WasRefused}
+use Rattle.flake_run.specs.Drove.{Drove, DroveFiles, IsAccepted, NoneDriven, NothingServed, OneFails, WasRefused}
 use Rattle.flake_run.specs.Finding.{finding_detail}
-use Rattle.flake_run.specs.Opening.{AreOpened, FailsToOpen}
-use Rattle.flake_run.specs.Outcome.{RunOutcome, SourceTold, files_of, source_lefts, read_faults_of}
-use Rattle.flake_run.specs.Outside.{Outside, LeavesFiles, outside, wires_sent}
+use Rattle.flake_run.specs.Opening.{AllOpened, AreOpened, FailsToOpen}
+use Rattle.flake_run.specs.Outcome.{RunOutcome, SourceTold, files_of, sources_of, source_names, wholes_of}
+use Rattle.flake_run.specs.Outside.{Outside, LeavesFiles, outside, wires_told}
 use Rattle.flake_run.specs.Refusals.{RunRefused}
-use Rattle.flake_run.specs.Schedule.{IsUndriven}
 use Rattle.flake_run.specs.declared.finding.Finding.{Finding}
 use Rattle.flake_run.specs.declared.finding.Finding.TheVariants.{BadWords, OpenFault, ReadFault, TooLarge, BadLine}
-use Rattle.flake_run.specs.declared.finding.Finding.TheVariants.{Judged, Memory}
+use Rattle.flake_run.specs.declared.finding.Finding.TheVariants.{Judged, BadFrame, Missing, Memory}
 use Rattle.flake_run.specs.declared.outcome.Detail.{Detail}
 use Rattle.flake_run.specs.declared.outcome.Detail.TheVariants.{Nothing, File}
 use Rattle.flake_run.specs.declared.outcome.Refusal.TheVariants as refusal
 use Rattle.flake_run.proofs.CheckedAll.{status_since}
-use Rattle.flake_run.proofs.DroveComplete.{drove_whole}
+use Rattle.flake_run.specs.declared.outcome.Opened.{Opened}
+use Rattle.flake_run.proofs.DroveComplete.{drove_told, drove_whole}
 use Rattle.flake_run.proofs.Ran.{says_since}
+use Rattle.flake_run.proofs.Unread.{of_same_files}
 
 -- the statuses that come only where something was served
 abbrev IsSome : ℕ → Detail → Type 0
@@ -36,7 +36,7 @@ IsSome status detail = (status ≡ 0) ⊎ (status ≡ 3) ⊎ (status ≡ 5) ⊎ 
 
 -- nothing that is found where nothing is served has one of them
 not_served : {W : Type 0} (finding : Finding) (task : Option DriveJob) (before : Outside W) (old new : HostTold)
-    (sources : List SourceTold) (status : ℕ) (detail : Detail) → IsStatus finding old new status
+    (sources : List (Opened SourceTold)) (status : ℕ) (detail : Detail) → IsStatus finding old new status
     → detail ≡ finding_detail finding
     → WasRefused finding task before new sources → IsSome status detail → ⊥
 not_served finding task before old new sources status detail is detail_is refused some =
@@ -63,6 +63,8 @@ not_served finding task before old new sources status detail is detail_is refuse
       by (BadLine line) is detail_is refused some = number 7 is (omega arith) (omega arith) (omega arith)
           (λ four none. omega (arith, four)) some
       by (Judged verdict) is detail_is refused some = absurd refused
+      by (BadFrame number) is detail_is refused some = absurd refused
+      by (Missing call frame) is detail_is refused some = absurd refused
       by Memory is detail_is refused some = number 6 is (omega arith) (omega arith) (omega arith)
           (λ four none. omega (arith, four)) some
 
@@ -73,7 +75,7 @@ undrivable P None before accepted few = accepted
 undrivable P (Some job) before accepted few = omega (arith, accepted.0, few)
 
 bad_words_are : {W : Type 0} (finding : Finding) (task : Option DriveJob) (before : Outside W) (old new : HostTold)
-    (sources : List SourceTold) (status : ℕ) → IsStatus finding old new status
+    (sources : List (Opened SourceTold)) (status : ℕ) → IsStatus finding old new status
     → WasRefused finding task before new sources
     → status ≢ 6 → IsUndrivable task before → status ≡ 1
 bad_words_are BadWords task before old new sources status is refused six few = is
@@ -86,6 +88,8 @@ bad_words_are (TooLarge file) task before old new sources status is refused six 
 bad_words_are (BadLine line) task before old new sources status is refused six few =
     absurd (undrivable _ task before refused few)
 bad_words_are (Judged verdict) task before old new sources status is refused six few = absurd refused
+bad_words_are (BadFrame number) task before old new sources status is refused six few = absurd refused
+bad_words_are (Missing call frame) task before old new sources status is refused six few = absurd refused
 bad_words_are Memory task before old new sources status is refused six few = absurd (six is)
 
 no_item : {A : Type 0} (x : A) (xs : List A) → x ∷ xs ≢ []
@@ -105,6 +109,7 @@ drove_by task before after done served refused = record {
       why.concluded.status why.concluded.detail why.refused status;
   bad_words = λ six few. by_ends done.ends refl six few;
   whole = drove_whole task before after done served refused;
+  told = drove_told task before after done served refused;
 } where
   by_ends : (ends : List SessionEnd) → done.ends ≡ ends → done.status ≢ 6 → IsUndrivable task before → done.status ≡ 1
   by_ends [] is six few =
@@ -177,175 +182,122 @@ module _ {W : Type 0} (tells : W → WireTold) (task : Option DriveJob) (job : D
     wires = is.wires;
   }
 
-  driven_since : (left : Option (List ℕ)) (inputs : List (Option (List ℕ))) (done : RunOutcome) → mid.said ≡ host.said
-      → mid.say_faults ≡ host.say_faults → WasDriven job.sizes left inputs (outside mid wires tells)
-      (outside now after tells) done
-      → WasDriven job.sizes left inputs (outside host wires tells) (outside now after tells) done
-  driven_since left inputs done said same w = record {
+  driven_since : (done : RunOutcome) → mid.said ≡ host.said → mid.say_faults ≡ host.say_faults
+      → WasDriven job.sizes (outside mid wires tells) (outside now after tells) done
+      → WasDriven job.sizes (outside host wires tells) (outside now after tells) done
+  driven_since done said same w = record {
+    first = w.first;
+    rest = w.rest;
+    sources_are = w.sources_are;
     schedule = w.schedule;
     lines = w.lines;
-    lefts = w.lefts;
-    lefts_are = w.lefts_are;
     run = w.run;
+    wires = w.wires;
     pool = w.pool;
     pool_is = w.pool_is;
     shows = w.shows;
     held = w.held;
     none_missing = w.none_missing;
-    bytes = w.bytes;
     flushed = w.flushed;
     faults = w.faults;
     others = w.others;
     sessions = w.sessions;
     shards = w.shards;
-    counts = w.counts;
-    counts_are = w.counts_are;
+    calm = w.calm;
     reads = w.reads;
     failed = w.failed;
     says = subst (λ n. FaultIs w.failed n now.say_faults) same w.says;
     said = subst (λ s. IsSaid
-        (driven_run (pool_sizes (length inputs) job.sizes) job.sizes.ring job.sizes.threshold
+        (driven_run (pool_sizes (length w.rest) job.sizes) job.sizes.ring job.sizes.threshold
         (all_commands w.run.sessions) done.ends done.journal w.pool)
-        (wires_sent (outside host wires tells)) (wires_sent (outside now after tells)) w.schedule w.failed s now.said)
+        (wires_told (outside host wires tells)) (wires_told (outside now after tells)) w.schedule w.failed s now.said)
         said w.said;
     status = w.status;
     detail = w.detail;
   }
 
-  none_driven : (left : Option (List ℕ)) (inputs : List (Option (List ℕ))) (done : RunOutcome) (finding : Finding)
-      (rest : Option (List ℕ)) (count : ℕ) (counts : List ℕ) → AllOpened job.names host now left inputs done.sources
-      → source_lefts done.sources ≡ rest ∷ inputs → read_faults_of done.sources ≡ count ∷ counts
-      → AllByRecursion (λ n. n ≡ 0) counts → IsUndriven finding (length inputs) left rest 0 count
+  none_driven : (done : RunOutcome) (finding : Finding) → NoneDriven finding job.names host now done.sources
       → WasRefused finding task (outside host wires tells) now done.sources
-  none_driven left inputs done BadWords rest count counts opened left_are are fresh undriven = absurd undriven
-  none_driven left inputs done (OpenFault file) rest count counts opened left_are are fresh undriven = absurd undriven
-  none_driven left inputs done (ReadFault file) rest count counts opened left_are are fresh undriven =
-      accepted (λ job. NoneDriven (ReadFault file) job.names host now done.sources)
-      (record {
-        left = left;
-        inputs = inputs;
-        opened = opened;
-        rest = rest;
-        lefts_are = left_are;
-        count = count;
-        counts = counts;
-        counts_are = are;
-        fresh = fresh;
-        undriven = undriven;
-      })
-  none_driven left inputs done (TooLarge file) rest count counts opened left_are are fresh undriven =
-      accepted (λ job. NoneDriven (TooLarge file) job.names host now done.sources)
-      (record {
-        left = left;
-        inputs = inputs;
-        opened = opened;
-        rest = rest;
-        lefts_are = left_are;
-        count = count;
-        counts = counts;
-        counts_are = are;
-        fresh = fresh;
-        undriven = undriven;
-      })
-  none_driven left inputs done (BadLine line) rest count counts opened left_are are fresh undriven =
-      accepted (λ job. NoneDriven (BadLine line) job.names host now done.sources)
-      (record {
-        left = left;
-        inputs = inputs;
-        opened = opened;
-        rest = rest;
-        lefts_are = left_are;
-        count = count;
-        counts = counts;
-        counts_are = are;
-        fresh = fresh;
-        undriven = undriven;
-      })
-  none_driven left inputs done (Judged verdict) rest count counts opened left_are are fresh undriven = absurd undriven
-  none_driven left inputs done Memory rest count counts opened left_are are fresh undriven =
-      inr (inr (accepted (λ job. NoneDriven Memory job.names host now done.sources)
-      (record {
-        left = left;
-        inputs = inputs;
-        opened = opened;
-        rest = rest;
-        lefts_are = left_are;
-        count = count;
-        counts = counts;
-        counts_are = are;
-        fresh = fresh;
-        undriven = undriven;
-      })))
+  none_driven done BadWords was = absurd was.undriven
+  none_driven done (OpenFault file) was = absurd was.undriven
+  none_driven done (ReadFault file) was =
+      accepted (λ job. NoneDriven (ReadFault file) job.names host now done.sources) was
+  none_driven done (TooLarge file) was =
+      accepted (λ job. NoneDriven (TooLarge file) job.names host now done.sources) was
+  none_driven done (BadLine line) was = accepted (λ job. NoneDriven (BadLine line) job.names host now done.sources) was
+  none_driven done (Judged verdict) was = absurd was.undriven
+  none_driven done (BadFrame number) was = absurd was.undriven
+  none_driven done (Missing call frame) was = absurd was.undriven
+  none_driven done Memory was =
+      inr (inr (accepted (λ job. NoneDriven Memory job.names host now done.sources) was))
 
   -- all files were opened
-  pub drove_opened : (left : Option (List ℕ)) (inputs : List (Option (List ℕ))) (zeros : List ℕ) (done : RunOutcome)
-      → AreOpened job.names host mid (left ∷ inputs) zeros → CameOf job.sizes left inputs (outside mid wires tells)
-      (outside now after tells) done
+  pub drove_opened : (sources : List SourceTold) (done : RunOutcome) → AreOpened job.names host mid sources
+      → CameOf job.sizes (source_names sources) (wholes_of sources) (outside mid wires tells) (outside now after tells)
+      done
       → Drove task (outside host wires tells) (outside now after tells) done
-  drove_opened left inputs zeros done opened came = drove_by task (outside host wires tells) (outside now after tells)
+  drove_opened sources done opened came = drove_by task (outside host wires tells) (outside now after tells)
       done
       (λ some. accepted (λ job. DroveFiles job (outside host wires tells) (outside now after tells) done) (record {
-        left = left;
-        inputs = inputs;
-        inputs_are = opened.lefts_are;
-        own = opened.own;
         opened = all;
-        driven = driven_since left inputs done opened.said opened.say_faults (came.driven some);
+        driven = driven_since done opened.host.said opened.host.say_faults (came.driven some);
       }))
       (λ none.
       let why = came.refused none in
       record {
         finding = why.finding;
-        concluded = concluded_since why.finding done opened.said opened.say_faults why.concluded;
-        refused = none_driven left inputs done why.finding why.rest why.count why.counts all why.lefts_are
-            why.counts_are why.fresh why.undriven;
+        concluded = concluded_since why.finding done opened.host.said opened.host.say_faults why.concluded;
+        refused = none_driven done why.finding (record {
+          opened = all;
+          first = why.first;
+          rest = why.rest;
+          sources_are = why.sources_are;
+          unread = why.unread;
+          undriven = why.undriven;
+        });
       })
     where
-      all : AllOpened job.names host now left inputs done.sources
+      all : AllOpened (range_with_len 0 (length job.names)) job.names host now done.sources
       all = record {
         between = mid;
-        zeros = zeros;
-        opened = opened;
+        host = opened.host;
         leaves = came.leaves;
-        files = came.files ∙ ap (range_with_len 0) opened.as_many;
+        of_files = of_same_files job.names host.holds sources (sources_of done.sources) opened.of_files came.names_are
+            came.wholes_are came.fronts;
+        files = came.files ∙ ap (λ ns. range_with_len 0 (length ns)) opened.of_files.names_are;
       }
 
   -- one did not open
-  pub drove_unopened : (lefts : List (Option (List ℕ))) (finding : Finding) (done : RunOutcome)
-      → FailsToOpen job.names host mid lefts (read_faults_of done.sources) → source_lefts done.sources ≡ lefts
-      → (finding ≡ OpenFault (length lefts)) ⊎ (finding ≡ Memory)
-      → LeavesFiles mid now → files_of done.sources ≡ range_with_len 0 (length lefts)
+  pub drove_unopened : (finding : Finding) (done : RunOutcome)
+      → FailsToOpen job.names host mid (sources_of done.sources)
+      → (finding ≡ OpenFault (length done.sources)) ⊎ (finding ≡ Memory)
+      → LeavesFiles mid now → files_of done.sources ≡ range_with_len 0 (length done.sources)
       → IsConcluded finding (outside mid wires tells) (outside now after tells) done
       → Drove task (outside host wires tells) (outside now after tells) done
-  drove_unopened lefts finding done fails left_are is leaves files concluded = drove_by task (outside host wires tells)
+  drove_unopened finding done fails is leaves files concluded = drove_by task (outside host wires tells)
       (outside now after tells) done
       (λ some. absurd (some concluded.ends))
       (λ none. record {
         finding = finding;
-        concluded = concluded_since finding done (fails.unopened.said ∙ fails.opened.said)
-            (fails.unopened.say_faults ∙ fails.opened.say_faults) concluded;
+        concluded = concluded_since finding done (fails.unopened.said ∙ fails.opened.host.said)
+            (fails.unopened.say_faults ∙ fails.opened.host.say_faults) concluded;
         refused = refused is;
       })
     where
-      one : OneFails (length lefts) job.names host now done.sources
-      one = record {
-        between = mid;
-        lefts = lefts;
-        fails = fails;
-        lefts_are = left_are;
-        number = refl;
-        leaves = leaves;
-        files = files;
-      }
+      one : OneFails (length done.sources) job.names host now done.sources
+      one = record { between = mid; fails = fails; number = refl; leaves = leaves; files = files }
 
-      refused : (finding ≡ OpenFault (length lefts)) ⊎ (finding ≡ Memory)
+      refused : (finding ≡ OpenFault (length done.sources)) ⊎ (finding ≡ Memory)
           → WasRefused finding task (outside host wires tells) now done.sources
       refused (inl is) = subst (λ f. WasRefused f task (outside host wires tells) now done.sources) (sym is)
-          (accepted (λ job. OneFails (length lefts) job.names host now done.sources) one)
+          (accepted (λ job. OneFails (length done.sources) job.names host now done.sources) one)
       refused (inr is) = subst (λ f. WasRefused f task (outside host wires tells) now done.sources) (sym is)
-          (inr (inl (length lefts, accepted (λ job. OneFails (length lefts) job.names host now done.sources) one)))
+          (inr (inl (
+            length done.sources,
+            accepted (λ job. OneFails (length done.sources) job.names host now done.sources) one,
+          )))
 
-  with_sources : (finding : Finding) (before : RunOutcome) (sources : List SourceTold)
+  with_sources : (finding : Finding) (before : RunOutcome) (sources : List (Opened SourceTold))
       → IsConcluded finding (outside mid wires tells) (outside now after tells) before
       → IsConcluded finding (outside mid wires tells) (outside now after tells) (record before { sources = sources })
   with_sources finding before sources is = record {
@@ -359,16 +311,15 @@ module _ {W : Type 0} (tells : W → WireTold) (task : Option DriveJob) (job : D
     wires = is.wires;
   }
 
-  pub drove_unopened_by : (lefts : List (Option (List ℕ))) (n : ℕ) (before : RunOutcome) (sources : List SourceTold)
-      → FailsToOpen job.names host mid lefts (read_faults_of sources) → source_lefts sources ≡ lefts → n ≡ length lefts
-      → LeavesFiles mid now
-      → files_of sources ≡ range_with_len 0 (length lefts) → ConcludesBy (OpenFault n) (outside mid wires tells)
-      (outside now after tells) before
+  pub drove_unopened_by : (n : ℕ) (before : RunOutcome) (sources : List (Opened SourceTold))
+      → FailsToOpen job.names host mid (sources_of sources) → n ≡ length sources → LeavesFiles mid now
+      → files_of sources ≡ range_with_len 0 (length sources)
+      → ConcludesBy (OpenFault n) (outside mid wires tells) (outside now after tells) before
       → Drove task (outside host wires tells) (outside now after tells) (record before { sources = sources })
-  drove_unopened_by lefts n before sources fails left_are number leaves files concludes =
+  drove_unopened_by n before sources fails number leaves files concludes =
       ⊎_elim
-      (λ is. drove_unopened lefts (OpenFault n) (record before { sources = sources }) fails left_are
-      (inl (ap OpenFault number)) leaves files (with_sources (OpenFault n) before sources is))
-      (λ is. drove_unopened lefts Memory (record before { sources = sources }) fails left_are (inr refl) leaves files
+      (λ is. drove_unopened (OpenFault n) (record before { sources = sources }) fails (inl (ap OpenFault number)) leaves
+      files (with_sources (OpenFault n) before sources is))
+      (λ is. drove_unopened Memory (record before { sources = sources }) fails (inr refl) leaves files
       (with_sources Memory before sources is))
       concludes

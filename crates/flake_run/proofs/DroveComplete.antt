@@ -1,13 +1,15 @@
 -- Where nothing failed, a schedule and whole requests are driven with status 0.
-use Rattle.std.proofs.Common.{◌≡◌, ◌≢◌, ◌≤◌, ◌<◌, inl, ℕ, ◌-◌, zero, suc, ◌||◌, Bool, true, false, List, [], ◌∷◌}
-use Rattle.std.proofs.Common.{Option, Some, None, IfSome, length, map, drop, slice_get, slice_index_or, arith, refl}
-use Rattle.std.proofs.Common.{sym, ap, ◌∙◌, subst, ⊎_elim}
+use Rattle.std.proofs.Common.{◌≡◌, ◌≢◌, ◌≤◌, ◌<◌, inl, ℕ, ◌-◌, zero, suc, ◌||◌, Bool, true, false, List, [], ◌∷◌, ◌++◌}
+use Rattle.std.proofs.Common.{Option, Some, None, All, IfSome, IsSomeAnd, length, map, drop, slice_get, slice_index_or}
+use Rattle.std.proofs.Common.{arith, refl, sym, ap, ◌∙◌, subst, append-nil, ⊎_elim}
 use Rattle.std.specs.Prelude.{if◌then◌else◌, ◌==◌}
 use Rattle.std.specs.List.{AllByRecursion}
 use Rattle.std.proofs.lemmas.Bool.{cases_Bool, eqb-true}
-use Rattle.std.proofs.lemmas.List.{length-map}
+use Rattle.std.proofs.lemmas.List.{length-append, length-map}
 use Rattle.std.proofs.lemmas.List.Elements.{recursion_from_All}
 use Rattle.flake_base.specs.Causes.{Rose}
+use Rattle.flake_base.specs.Reads.{IsGivenFront}
+use Rattle.flake_base.specs.Told.{HostTold}
 use Rattle.flake_base.specs.declared.session.SessionEnd.{SessionEnd}
 use Rattle.flake_model.specs.Wire.{FaultIs, FaultsAre}
 use Rattle.journal_text.specs.Lines.{lines_of}
@@ -17,20 +19,24 @@ use Rattle.schedule_text.specs.declared.line.Line.{Line}
 use Rattle.check_files.specs.Named.{AreDistinct}
 use Rattle.flake_run.specs.Causes.{highest_by}
 use Rattle.flake_run.specs.Checked.{IsStatus}
-use Rattle.flake_run.specs.Complete.{IsWholeInput as AreRequests}
+use Rattle.flake_run.specs.Complete.{AreRequests, MayHoldRequests}
 use Rattle.flake_run.specs.Driven.{some_put_failed, status_with}
 use Rattle.flake_run.specs.DriveTask.{DriveJob, served_names}
-use Rattle.flake_run.specs.Drove.{AreDrivable, DroveFiles, IsAccepted, NoneDriven, NoCallFailed, NothingServed}
-use Rattle.flake_run.specs.Drove.{OneFails, WasRefused}
-use Rattle.flake_run.specs.Outcome.{RunOutcome, SourceTold, ways, read_faults_of}
+use Rattle.flake_run.specs.Drove.{AreDrivable, DroveFiles, IsAccepted, IsScheduleText, MayDrive, NoneDriven}
+use Rattle.flake_run.specs.Drove.{NoCallFailed, NothingServed, OneFails, WasRefused}
+use Rattle.flake_run.specs.Opening.{AreOfFiles}
+use Rattle.flake_run.specs.Outcome.{RunOutcome, SourceTold, GaveFront, MayHold, ways, sources_of, wholes_of}
+use Rattle.flake_run.specs.Outcome.{read_faults_of}
 use Rattle.flake_run.specs.Outside.{Outside, wire_faults}
-use Rattle.flake_run.specs.Schedule.{IsUndriven, schedule_limit}
+use Rattle.flake_run.specs.Schedule.{IsUndriven}
 use Rattle.flake_run.specs.declared.finding.Finding.{Finding}
 use Rattle.flake_run.specs.declared.finding.Finding.TheVariants.{BadWords, OpenFault, ReadFault, TooLarge, BadLine}
-use Rattle.flake_run.specs.declared.finding.Finding.TheVariants.{Judged, Memory}
+use Rattle.flake_run.specs.declared.finding.Finding.TheVariants.{Judged, BadFrame, Missing, Memory}
+use Rattle.flake_run.proofs.CameTo.{behind_one}
 use Rattle.flake_run.proofs.Highest.{none_is_six}
+use Rattle.flake_run.proofs.Ran.{as_many_sources}
 use Rattle.flake_run.proofs.RanCauses.{put_or_said}
-use Rattle.flake_run.proofs.RanComplete.{counts_are, whole_ends}
+use Rattle.flake_run.proofs.RanComplete.{told_requests, whole_ends}
 use Rattle.flake_run.proofs.Stopped.{at_place}
 
 -- where nothing failed the status is the highest
@@ -38,18 +44,6 @@ status_quiet : (highest : ℕ) → status_with false highest ≡ highest
 status_quiet highest =
     ⊎_elim (λ is. ap (λ (b : Bool). if b then 6 else highest) is ∙ sym (eqb-true highest 6 is))
     (λ is. ap (λ (b : Bool). if b then 6 else highest) is) (cases_Bool (highest == 6))
-
--- the first of the files, and those behind it
-first_is : (holds : List ℕ → Option (List ℕ)) (names : List (List ℕ)) (left : Option (List ℕ))
-    (inputs : List (Option (List ℕ))) (text : List ℕ) → left ∷ inputs ≡ map holds names → slice_get (map holds names) 0
-    ≡ Some (Some text) → left ≡ Some text
-first_is holds names left inputs text are is = let at : Some left ≡ slice_get (map holds names) 0 =
-    ap (λ xs. slice_get xs 0) are in cc (at, is)
-
-behind_are : (holds : List ℕ → Option (List ℕ)) (names : List (List ℕ)) (left : Option (List ℕ))
-    (inputs : List (Option (List ℕ))) → left ∷ inputs ≡ map holds names → inputs ≡ map holds (drop 1 names)
-behind_are holds [] left inputs are = absurd (cc are)
-behind_are holds (name ∷ names) left inputs are = cc are
 
 -- lines of a schedule have no bad line
 no_bad_line : (sessions line : ℕ) (lines : List (List ℕ)) (schedule : List Line)
@@ -65,59 +59,73 @@ no_bad_line sessions line lines schedule are bad = at (line - 1) lines schedule 
       at (suc k) (line ∷ lines) (asked ∷ schedule) is within there bad = at k lines schedule (cc is) within.1
           (omega (arith, there)) bad
 
-module _ {W : Type 0} (job : DriveJob) (before after : Outside W) (done : RunOutcome) (distinct : AreDistinct job.names)
-    (none : NoCallFailed job before after done) (can : AreDrivable job before.host) where
-  counts_zero : AllByRecursion (λ n. n ≡ 0) (read_faults_of done.sources)
-  counts_zero = counts_are done.sources
-      (recursion_from_All (λ (source : SourceTold). source.faults ≡ 0) done.sources none.reads)
-
-  left_is : (left : Option (List ℕ)) (inputs : List (Option (List ℕ))) → left ∷ inputs ≡ map before.host.holds job.names
-      → left ≡ Some can.text
-  left_is left inputs are = first_is before.host.holds job.names left inputs can.text are can.text_is
-
-  as_many : (left : Option (List ℕ)) (inputs : List (Option (List ℕ))) → left ∷ inputs ≡ map before.host.holds job.names
-      → length inputs ≡ length (served_names job)
-  as_many left inputs are = ap length (behind_are before.host.holds job.names left inputs are)
-      ∙ length-map (drop 1 job.names) before.host.holds
+module _ {W : Type 0} (job : DriveJob) (before after : Outside W) (done : RunOutcome)
+    (none : NoCallFailed job before after done)
+    (can : AreOfFiles job.names before.host.holds (sources_of done.sources) → MayDrive (sources_of done.sources)) where
+  counts_zero : AllByRecursion (λ n. n ≡ 0) (read_faults_of (sources_of done.sources))
+  counts_zero = recursion_from_All (λ (n : ℕ). n ≡ 0) (read_faults_of (sources_of done.sources)) none.reads
 
   not_opened : (file : ℕ) → OneFails file job.names before.host after.host done.sources → ⊥
   not_opened file one =
       let fails = one.fails in
-      let rose = subst (λ n. Rose n (after.host.open_faults fails.name)) (fails.opened.open_faults fails.name)
+      let rose = subst (λ n. Rose n (after.host.open_faults fails.name)) (fails.opened.host.open_faults fails.name)
       (subst (Rose (fails.between.open_faults fails.name)) (sym (one.leaves.open_faults fails.name))
       fails.unopened.rose) in
       at_place (λ (name : List ℕ). Rose (before.host.open_faults name) (after.host.open_faults name) → ⊥) job.names
-      (length one.lefts) fails.name
+      (length (sources_of done.sources)) fails.name
       (recursion_from_All (λ (name : List ℕ). Rose (before.host.open_faults name) (after.host.open_faults name) → ⊥)
       job.names none.opens) fails.name_is rose
+
+  -- the first source, and those behind it
+  same_first : (first other : SourceTold) (rest others : List SourceTold) → sources_of done.sources ≡ first ∷ rest
+      → sources_of done.sources ≡ other ∷ others → first ≡ other
+  same_first first other rest others is are = let same : first ∷ rest ≡ other ∷ others = sym is ∙ are in cc same
+
+  same_rest : (first other : SourceTold) (rest others : List SourceTold) → sources_of done.sources ≡ first ∷ rest
+      → sources_of done.sources ≡ other ∷ others → rest ≡ others
+  same_rest first other rest others is are = let same : first ∷ rest ≡ other ∷ others = sym is ∙ are in cc same
 
   not_driven : (finding : Finding) → finding ≢ Memory → NoneDriven finding job.names before.host after.host done.sources
       → ⊥
   not_driven finding memory was = by finding memory was.undriven where
-    are : was.left ∷ was.inputs ≡ map before.host.holds job.names
-    are = was.opened.opened.lefts_are distinct
+    may : MayDrive (sources_of done.sources)
+    may = can was.opened.of_files
 
-    count : was.count ≡ 0
-    count = (subst (AllByRecursion (λ n. n ≡ 0)) was.counts_are counts_zero).0
+    held : MayHold may.text was.first
+    held = subst (MayHold may.text) (same_first may.first was.first may.rest was.rest may.sources_are was.sources_are)
+        may.held
 
-    by : (finding : Finding) → finding ≢ Memory → IsUndriven finding (length was.inputs) was.left was.rest 0 was.count
-        → ⊥
+    as_many : length may.rest ≡ length was.rest
+    as_many = ap length (same_rest may.first was.first may.rest was.rest may.sources_are was.sources_are)
+
+    count : was.first.faults ≡ 0
+    count = (subst (λ ss. AllByRecursion (λ n. n ≡ 0) (read_faults_of ss)) was.sources_are counts_zero).0
+
+    by : (finding : Finding) → finding ≢ Memory
+        → IsUndriven finding (length was.rest) was.first.given was.first.ended 0 was.first.faults → ⊥
     by BadWords memory undriven = undriven
     by (OpenFault file) memory undriven = undriven
     by (ReadFault file) memory undriven = omega (arith, undriven.1, count)
     by (TooLarge file) memory undriven =
-        let past : schedule_limit < length can.text = subst (λ left. IfSome left (λ told. schedule_limit < length told))
-        (left_is was.left was.inputs are) undriven.1 in
-        omega (arith, past, can.within)
+        omega (
+          arith,
+          undriven.1,
+          may.schedule.within,
+          ap length held.1,
+          length-append was.first.given held.0,
+        )
     by (BadLine line) memory undriven =
         let bad = undriven.0 in
-        let same : can.text ≡ bad.text = subst (λ left. IfSome left (λ told. told ≡ bad.text))
-        (left_is was.left was.inputs are) bad.whole.all in
-        no_bad_line (length was.inputs) line (lines_of bad.text) can.schedule
-        (subst (λ n. AreScheduleLines n (lines_of bad.text) can.schedule) (sym (as_many was.left was.inputs are))
-        (subst (λ text. AreScheduleLines (length (served_names job)) (lines_of text) can.schedule) same can.lines))
+        let same : may.text ≡ was.first.given = held.1 ∙ ap (λ rest. was.first.given ++ rest) (held.2 bad.end)
+        ∙ append-nil was.first.given in
+        no_bad_line (length was.rest) line (lines_of was.first.given) may.schedule.schedule
+        (subst (λ n. AreScheduleLines n (lines_of was.first.given) may.schedule.schedule) as_many
+        (subst (λ text. AreScheduleLines (length may.rest) (lines_of text) may.schedule.schedule) same
+        may.schedule.lines))
         bad.bad
     by (Judged verdict) memory undriven = undriven
+    by (BadFrame number) memory undriven = undriven
+    by (Missing call frame) memory undriven = undriven
     by Memory memory undriven = memory refl
 
   refused_whole : length (served_names job) ≤ length before.wires → NothingServed (Some job) before after done
@@ -132,15 +140,22 @@ module _ {W : Type 0} (job : DriveJob) (before after : Outside W) (done : RunOut
       by (TooLarge file) status refused = not_driven (TooLarge file) (λ is. absurd (cc is)) refused.1
       by (BadLine line) status refused = not_driven (BadLine line) (λ is. absurd (cc is)) refused.1
       by (Judged verdict) status refused = refused
+      by (BadFrame number) status refused = refused
+      by (Missing call frame) status refused = refused
       by Memory status refused = none.memory status
 
   driven_whole : DroveFiles job before after done → done.status ≡ 0
   driven_whole drove =
       let w = drove.driven in
-      let inputs : drove.inputs ≡ map before.host.holds (served_names job) =
-      behind_are before.host.holds job.names drove.left drove.inputs (drove.inputs_are distinct) in
-      let count : length done.ends ≡ length (served_names job) = w.sessions ∙ as_many drove.left drove.inputs
-      (drove.inputs_are distinct) in
+      let may = can drove.opened.of_files in
+      let count : length done.ends ≡ length (served_names job) =
+      omega (
+        arith,
+        w.sessions,
+        ap length w.sources_are,
+        as_many_sources job.names before.host.holds (sources_of done.sources) drove.opened.of_files,
+        behind_one job.names,
+      ) in
       let said : w.failed ≡ false =
       ⊎_elim (λ is. absurd (none.says
       (subst (λ (f : Bool). FaultIs f before.host.say_faults after.host.say_faults) is w.says))) (λ is. is)
@@ -151,11 +166,12 @@ module _ {W : Type 0} (job : DriveJob) (before after : Outside W) (done : RunOut
       w.status ∙ ap (λ (f : Bool). status_with (f || some_put_failed done.ends) (highest_by (ways done.ends))) said
       ∙ ap (λ (f : Bool). status_with f (highest_by (ways done.ends))) put
       ∙ status_quiet (highest_by (ways done.ends)) in
-      by ∙ whole_ends w.run.sessions (served_names job) before.host.holds done.ends w.counts w.run.each_is
-      (w.run.inputs_are ∙ inputs) w.run.ends_are
-      w.reads (subst (AllByRecursion (λ n. n ≡ 0)) w.counts_are counts_zero).1
+      by ∙ whole_ends w.run.sessions w.rest done.ends (read_faults_of w.rest) w.run.each_is w.run.given_is
+      w.run.ended_is w.run.ends_are w.reads
+      (subst (λ ss. AllByRecursion (λ n. n ≡ 0) (read_faults_of ss)) w.sources_are counts_zero).1
       (none_is_six (ways done.ends) (λ six. none.memory (by ∙ six)))
-      (recursion_from_All (λ name. AreRequests (before.host.holds name)) (served_names job) can.inputs)
+      (subst (AllByRecursion MayHoldRequests)
+      (same_rest may.first w.first may.rest w.rest may.sources_are w.sources_are) may.requests)
     where
       fails : FaultsAre (map (λ (end : SessionEnd). end.failed) done.ends) (wire_faults before) (wire_faults after)
           → length done.ends ≡ length (served_names job) → some_put_failed done.ends ≡ true → ⊥
@@ -166,18 +182,60 @@ module _ {W : Type 0} (job : DriveJob) (before after : Outside W) (done : RunOut
 no_item : {A : Type 0} (x : A) (xs : List A) → x ∷ xs ≢ []
 no_item x xs is = absurd (cc is)
 
+module _ {W : Type 0} (job : DriveJob) (before after : Outside W) (done : RunOutcome)
+    (served : done.ends ≢ [] → IsAccepted (Some job) before (λ job. DroveFiles job before after done))
+    (refused : done.ends ≡ [] → NothingServed (Some job) before after done) where
+  by_ends : length (served_names job) ≤ length before.wires → NoCallFailed job before after done
+      → (AreOfFiles job.names before.host.holds (sources_of done.sources) → MayDrive (sources_of done.sources))
+      → (ends : List SessionEnd) → done.ends ≡ ends → done.status ≡ 0
+  by_ends enough none can [] is = refused_whole job before after done none can enough (refused is)
+  by_ends enough none can (end ∷ ends) is = driven_whole job before after done none can
+      (served (λ no. no_item end ends (sym is ∙ no))).1
+
 pub drove_whole : {W : Type 0} (task : Option DriveJob) (before after : Outside W) (done : RunOutcome)
     → (done.ends ≢ [] → IsAccepted task before (λ job. DroveFiles job before after done))
     → (done.ends ≡ [] → NothingServed task before after done)
-    → IfSome task (λ job. length (served_names job) ≤ length before.wires → AreDistinct job.names
-    → NoCallFailed job before after done → AreDrivable job before.host → done.status ≡ 0)
+    → IfSome task (λ job. length (served_names job) ≤ length before.wires → NoCallFailed job before after done
+    → MayDrive (sources_of done.sources) → done.status ≡ 0)
 drove_whole None before after done served refused = tt
-drove_whole (Some job) before after done served refused = λ enough distinct none can. by_ends enough distinct none can
-    done.ends refl
+drove_whole (Some job) before after done served refused = λ enough none can. by_ends job before after done served
+    refused enough none (λ of. can) done.ends refl
+
+-- sources of which the host tells that they can be driven
+told_may : (job : DriveJob) (host : HostTold) (sources : List SourceTold) → AreOfFiles job.names host.holds sources
+    → AreDistinct job.names → AreDrivable job host → MayDrive sources
+told_may job host sources of distinct can = by job.names sources (of.wholes_are distinct) of.fronts can.text_is
+    can.requests can.schedule
   where
-    by_ends : length (served_names job) ≤ length before.wires → AreDistinct job.names
-        → NoCallFailed job before after done → AreDrivable job before.host → (ends : List SessionEnd) → done.ends ≡ ends
-        → done.status ≡ 0
-    by_ends enough distinct none can [] is = refused_whole job before after done distinct none can enough (refused is)
-    by_ends enough distinct none can (end ∷ ends) is = driven_whole job before after done distinct none can
-        (served (λ no. no_item end ends (sym is ∙ no))).1
+    by : (names : List (List ℕ)) (sources : List SourceTold) → wholes_of sources ≡ map host.holds names
+        → AllByRecursion GaveFront sources → slice_get (map host.holds names) 0 ≡ Some (Some can.text)
+        → All (λ name. IsSomeAnd (host.holds name) AreRequests) (drop 1 names)
+        → IsScheduleText (length (drop {A = List ℕ} 1 names)) can.text → MayDrive sources
+    by [] sources wholes fronts text_is requests schedule = absurd (cc text_is)
+    by (name ∷ names) [] wholes fronts text_is requests schedule = absurd (cc wholes)
+    by (name ∷ names) (first ∷ rest) wholes fronts text_is requests schedule =
+        let held : first.whole ≡ host.holds name = cc wholes in
+        let behind : wholes_of rest ≡ map host.holds names = cc wholes in
+        let text : host.holds name ≡ Some can.text = cc text_is in
+        let count : length names ≡ length rest = sym (length-map names host.holds) ∙ ap length (sym behind)
+        ∙ length-map rest (λ (s : SourceTold). s.whole) in
+        record {
+          first = first;
+          rest = rest;
+          sources_are = refl;
+          text = can.text;
+          held = subst (λ w. IsGivenFront w first.given first.ended) (held ∙ text) fronts.0;
+          schedule = subst (λ n. IsScheduleText n can.text) count schedule;
+          requests = told_requests names host.holds rest behind fronts.1
+              (recursion_from_All (λ (name : List ℕ). IsSomeAnd (host.holds name) AreRequests) names requests);
+        }
+
+pub drove_told : {W : Type 0} (task : Option DriveJob) (before after : Outside W) (done : RunOutcome)
+    → (done.ends ≢ [] → IsAccepted task before (λ job. DroveFiles job before after done))
+    → (done.ends ≡ [] → NothingServed task before after done)
+    → IfSome task (λ job. length (served_names job) ≤ length before.wires → NoCallFailed job before after done
+    → AreDistinct job.names → AreDrivable job before.host → done.status ≡ 0)
+drove_told None before after done served refused = tt
+drove_told (Some job) before after done served refused = λ enough none distinct can. by_ends job before after done
+    served refused enough none
+    (λ of. told_may job before.host (sources_of done.sources) of distinct can) done.ends refl

@@ -1,16 +1,16 @@
 -- The highest of the sessions' statuses, and whether a session failed.
 use Rattle.std.proofs.Common.{◌≡◌, ◌≢◌, ◌≤◌, ◌<◌, ◌⊎◌, inl, inr, ◌||◌, ◌+◌, ℕ, zero, suc, Bool, true, false, List, []}
-use Rattle.std.proofs.Common.{◌∷◌, ◌++◌, length, map, max, take, get_or, slice_index, arith, refl, sym, ap, ◌∙◌, subst}
+use Rattle.std.proofs.Common.{◌∷◌, ◌++◌, length, map, max, take, get_or, slice_index_or, arith, refl, sym, ap, ◌∙◌}
+use Rattle.std.proofs.Common.{subst, ⊎_elim}
 use Rattle.std.specs.List.{AllByRecursion, list_any}
 use Rattle.std.proofs.lemmas.Bool.{cases_order}
 use Rattle.std.proofs.lemmas.List.{map-append, take_more}
-use Rattle.flake_base.specs.Causes.{Rose}
 use Rattle.flake_base.specs.declared.session.End.{End}
 use Rattle.flake_base.specs.declared.session.End.TheVariants.{Clean, Protocol, Truncated, TooLong, ReadFault, Memory}
 use Rattle.flake_base.specs.declared.session.End.TheVariants.{Left}
 use Rattle.flake_base.specs.declared.session.SessionEnd.{SessionEnd}
 use Rattle.flake_model.specs.Wire.{FaultsAre}
-use Rattle.flake_run.specs.Causes.{status_by, highest_by}
+use Rattle.flake_run.specs.Causes.{EitherRose, status_by, highest_by}
 use Rattle.flake_run.specs.Outcome.{ways}
 
 pub highest_more : (ways : List End) (way : End) → highest_by (ways ++ way ∷ []) ≡ max (highest_by ways) (status_by way)
@@ -46,7 +46,7 @@ any_failed [] = refl
 any_failed (end ∷ ends) = ap (λ (rest : Bool). end.failed || rest) (any_failed ends)
 
 -- no count of faults rose where none failed
-pub none_failed : (failed : List Bool) (olds news : List ℕ) → list_any (λ (b : Bool). b) failed ≡ false
+pub none_failed : (failed : List Bool) (olds news : List (ℕ × ℕ)) → list_any (λ (b : Bool). b) failed ≡ false
     → FaultsAre failed olds news → news ≡ olds
 none_failed [] olds news none faults = faults
 none_failed (one ∷ failed) [] news none faults = absurd faults
@@ -56,13 +56,15 @@ none_failed (false ∷ failed) (old ∷ olds) (new ∷ news) none faults = let r
     none_failed failed olds news none faults.1 in let here : new ≡ old = faults.0 in cc
 
 -- and else one rose
-pub some_failed : (failed : List Bool) (olds news : List ℕ) → list_any (λ (b : Bool). b) failed ≡ true
+pub some_failed : (failed : List Bool) (olds news : List (ℕ × ℕ)) → list_any (λ (b : Bool). b) failed ≡ true
     → FaultsAre failed olds news
-    → (session : ℕ) × (session < length failed) × Rose (slice_index olds session) (slice_index news session)
+    → (session : ℕ) × (session < length failed)
+    × EitherRose (slice_index_or olds session (0, 0)) (slice_index_or news session (0, 0))
 some_failed [] olds news some faults = absurd (cc some)
 some_failed (one ∷ failed) [] news some faults = absurd faults
 some_failed (one ∷ failed) (old ∷ olds) [] some faults = absurd faults
-some_failed (true ∷ failed) (old ∷ olds) (new ∷ news) some faults = (zero, omega arith, faults.0)
+some_failed (true ∷ failed) (old ∷ olds) (new ∷ news) some faults =
+    (zero, omega arith, ⊎_elim (λ put. inl put.0) (λ flush. inr flush.1) faults.0)
 some_failed (false ∷ failed) (old ∷ olds) (new ∷ news) some faults =
     let rest = some_failed failed olds news some faults.1 in
     (suc rest.0, omega (arith, rest.1), rest.2)

@@ -11,12 +11,11 @@ pub mod RanComplete
 pub mod RanAll
 pub mod Stopped
 pub mod Unread
+pub mod Refused
 pub mod Unopened
 pub mod Unserved
-pub mod Lines
 pub mod Numbers
 pub mod Sums
-pub mod Between
 pub mod Requested
 pub mod CheckedFiles
 pub mod CheckedAll
@@ -24,3 +23,5 @@ pub mod CheckedComplete
 pub mod CameTo
 pub mod DroveComplete
 pub mod DroveAll
+pub mod JoinedComplete
+pub mod JoinedAll

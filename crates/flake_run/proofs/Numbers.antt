@@ -1,8 +1,8 @@
 -- Numbers from 0, one more, and lists that were walked to their end.
-use Rattle.std.proofs.Common.{◌≡◌, ℕ, ◌+◌, zero, suc, List, [], ◌∷◌, ◌++◌, Option, length, map, arith, refl, sym, ap}
+use Rattle.std.proofs.Common.{◌≡◌, ℕ, ◌+◌, zero, suc, List, [], ◌∷◌, ◌++◌, length, map, arith, refl, sym, ap}
 use Rattle.std.proofs.Common.{◌∙◌, append-nil}
 use Rattle.std.specs.List.{range_with_len}
-use Rattle.flake_run.specs.Outcome.{SourceTold, source_told, files_of, source_lefts, read_faults_of}
+use Rattle.flake_run.specs.Outcome.{SourceTold, opened_told, files_of, sources_of}
 use Rattle.flake_run.specs.declared.outcome.Opened.{Opened}
 
 range_more : (a n : ℕ) → range_with_len a (suc n) ≡ range_with_len a n ++ (a + n) ∷ []
@@ -30,34 +30,33 @@ none_left [] len is none = refl
 none_left (x ∷ xs) len is none = absurd (omega (arith, is, none))
 
 -- what is told of sources that are numbered
-module _ {S : Type 0} (left : S → Option (List ℕ)) (faults : S → ℕ) where
-  told_lefts : (opened : List (Opened S))
-      → source_lefts (map (λ s. source_told s.file (left s.source) (faults s.source)) opened)
-      ≡ map left (map (λ s. s.source) opened)
-  told_lefts [] = refl
-  told_lefts (one ∷ opened) = ap (λ rest. left one.source ∷ rest) (told_lefts opened)
-
-  told_faults : (opened : List (Opened S))
-      → read_faults_of (map (λ s. source_told s.file (left s.source) (faults s.source)) opened)
-      ≡ map faults (map (λ s. s.source) opened)
-  told_faults [] = refl
-  told_faults (one ∷ opened) = ap (λ rest. faults one.source ∷ rest) (told_faults opened)
-
-  told_files : (opened : List (Opened S))
-      → files_of (map (λ s. source_told s.file (left s.source) (faults s.source)) opened) ≡ map (λ s. s.file) opened
+module _ {S : Type 0} (tells : S → SourceTold) where
+  pub told_files : (opened : List (Opened S)) → files_of (opened_told tells opened) ≡ map (λ one. one.file) opened
   told_files [] = refl
   told_files (one ∷ opened) = ap (λ rest. one.file ∷ rest) (told_files opened)
 
-  pub record AreNumbered (sources : List S) (told : List SourceTold) : Type 0 where
+  pub told_sources : (opened : List (Opened S)) → sources_of (opened_told tells opened)
+      ≡ map tells (map (λ one. one.source) opened)
+  told_sources [] = refl
+  told_sources (one ∷ opened) = ap (λ rest. tells one.source ∷ rest) (told_sources opened)
+
+  pub record AreNumbered (sources : List S) (told : List (Opened SourceTold)) : Type 0 where
     pub files : files_of told ≡ range_with_len 0 (length sources)
-    pub lefts : source_lefts told ≡ map left sources
-    pub faults_are : read_faults_of told ≡ map faults sources
+    pub told_are : sources_of told ≡ map tells sources
 
   pub are_numbered : (opened : List (Opened S)) (sources : List S) → map (λ s. s.file) opened
       ≡ range_with_len 0 (length sources) → map (λ s. s.source) opened ≡ sources
-      → AreNumbered sources (map (λ s. source_told s.file (left s.source) (faults s.source)) opened)
+      → AreNumbered sources (opened_told tells opened)
   are_numbered opened sources files are = record {
     files = told_files opened ∙ files;
-    lefts = told_lefts opened ∙ ap (map left) are;
-    faults_are = told_faults opened ∙ ap (map faults) are;
+    told_are = told_sources opened ∙ ap (map tells) are;
   }
+
+  -- what sources tell, one thing of it
+  pub field_of : {V : Type 0} (f : SourceTold → V) (told : List SourceTold) (sources : List S)
+      → told ≡ map tells sources → map f told ≡ map (λ s. f (tells s)) sources
+  field_of f told sources are = ap (map f) are ∙ maps sources
+    where
+      maps : (sources : List S) → map f (map tells sources) ≡ map (λ s. f (tells s)) sources
+      maps [] = refl
+      maps (source ∷ sources) = ap (λ rest. f (tells source) ∷ rest) (maps sources)

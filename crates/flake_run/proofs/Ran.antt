@@ -1,7 +1,7 @@
 -- What is known of a run that served its files, and the clauses that this gives.
-use Rattle.std.proofs.Common.{◌≡◌, ◌≢◌, ◌⊎◌, inl, inr, ◌≤◌, ◌<◌, ℕ, Bool, false, true, List, [], ◌∷◌, Option, Some, All}
-use Rattle.std.proofs.Common.{length, map, refl, sym, ap, ◌∙◌, subst}
-use Rattle.std.specs.List.{range_with_len, list_any}
+use Rattle.std.proofs.Common.{◌≡◌, ◌≢◌, ◌⊎◌, ◌≤◌, ◌<◌, ℕ, Bool, false, true, List, [], ◌∷◌, Option, Some, All}
+use Rattle.std.proofs.Common.{length, refl, sym, ap, ◌∙◌, subst}
+use Rattle.std.specs.List.{AllByRecursion, range_with_len, list_any}
 use Rattle.std.proofs.lemmas.List.{length-map}
 use Rattle.std.proofs.lemmas.List.FromFn.{length-range_with_len}
 use Rattle.flake_base.specs.Causes.{Rose}
@@ -10,22 +10,22 @@ use Rattle.flake_base.specs.Told.{HostTold, WireTold}
 use Rattle.flake_base.specs.declared.journal.Entry.{Entry}
 use Rattle.flake_base.specs.declared.session.End.TheVariants.{Left}
 use Rattle.flake_base.specs.declared.session.SessionEnd.{SessionEnd}
-use Rattle.flake_model.specs.Session.{Session}
+use Rattle.command_pump.specs.Pump.{EndFaults}
 use Rattle.pin_core.specs.declared.class.Held.{Held}
 use Rattle.pinned_pool.specs.Ends.{End as PoolEnd}
 use Rattle.run_resources.specs.Opened.{pool_sizes}
 use Rattle.run_resources.specs.Ran.{AreReads}
 use Rattle.flake_run.specs.declared.outcome.Detail.TheVariants.{Nothing}
-use Rattle.flake_run.specs.Opening.{AreOpened}
+use Rattle.flake_run.specs.declared.outcome.Opened.{Opened}
+use Rattle.flake_run.specs.Opening.{AreOfFiles, HaveOpened}
 use Rattle.flake_run.specs.Task.{Job, RunTask}
-use Rattle.flake_run.specs.Outside.{outside, LeavesFiles}
-use Rattle.flake_run.specs.Outcome.{RunOutcome, SourceTold, ways, files_of, source_lefts, read_faults_of}
+use Rattle.flake_run.specs.Outside.{LeavesFiles}
+use Rattle.flake_run.specs.Outcome.{RunOutcome, SourceTold, IsUntouched, ways, files_of, sources_of, givens_of}
+use Rattle.flake_run.specs.Outcome.{endeds_of, read_faults_of}
 use Rattle.flake_run.specs.Serving.{IsServedRun}
-use Rattle.flake_run.specs.Served.{Served}
-use Rattle.flake_run.specs.Untouched.{Untouched}
-use Rattle.flake_run.specs.Causes.{Causes, AreCountsOf, highest_by}
-use Rattle.flake_run.specs.Complete.{Complete}
-use Rattle.flake_run.specs.Said.{Said, PrintsStatus, SaysOrLacksRoom, served_text}
+use Rattle.flake_run.specs.Causes.{AreCountsOf, highest_by}
+use Rattle.flake_run.specs.Said.{PrintsStatus, served_text}
+use Rattle.flake_run.proofs.Served.{ends_count}
 
 -- the statuses of what was served
 abbrev pub IsServedStatus : ℕ → Type 0
@@ -41,22 +41,21 @@ pub record IsTask {W : Type 0} (task : RunTask) (job : Job) (wires : List W) : T
 pub record Ran {W : Type 0} (tells : W → WireTold) (job : Job) (host now : HostTold) (wires after : List W)
     (done : RunOutcome) : Type 0 where
   pub detail_is : done.detail ≡ Nothing
-  -- the files were opened, with these inputs
+  -- the files were opened
   pub between : HostTold
-  pub inputs : List (Option (List ℕ))
-  pub zeros : List ℕ
-  pub opened : AreOpened job.names host between inputs zeros
+  pub opened : HaveOpened job.names host between
   pub files : LeavesFiles between now
   pub files_are : files_of done.sources ≡ range_with_len 0 (length job.names)
+  pub of_files : AreOfFiles job.names host.holds (sources_of done.sources)
   pub pool : PoolEnd
   pub pool_is : done.pool ≡ Some pool
   pub held : (done.held.small ≡ pool.small) × (done.held.large ≡ pool.large)
-  pub run : IsServedRun (pool_sizes (length job.names) job.sizes) inputs (source_lefts done.sources) done.ends
-      done.journal pool wires after tells
+  pub run : IsServedRun (pool_sizes (length job.names) job.sizes) (givens_of (sources_of done.sources))
+      (endeds_of (sources_of done.sources)) done.ends done.journal pool wires after tells
   pub shards : length done.journal ≡ job.sizes.shards
-  pub reads : AreCountsOf (ways done.ends) (read_faults_of done.sources)
+  pub reads : AreCountsOf (ways done.ends) (read_faults_of (sources_of done.sources))
   pub to_the_end : All (λ way. way ≢ Left) (ways done.ends)
-  pub said : SaysOrLacksRoom done.status (served_text job.journal done.journal done.ends done.held) host now
+  pub said : PrintsStatus (served_text job.journal done.journal done.ends done.held) host now
   pub statuses : IsServedStatus done.status
   pub by_end : done.status ≢ 5 → done.status ≢ 6 → (done.status ≡ highest_by (ways done.ends))
       × (list_any (λ (end : SessionEnd). end.failed) done.ends ≡ false) × (now.say_faults ≡ host.say_faults)
@@ -64,29 +63,22 @@ pub record Ran {W : Type 0} (tells : W → WireTold) (job : Job) (host now : Hos
       × ((list_any (λ (end : SessionEnd). end.failed) done.ends ≡ true) ⊎ Rose host.say_faults now.say_faults)
 
 -- there are as many sources, and as many sessions, as files
-pub sources_are : (sources : List SourceTold) (n : ℕ) → files_of sources ≡ range_with_len 0 n → length sources ≡ n
-sources_are sources n is = sym (length-map sources (λ (source : SourceTold). source.file)) ∙ ap length is
+pub sources_are : (sources : List (Opened SourceTold)) (n : ℕ) → files_of sources ≡ range_with_len 0 n
+    → length sources ≡ n
+sources_are sources n is = sym (length-map sources (λ (one : Opened SourceTold). one.file)) ∙ ap length is
     ∙ length-range_with_len 0 n
+
+pub as_many_sources : (names : List (List ℕ)) (holds : List ℕ → Option (List ℕ)) (sources : List SourceTold)
+    → AreOfFiles names holds sources → length sources ≡ length names
+as_many_sources names holds sources of = sym (length-map sources (λ (source : SourceTold). source.name))
+    ∙ ap length of.names_are
 
 pub sessions_are : {W : Type 0} (tells : W → WireTold) (job : Job) (host now : HostTold) (wires after : List W)
     (done : RunOutcome) → Ran tells job host now wires after done
     → length done.ends ≡ length job.names
 sessions_are tells job host now wires after done r =
-    let sessions = r.run.run.sessions in
-    let ends : length sessions ≡ length done.ends = sym (length-map sessions (λ (session : Session). session.end))
-    ∙ ap length r.run.run.ends_are in
-    let inputs : length sessions ≡ length r.inputs = sym (length-map sessions (λ (session : Session). session.input))
-    ∙ ap length r.run.run.inputs_are in
-    sym ends ∙ inputs ∙ r.opened.as_many
-
--- all clauses of a run
-pub record Clauses {W : Type 0} (tells : W → WireTold) (task : RunTask) (host now : HostTold) (wires after : List W)
-    (done : RunOutcome) : Type 0 where
-  pub served : done.ends ≢ [] → Served task (outside host wires tells) (outside now after tells) done
-  pub untouched : Untouched task (outside host wires tells) (outside now after tells) done
-  pub causes : Causes task (outside host wires tells) (outside now after tells) done
-  pub complete : Complete task (outside host wires tells) (outside now after tells) done
-  pub said : Said task (outside host wires tells) (outside now after tells) done
+    ends_count _ _ _ _ _ _ _ _ _ r.run ∙ length-map (sources_of done.sources) (λ (source : SourceTold). source.given)
+    ∙ as_many_sources job.names host.holds (sources_of done.sources) r.of_files
 
 -- said behind a call that said nothing
 pub says_since : (text : List ℕ) (old mid new : HostTold) → mid.said ≡ old.said → mid.say_faults ≡ old.say_faults
@@ -97,26 +89,23 @@ says_since text old mid new said count says = record {
       (says.whole (λ rose. quiet (subst (λ n. Rose n new.say_faults) count rose)));
 }
 
-pub told_since : (status : ℕ) (text : List ℕ) (old mid new : HostTold) → mid.said ≡ old.said → mid.say_faults
-    ≡ old.say_faults → SaysOrLacksRoom status text mid new → SaysOrLacksRoom status text old new
-told_since status text old mid new said count (inl says) = inl (says_since text old mid new said count says)
-told_since status text old mid new said count (inr lacks) =
-    inr (lacks.0, record { said = lacks.1.said ∙ said; none_failed = lacks.1.none_failed ∙ count })
-
--- sources whose reads had not failed before
-pub counts_from : {A : Type 0} (ends : List SessionEnd) (names : List A) (nows : List ℕ)
-    → AreReads ends (map (λ (_ : A). 0) names) nows → AreCountsOf (ways ends) nows
-counts_from [] [] [] reads = refl
-counts_from [] [] (now ∷ nows) reads = absurd reads
-counts_from [] (name ∷ names) nows reads = absurd reads
-counts_from (end ∷ ends) [] nows reads = absurd reads
-counts_from (end ∷ ends) (name ∷ names) [] reads = absurd reads
-counts_from (end ∷ ends) (name ∷ names) (now ∷ nows) reads = (reads.0, counts_from ends names nows reads.1)
+-- sources of which nothing was read before
+pub counts_from : (ends : List SessionEnd) (sources : List SourceTold) (nows : List ℕ)
+    → AllByRecursion IsUntouched sources → AreReads ends (read_faults_of sources) nows → AreCountsOf (ways ends) nows
+counts_from [] [] [] unread reads = refl
+counts_from [] [] (now ∷ nows) unread reads = absurd reads
+counts_from [] (source ∷ sources) nows unread reads = absurd reads
+counts_from (end ∷ ends) [] nows unread reads = absurd reads
+counts_from (end ∷ ends) (source ∷ sources) [] unread reads = absurd reads
+counts_from (end ∷ ends) (source ∷ sources) (now ∷ nows) unread reads = (
+  subst (λ n. EndFaults end.end n now) unread.0.faults reads.0,
+  counts_from ends sources nows unread.1 reads.1,
+)
 
 -- what a report of sessions has said and answered
 pub record Reported (old new : HostTold) (status : ℕ) (shows : Bool) (journal : List (List Entry))
     (ends : List SessionEnd) (held : Held) : Type 0 where
-  pub said : SaysOrLacksRoom status (served_text shows journal ends held) old new
+  pub said : PrintsStatus (served_text shows journal ends held) old new
   pub statuses : IsServedStatus status
   pub by_end : status ≢ 5 → status ≢ 6 → (status ≡ highest_by (ways ends))
       × (list_any (λ (end : SessionEnd). end.failed) ends ≡ false) × (new.say_faults ≡ old.say_faults)

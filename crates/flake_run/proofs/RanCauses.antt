@@ -1,10 +1,10 @@
 -- The causes of what a run answers that served its files.
-use Rattle.std.proofs.Common.{◌≡◌, ◌≢◌, ◌⊎◌, ◌<◌, inl, inr, ℕ, false, true, List, Some, length, map, slice_index, arith}
+use Rattle.std.proofs.Common.{◌≡◌, ◌≢◌, ◌⊎◌, ◌<◌, inl, inr, ℕ, false, true, List, Some, length, map, slice_index_or}
+use Rattle.std.proofs.Common.{arith}
 use Rattle.std.proofs.Common.{ap, sym, ◌∙◌, subst}
 use Rattle.std.specs.List.{list_any, range_with_len}
 use Rattle.std.proofs.lemmas.List.{length-map}
 use Rattle.std.proofs.lemmas.List.Elements.{All-from_recursion}
-use Rattle.flake_base.specs.Causes.{Rose}
 use Rattle.flake_base.specs.Told.{HostTold, WireTold}
 use Rattle.flake_base.specs.declared.session.End.{End}
 use Rattle.flake_base.specs.declared.session.SessionEnd.{SessionEnd}
@@ -12,7 +12,7 @@ use Rattle.flake_model.specs.Wire.{FaultsAre}
 use Rattle.flake_run.specs.Task.{Job, RunTask}
 use Rattle.flake_run.specs.Outside.{outside}
 use Rattle.flake_run.specs.Outcome.{RunOutcome, ways}
-use Rattle.flake_run.specs.Causes.{Causes, IsRefusable, status_by}
+use Rattle.flake_run.specs.Causes.{Causes, EitherRose, IsRefusable, status_by}
 use Rattle.flake_run.proofs.Highest.{any_failed, none_failed, some_failed, none_is_six}
 use Rattle.flake_run.proofs.Ran.{Ran, IsTask, IsServedStatus, sessions_are, sources_are}
 use Rattle.flake_run.proofs.RanUntouched.{no_ends}
@@ -38,16 +38,17 @@ not_higher status (inr (inl is)) = (λ n. omega (arith, is, n), λ n. omega (ari
 not_higher status (inr (inr is)) = (λ n. omega (arith, is, n), λ n. omega (arith, is, n))
 
 -- no put failed
-quiet : (ends : List SessionEnd) (olds news : List ℕ) → list_any (λ (end : SessionEnd). end.failed) ends ≡ false
+quiet : (ends : List SessionEnd) (olds news : List (ℕ × ℕ)) → list_any (λ (end : SessionEnd). end.failed) ends ≡ false
     → FaultsAre (map (λ (end : SessionEnd). end.failed) ends) olds news → news ≡ olds
 quiet ends olds news none faults = none_failed (map (λ (end : SessionEnd). end.failed) ends) olds news
     (sym (any_failed ends) ∙ none) faults
 
 -- a put or a say failed
-pub put_or_said : (ends : List SessionEnd) (olds news : List ℕ) (P : Type 0)
+pub put_or_said : (ends : List SessionEnd) (olds news : List (ℕ × ℕ)) (P : Type 0)
     → FaultsAre (map (λ (end : SessionEnd). end.failed) ends) olds news
     → (list_any (λ (end : SessionEnd). end.failed) ends ≡ true) ⊎ P
-    → P ⊎ ((session : ℕ) × (session < length ends) × Rose (slice_index olds session) (slice_index news session))
+    → P ⊎ ((session : ℕ) × (session < length ends)
+    × EitherRose (slice_index_or olds session (0, 0)) (slice_index_or news session (0, 0)))
 put_or_said ends olds news P faults (inl is) =
     let found = some_failed (map (λ (end : SessionEnd). end.failed) ends) olds news (sym (any_failed ends) ∙ is) faults
     in

@@ -1,10 +1,10 @@
 -- What a run says that served its files.
-use Rattle.std.proofs.Common.{◌≡◌, ◌≢◌, inl, inr, ℕ, List, length, ap, sym, ◌∙◌, subst}
+use Rattle.std.proofs.Common.{◌≡◌, inl, inr, ℕ, List, length, ap, sym, ◌∙◌, subst}
 use Rattle.flake_base.specs.Told.{HostTold, WireTold}
 use Rattle.flake_run.specs.Task.{Job, RunTask, shows_journal}
 use Rattle.flake_run.specs.Outside.{outside}
 use Rattle.flake_run.specs.Outcome.{RunOutcome}
-use Rattle.flake_run.specs.Said.{Said, PrintsStatus, SaysOrLacksRoom, served_text, status_text}
+use Rattle.flake_run.specs.Said.{Said, PrintsStatus, served_text, status_text}
 use Rattle.flake_run.specs.declared.outcome.Detail.{Detail}
 use Rattle.flake_run.proofs.Ran.{Ran, IsTask, IsServedStatus, sessions_are}
 use Rattle.flake_run.proofs.RanUntouched.{no_ends}
@@ -17,11 +17,6 @@ served_is status detail served (inr (inr (inl is))) = ap (λ s. status_text s de
 served_is status detail served (inr (inr (inr (inl is)))) = ap (λ s. status_text s detail served) is
 served_is status detail served (inr (inr (inr (inr is)))) = ap (λ s. status_text s detail served) is
 
-says_unless : (status : ℕ) (text : List ℕ) (old new : HostTold) → status ≢ 6 → SaysOrLacksRoom status text old new
-    → PrintsStatus text old new
-says_unless status text old new other (inl says) = says
-says_unless status text old new other (inr lacks) = absurd (other lacks.0)
-
 pub ran_said : {W : Type 0} (tells : W → WireTold) (task : RunTask) (job : Job) (host now : HostTold)
     (wires after : List W) (done : RunOutcome)
     → IsTask task job wires → Ran tells job host now wires after done → Said task (outside host wires tells)
@@ -31,9 +26,9 @@ ran_said tells task job host now wires after done t r = record {
       (sym (served_is done.status done.detail (served_text (shows_journal task) done.journal done.ends done.held)
       r.statuses
       ∙ ap (λ asked. served_text (shows_journal asked) done.journal done.ends done.held) t.task_is))
-      (says_unless done.status _ host now other r.said);
+      r.said;
   no_memory = λ six none. absurd
       (no_ends done.ends (length job.names) (sessions_are tells job host now wires after done r) t.some_names none);
-  served = λ some. subst (λ text. SaysOrLacksRoom done.status text host now)
+  served = λ some. subst (λ text. PrintsStatus text host now)
       (sym (ap (λ asked. served_text (shows_journal asked) done.journal done.ends done.held) t.task_is)) r.said;
 }

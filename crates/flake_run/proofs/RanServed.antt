@@ -39,17 +39,15 @@ pub ran_served : {W : Type 0} (tells : W → WireTold) (task : RunTask) (job : J
     (outside now after tells) done
 ran_served tells task job host now wires after done t r =
     subst (λ t. Served t (outside host wires tells) (outside now after tells) done) (sym t.task_is) (record {
-      inputs = r.inputs;
-      inputs_are = r.opened.lefts_are;
-      own = r.opened.own;
+      of_files = r.of_files;
       run = r.run.run;
+      wires = r.run.wires;
       pool = r.pool;
       pool_is = r.pool_is;
       shows = r.run.counted;
       held = r.held;
       none_missing = enough (pool_sizes (length job.names) job.sizes) r.run.run.sessions done.journal r.pool
           r.run.counted;
-      bytes = r.run.bytes;
       flushed = r.run.flushed;
       faults = r.run.faults;
       others = r.run.others;

@@ -7,7 +7,8 @@ use Rattle.flake_base.specs.declared.session.SessionEnd.{SessionEnd}
 use Rattle.check_files.specs.Named.{AreOther, counted_times}
 use Rattle.flake_run.specs.Task.{Job, RunTask}
 use Rattle.flake_run.specs.Outside.{outside}
-use Rattle.flake_run.specs.Outcome.{RunOutcome}
+use Rattle.flake_run.specs.Opening.{AreOfFiles}
+use Rattle.flake_run.specs.Outcome.{RunOutcome, sources_of}
 use Rattle.flake_run.specs.Untouched.{Untouched}
 use Rattle.flake_run.proofs.Ran.{Ran, IsTask, IsServedStatus, sessions_are, sources_are}
 
@@ -44,7 +45,7 @@ ran_untouched tells task job host now wires after done t r =
       journal = λ none. absurd (served none);
       pool = λ none. absurd (served none);
       unread = λ none. absurd (served none);
-      left = λ none. absurd (served none);
+      of_files = subst (λ names. AreOfFiles names host.holds (sources_of done.sources)) (sym all_names) r.of_files;
       refused = λ status. absurd (not_refused done.status r.statuses status);
       sources = λ status. absurd (not_refused done.status r.statuses (inl status));
       holds = λ status. absurd (not_refused done.status r.statuses (inl status));

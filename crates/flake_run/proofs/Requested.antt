@@ -1,5 +1,5 @@
 -- What a run of generated requests comes to.
-use Rattle.std.proofs.Common.{◌≡◌, ◌≢◌, ◌⊎◌, ◌≤◌, inl, inr, ℕ, ◌+◌, Bool, true, false, List, [], ◌∷◌, Option, Some}
+use Rattle.std.proofs.Common.{◌≡◌, ◌≢◌, ◌⊎◌, ◌≤◌, inl, inr, ℕ, ◌+◌, suc, Bool, true, false, List, [], ◌∷◌, Option, Some}
 use Rattle.std.proofs.Common.{None, length, map, arith, refl, sym, ap, ◌∙◌, subst}
 use Rattle.std.specs.Prelude.{max, IfSome}
 use Rattle.std.specs.Borrow.{Bor}
@@ -7,33 +7,34 @@ use Rattle.std.specs.List.{AllByRecursion, list_any}
 use Rattle.std.proofs.lemmas.List.Elements.{All-from_recursion}
 use Rattle.std.proofs.lemmas.List.FromFn.{length-map-range_with_len}
 use Rattle.flake_base.specs.Causes.{Rose}
-use Rattle.flake_base.specs.Told.{HostTold, WireTold, raised}
+use Rattle.flake_base.specs.Told.{HostTold, WireTold}
 use Rattle.flake_base.specs.declared.journal.Entry.{Entry}
 use Rattle.flake_base.specs.declared.session.End.{End}
 use Rattle.flake_base.specs.declared.session.End.TheVariants.{Clean, Memory}
 use Rattle.flake_base.specs.declared.session.SessionEnd.{SessionEnd}
 use Rattle.flake_model.specs.Run.{all_commands, missing_writes}
+use Rattle.flake_model.specs.Wire.{faults_told}
 use Rattle.pin_core.specs.declared.class.Held.{Held}
 use Rattle.pinned_pool.specs.Ends.{End as PoolEnd}
 use Rattle.serve_model.specs.Replies.{all_replies}
-use Rattle.serve_inputs.specs.Whole.{SentWhole}
+use Rattle.serve_inputs.specs.Whole.{SentWhole, raised}
 use Rattle.run_resources.specs.Opened.{pool_sizes}
 use Rattle.run_resources.specs.Ran.{AllWhole}
 use Rattle.wire_told.specs.Sent.{AreTold}
-use Rattle.wire_told.proofs.Sent.{sends_told}
+use Rattle.wire_told.proofs.Sent.{sent_by_puts}
 use Rattle.gen_words.specs.declared.task.GenTask.{GenTask}
-use Rattle.serve_generated.specs.Generated.{IsTooMuch, RanGenerated, inputs_of, generated_sizes}
-use Rattle.flake_run.specs.Causes.{highest_by, status_by, SomePutFailed}
+use Rattle.serve_generated.specs.Generated.{AreFronts, IsTooMuch, RanGenerated, inputs_of, generated_sizes}
+use Rattle.flake_run.specs.Causes.{highest_by, status_by, SomeWireFailed}
 use Rattle.flake_run.specs.Generated.{AllInWhole, Generated, IsGeneratedRun, IsUngenerated, SentInWhole, texts_length}
-use Rattle.flake_run.specs.Generated.{replies_in, sum_of, total_line}
+use Rattle.flake_run.specs.Generated.{replies_in, sum_of}
 use Rattle.flake_run.specs.Outcome.{RunOutcome, ways}
 use Rattle.flake_run.specs.Outside.{Outside, LeavesFiles, outside}
 use Rattle.flake_run.specs.Refusals.{RunRefused}
-use Rattle.flake_run.specs.Said.{SaysOrLacksRoom}
+use Rattle.flake_run.specs.Said.{PrintsStatus}
+use Rattle.report_text.specs.Report.{total_line}
 use Rattle.flake_run.specs.declared.outcome.Detail.TheVariants.{Nothing}
 use Rattle.flake_run.specs.declared.outcome.Refusal.{Refusal}
 use Rattle.flake_run.specs.declared.outcome.Refusal.TheVariants.{BadWords, Memory as NoMemory}
-use Rattle.flake_run.proofs.Between.{put_between}
 use Rattle.flake_run.proofs.Highest.{any_failed, none_failed, none_is_six}
 use Rattle.flake_run.proofs.RanCauses.{put_or_said}
 use Rattle.flake_run.proofs.Served.{served_to, served_sessions, ends_count}
@@ -58,21 +59,15 @@ module _ {W : Type 0} (put_may : W → Bor (List ℕ) → (W × Bool) → Type 0
   whole_told : (replies : Bool × List (List ℕ)) (shown : ℕ) (old new : W)
       → SentWhole put_may flush_may replies.0 replies.1 shown old new → IsExact replies shown (told old) (told new)
   whole_told replies shown old new is =
-      let before = sends_told put_may flush_may told says false _ old is.grew.middle is.grew.before in
-      let behind = sends_told put_may flush_may told says replies.0 _ is.grew.middle new is.grew.behind in
+      let before = sent_by_puts put_may flush_may told says false _ old is.grew.middle is.grew.before in
+      let behind = sent_by_puts put_may flush_may told says replies.0 _ is.grew.middle new is.grew.behind in
       record {
         bytes = texts_length is.whole replies.1;
         sent = record {
           whole = is.whole;
           are_whole = is.are_whole;
-          grew = record {
-            middle = (told is.grew.middle).sent;
-            before = before.sent;
-            behind = behind.sent;
-          };
+          grew = record { middle = told is.grew.middle; before = before; behind = behind };
           bytes_are = refl;
-          put = put_between replies.0 is.whole replies.1 (told old).bytes (told is.grew.middle).bytes
-              (told new).bytes before.bytes behind.bytes;
         };
         shown_is = is.bytes_are;
       }
@@ -98,18 +93,18 @@ module _ {W : Type 0} (put_may : W → Bor (List ℕ) → (W × Bool) → Type 0
       }
 
   -- of wires whose puts and flushes tell what they do
-  pub generated_to : (task : GenTask) (lefts : List (Option (List ℕ))) (ends : List SessionEnd) (shown : List ℕ)
-      (journal : List (List Entry)) (pool : PoolEnd) (olds news : List W)
-      → RanGenerated put_may flush_may task lefts ends shown journal pool olds news
-      → IsGeneratedRun task lefts ends shown journal pool olds news told
-  generated_to task lefts ends shown journal pool olds news ran =
+  pub generated_to : (task : GenTask) (givens : List (List ℕ)) (endeds : List Bool) (ends : List SessionEnd)
+      (shown : List ℕ) (journal : List (List Entry)) (pool : PoolEnd) (olds news : List W)
+      → RanGenerated put_may flush_may task givens endeds ends shown journal pool olds news
+      → IsGeneratedRun task givens endeds ends shown journal pool olds news told
+  generated_to task givens endeds ends shown journal pool olds news ran =
       let z = pool_sizes task.sessions (generated_sizes task) in
       let exact = all_told (all_replies ran.ran.ran.served.sessions journal) shown olds news ran.ran.wholes in
-      let run = served_to put_may flush_may told says z (inputs_of task) lefts ends shown journal pool olds news ran.ran
-      in
+      let run = served_to put_may flush_may told says z givens endeds ends shown journal pool olds news ran.ran in
       let same : run.run.sessions ≡ ran.ran.ran.served.sessions = served_sessions put_may flush_may told says z
-      (inputs_of task) lefts ends shown journal pool olds news ran.ran in
+      givens endeds ends shown journal pool olds news ran.ran in
       record {
+        gave = ran.gave;
         run = run;
         ways = ran.ways;
         commands = λ memory. ap all_commands same ∙ ran.commands memory;
@@ -120,13 +115,23 @@ module _ {W : Type 0} (put_may : W → Bor (List ℕ) → (W × Bool) → Type 0
         sums = exact.sums;
       }
 
+-- there are as many texts that were given as inputs
+as_many_fronts : (inputs givens : List (List ℕ)) (endeds : List Bool) → AreFronts inputs givens endeds
+    → length givens ≡ length inputs
+as_many_fronts [] givens endeds gave = ap length gave.0
+as_many_fronts (input ∷ inputs) [] endeds gave = absurd gave
+as_many_fronts (input ∷ inputs) (given ∷ givens) [] gave = absurd gave
+as_many_fronts (input ∷ inputs) (given ∷ givens) (ended ∷ endeds) gave = ap suc
+    (as_many_fronts inputs givens endeds gave.1)
+
 -- there are as many ends as sessions
-pub generated_count : {W : Type 0} (task : GenTask) (lefts : List (Option (List ℕ))) (ends : List SessionEnd)
-    (shown : List ℕ) (journal : List (List Entry)) (pool : PoolEnd) (olds news : List W) (told : W → WireTold)
-    → IsGeneratedRun task lefts ends shown journal pool olds news told → length ends ≡ task.sessions
-generated_count task lefts ends shown journal pool olds news told r =
-    ends_count (pool_sizes task.sessions (generated_sizes task)) (inputs_of task) lefts ends journal pool olds news told
-    r.run ∙ length-map-range_with_len _ 0 task.sessions
+pub generated_count : {W : Type 0} (task : GenTask) (givens : List (List ℕ)) (endeds : List Bool)
+    (ends : List SessionEnd) (shown : List ℕ) (journal : List (List Entry)) (pool : PoolEnd) (olds news : List W)
+    (told : W → WireTold)
+    → IsGeneratedRun task givens endeds ends shown journal pool olds news told → length ends ≡ task.sessions
+generated_count task givens endeds ends shown journal pool olds news told r =
+    ends_count (pool_sizes task.sessions (generated_sizes task)) givens endeds ends journal pool olds news told r.run
+    ∙ as_many_fronts (inputs_of task) givens endeds r.gave ∙ length-map-range_with_len _ 0 task.sessions
 
 -- the highest status of such ends
 highest_way : (ends : List SessionEnd) → AllByRecursion (λ end. (end.end ≡ Clean) ⊎ (end.end ≡ Memory)) ends
@@ -183,7 +188,7 @@ module _ {W : Type 0} (task : Option GenTask) (before after : Outside W) (done :
 
       is_whole : (task : Option GenTask) → IsUngenerated task before
           → IfSome task (λ task. task.sessions ≤ length before.wires → (IsTooMuch task → ⊥) → done.status ≢ 6
-          → (Rose before.host.say_faults after.host.say_faults → ⊥) → (SomePutFailed task.sessions before after → ⊥)
+          → (Rose before.host.say_faults after.host.say_faults → ⊥) → (SomeWireFailed task.sessions before after → ⊥)
           → done.status ≡ 0)
       is_whole None un = tt
       is_whole (Some task) (inl few) = λ enough fits six says puts. absurd (omega (arith, few, enough))
@@ -218,14 +223,14 @@ module _ {W : Type 0} (task : Option GenTask) (before after : Outside W) (done :
 
       is_whole : (task : Option GenTask)
           → IfSome task (λ task. task.sessions ≤ length before.wires → (IsTooMuch task → ⊥) → done.status ≢ 6
-          → (Rose before.host.say_faults after.host.say_faults → ⊥) → (SomePutFailed task.sessions before after → ⊥)
+          → (Rose before.host.say_faults after.host.say_faults → ⊥) → (SomeWireFailed task.sessions before after → ⊥)
           → done.status ≡ 0)
       is_whole None = tt
       is_whole (Some task) = λ enough fits six says puts. absurd (six r.status)
 
 -- what was said, and the status
 pub record Reported (host now : HostTold) (status : ℕ) (ends : List SessionEnd) (bytes : ℕ) (held : Held) : Type 0 where
-  pub said : SaysOrLacksRoom status (total_line (replies_in ends) bytes held) host now
+  pub said : PrintsStatus (total_line (replies_in ends) bytes held) host now
   pub by_end : status ≢ 5 → status ≢ 6 → (status ≡ highest_by (ways ends))
       × (list_any (λ (end : SessionEnd). end.failed) ends ≡ false) × (now.say_faults ≡ host.say_faults)
   pub failed : status ≡ 5 → (highest_by (ways ends) ≢ 6)
@@ -240,12 +245,13 @@ pub record Answered {W : Type 0} (task : GenTask) (tells : W → WireTold) (host
   pub some : 1 ≤ task.sessions
   pub enough : task.sessions ≤ length wires
   pub fits : IsTooMuch task → ⊥
-  pub lefts : List (Option (List ℕ))
+  pub givens : List (List ℕ)
+  pub endeds : List Bool
   pub shown : List ℕ
   pub pool : PoolEnd
   pub pool_is : done.pool ≡ Some pool
   pub held : (done.held.small ≡ pool.small) × (done.held.large ≡ pool.large)
-  pub run : IsGeneratedRun task lefts done.ends shown done.journal pool wires after tells
+  pub run : IsGeneratedRun task givens endeds done.ends shown done.journal pool wires after tells
   pub shards : length done.journal ≡ 8
   pub files : LeavesFiles host now
   pub reported : Reported host now done.status done.ends (raised 0 (sum_of shown)) done.held
@@ -259,8 +265,11 @@ answered_all {W} task tells host now wires after done a = record {
   served = λ some. (
     not_refused,
     record {
-      lefts = a.lefts;
+      givens = a.givens;
+      endeds = a.endeds;
+      gave = a.run.gave;
       run = a.run.run.run;
+      wires = a.run.run.wires;
       pool = a.pool;
       pool_is = a.pool_is;
       shows = a.run.run.counted;
@@ -268,7 +277,6 @@ answered_all {W} task tells host now wires after done a = record {
       ways = a.run.ways;
       commands = a.run.commands;
       none_missing = a.run.none_missing;
-      bytes = a.run.run.bytes;
       flushed = a.run.run.flushed;
       faults = a.run.run.faults;
       others = a.run.run.others;
@@ -276,7 +284,7 @@ answered_all {W} task tells host now wires after done a = record {
       shards = a.shards;
       counts = a.run.counts;
       wholes = a.run.wholes;
-      said = subst (λ bytes. SaysOrLacksRoom done.status (total_line (replies_in done.ends) bytes done.held) host now)
+      said = subst (λ bytes. PrintsStatus (total_line (replies_in done.ends) bytes done.held) host now)
           a.run.sums a.reported.said;
     },
   );
@@ -304,7 +312,7 @@ answered_all {W} task tells host now wires after done a = record {
   no_memory = λ six none. absurd (there none);
 } where
   count : length done.ends ≡ task.sessions
-  count = generated_count task a.lefts done.ends a.shown done.journal a.pool wires after tells a.run
+  count = generated_count task a.givens a.endeds done.ends a.shown done.journal a.pool wires after tells a.run
 
   there : done.ends ≢ []
   there = some_ends done.ends task.sessions count a.some
@@ -346,22 +354,22 @@ answered_all {W} task tells host now wires after done a = record {
   not_refused (inl few) = omega (arith, few, a.enough)
   not_refused (inr much) = a.fits much
 
-  quiet : list_any (λ (end : SessionEnd). end.failed) done.ends ≡ false → map (λ wire. (tells wire).faults) after
-      ≡ map (λ wire. (tells wire).faults) wires
+  quiet : list_any (λ (end : SessionEnd). end.failed) done.ends ≡ false → map (λ wire. faults_told (tells wire)) after
+      ≡ map (λ wire. faults_told (tells wire)) wires
   quiet none = none_failed (map (λ (end : SessionEnd). end.failed) done.ends) _ _ (sym (any_failed done.ends) ∙ none)
       a.run.run.faults
 
   failing : done.status ≡ 5 → (Rose host.say_faults now.say_faults → ⊥)
-      → (SomePutFailed task.sessions (outside host wires tells) (outside now after tells) → ⊥) → ⊥
+      → (SomeWireFailed task.sessions (outside host wires tells) (outside now after tells) → ⊥) → ⊥
   failing five says puts = by (put_or_said done.ends _ _ _ a.run.run.faults (a.reported.failed five).1)
     where
-      by : Rose host.say_faults now.say_faults ⊎ SomePutFailed (length done.ends) (outside host wires tells)
+      by : Rose host.say_faults now.say_faults ⊎ SomeWireFailed (length done.ends) (outside host wires tells)
           (outside now after tells) → ⊥
       by (inl rose) = says rose
-      by (inr put) = puts (subst (λ n. SomePutFailed n (outside host wires tells) (outside now after tells)) count put)
+      by (inr put) = puts (subst (λ n. SomeWireFailed n (outside host wires tells) (outside now after tells)) count put)
 
   is_zero : (Rose host.say_faults now.say_faults → ⊥)
-      → (SomePutFailed task.sessions (outside host wires tells) (outside now after tells) → ⊥) → done.status ≢ 6
+      → (SomeWireFailed task.sessions (outside host wires tells) (outside now after tells) → ⊥) → done.status ≢ 6
       → (done.status ≡ 0) ⊎ (done.status ≡ 1) ⊎ (done.status ≡ 5) ⊎ (done.status ≡ 6) → done.status ≡ 0
   is_zero says puts six (inl zero) = zero
   is_zero says puts six (inr (inl one)) = absurd (not_one (inr (inl one)) one)

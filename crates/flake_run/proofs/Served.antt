@@ -1,5 +1,5 @@
 -- Served sources are a served run of their sessions.
-use Rattle.std.proofs.Common.{◌≡◌, ℕ, ◌+◌, Bool, true, false, List, [], ◌∷◌, Option, length, map, drop, refl, sym, ap}
+use Rattle.std.proofs.Common.{◌≡◌, ℕ, ◌+◌, Bool, true, false, List, [], ◌∷◌, length, map, drop, refl, sym, ap}
 use Rattle.std.proofs.Common.{◌∙◌, subst}
 use Rattle.std.specs.Borrow.{Bor}
 use Rattle.std.proofs.lemmas.List.{length-map}
@@ -10,10 +10,10 @@ use Rattle.flake_base.specs.declared.session.SessionEnd.{SessionEnd}
 use Rattle.flake_model.specs.Command.{Command}
 use Rattle.flake_model.specs.Run.{all_commands, wire_texts_from, wire_texts}
 use Rattle.flake_model.specs.Session.{Session}
-use Rattle.flake_model.specs.Wire.{EachWire, WiresGrew, HasPut, BytesAre, FaultIs, FaultsAre, KeptIs, KeptAre}
+use Rattle.flake_model.specs.Wire.{EachWire, WiresGrew, WireFaultIs, FaultsAre, KeptIs, KeptAre, faults_told}
 use Rattle.pin_core.specs.declared.sizes.Sizes.{Sizes}
 use Rattle.pinned_pool.specs.Ends.{End}
-use Rattle.run_resources.specs.Ran.{AllSent, no_wires}
+use Rattle.run_resources.specs.Ran.{AllSent}
 use Rattle.serve_inputs.specs.Ran.{RanAll}
 use Rattle.serve_model.specs.Shown.{WasRun}
 use Rattle.wire_told.specs.Sent.{WasSent, AreTold}
@@ -74,12 +74,12 @@ module _ {W : Type 0} (put_may : W → Bor (List ℕ) → (W × Bool) → Type 0
       ((flushed.0, kept_from text.0 _ _ _ flushed.1), all_put texts olds news sent.1)
 
   -- of wires whose puts and flushes tell what they do
-  pub run_told : (z : Sizes) (inputs lefts : List (Option (List ℕ))) (ends : List SessionEnd)
+  pub run_told : (z : Sizes) (givens : List (List ℕ)) (endeds : List Bool) (ends : List SessionEnd)
       (journal : List (List Entry)) (pool : End) (olds news : List W)
-      → (ran : WasRun z inputs lefts ends journal (no_wires ends) (no_wires ends) pool)
+      → (ran : WasRun z givens endeds ends journal pool)
       → AllSent put_may flush_may (wire_texts ran.served.sessions journal) olds news
-      → IsServedRun z inputs lefts ends journal pool olds news told
-  run_told z inputs lefts ends journal pool olds news ran sends =
+      → IsServedRun z givens endeds ends journal pool olds news told
+  run_told z givens endeds ends journal pool olds news ran sends =
       let was = ran.served in
       let texts = wire_texts was.sessions journal in
       let each : EachWire (WasPut told) texts olds news = all_put texts olds news sends in
@@ -90,30 +90,15 @@ module _ {W : Type 0} (put_may : W → Bor (List ℕ) → (W × Bool) → Type 0
       sym (length-map texts (λ (text : Bool × List ℕ). text.0)) ∙ ap length failed
       ∙ length-map ends (λ (end : SessionEnd). end.failed) in
       record {
-        run = record {
-          sessions = was.sessions;
-          inputs_are = was.inputs_are;
-          lefts_are = was.lefts_are;
-          ends_are = was.ends_are;
-          each_is = was.each_is;
-          orderly = was.orderly;
-          one_order = was.one_order;
-          one_history = was.one_history;
-          wires = subst (λ ts. WiresGrew ts (map (λ w. (told w).sent) olds) (map (λ w. (told w).sent) news))
-              (all_as_is texts)
-              (each_told (WasPut told)
-              (λ (text : Bool × List ℕ) (old new : Option (List ℕ)). Grew text.0 text.1 old new)
-              (λ (text : Bool × List ℕ). text) (λ w. (told w).sent) (λ text old new put. put.0.sent) texts olds news
-              each);
-        };
-        counted = ran.counted;
-        bytes = subst (λ ts. BytesAre ts (map (λ w. (told w).bytes) olds) (map (λ w. (told w).bytes) news))
+        run = was;
+        wires = subst (λ ts. WiresGrew ts (map (λ w. (told w).put) olds) (map (λ w. (told w).put) news))
             (all_as_is texts)
-            (each_told (WasPut told) (λ (text : Bool × List ℕ) (old new : ℕ). HasPut text.0 (length text.1) old new)
-            (λ (text : Bool × List ℕ). text) (λ w. (told w).bytes) (λ text old new put. put.0.bytes) texts olds news
-            each);
-        faults = subst (λ fs. FaultsAre fs (map (λ w. (told w).faults) olds) (map (λ w. (told w).faults) news)) failed
-            (each_told (WasPut told) FaultIs (λ (text : Bool × List ℕ). text.0) (λ w. (told w).faults)
+            (each_told (WasPut told) (λ (text : Bool × List ℕ) (old new : List ℕ). Grew text.0 text.1 old new)
+            (λ (text : Bool × List ℕ). text) (λ w. (told w).put) (λ text old new put. put.0.put) texts olds news each);
+        counted = ran.counted;
+        faults = subst (λ fs. FaultsAre fs (map (λ w. faults_told (told w)) olds)
+            (map (λ w. faults_told (told w)) news)) failed
+            (each_told (WasPut told) WireFaultIs (λ (text : Bool × List ℕ). text.0) (λ w. faults_told (told w))
             (λ text old new put. put.0.faults) texts olds news each);
         flushed = subst (λ fs. KeptAre fs (map (λ w. (told w).kept) olds) (map (λ w. (told w).kept) news)) failed
             (each_told (WasPut told) KeptIs (λ (text : Bool × List ℕ). text.0) (λ w. (told w).kept)
@@ -122,48 +107,37 @@ module _ {W : Type 0} (put_may : W → Bor (List ℕ) → (W × Bool) → Type 0
       }
 
   -- its sessions are those that ran
-  pub run_sessions : (z : Sizes) (inputs lefts : List (Option (List ℕ))) (ends : List SessionEnd)
+  pub run_sessions : (z : Sizes) (givens : List (List ℕ)) (endeds : List Bool) (ends : List SessionEnd)
       (journal : List (List Entry)) (pool : End) (olds news : List W)
-      → (ran : WasRun z inputs lefts ends journal (no_wires ends) (no_wires ends) pool)
+      → (ran : WasRun z givens endeds ends journal pool)
       → (sends : AllSent put_may flush_may (wire_texts ran.served.sessions journal) olds news)
-      → (run_told z inputs lefts ends journal pool olds news ran sends).run.sessions ≡ ran.served.sessions
+      → (run_told z givens endeds ends journal pool olds news ran sends).run.sessions ≡ ran.served.sessions
   unfolding run_told
-  run_sessions z inputs lefts ends journal pool olds news ran sends = refl
+  run_sessions z givens endeds ends journal pool olds news ran sends = refl
 
-  pub served_to : (z : Sizes) (inputs lefts : List (Option (List ℕ))) (ends : List SessionEnd) (counts : List ℕ)
+  pub served_to : (z : Sizes) (givens : List (List ℕ)) (endeds : List Bool) (ends : List SessionEnd) (counts : List ℕ)
       (journal : List (List Entry)) (pool : End) (olds news : List W)
-      → RanAll put_may flush_may z inputs lefts ends counts journal pool olds news
-      → IsServedRun z inputs lefts ends journal pool olds news told
-  served_to z inputs lefts ends counts journal pool olds news ran = run_told z inputs lefts ends journal pool olds news
-      ran.ran ran.sends
+      → RanAll put_may flush_may z givens endeds ends counts journal pool olds news
+      → IsServedRun z givens endeds ends journal pool olds news told
+  served_to z givens endeds ends counts journal pool olds news ran = run_told z givens endeds ends journal pool olds
+      news ran.ran ran.sends
 
-  pub served_sessions : (z : Sizes) (inputs lefts : List (Option (List ℕ))) (ends : List SessionEnd) (counts : List ℕ)
-      (journal : List (List Entry)) (pool : End) (olds news : List W)
-      → (ran : RanAll put_may flush_may z inputs lefts ends counts journal pool olds news)
-      → (served_to z inputs lefts ends counts journal pool olds news ran).run.sessions ≡ ran.ran.served.sessions
+  pub served_sessions : (z : Sizes) (givens : List (List ℕ)) (endeds : List Bool) (ends : List SessionEnd)
+      (counts : List ℕ) (journal : List (List Entry)) (pool : End) (olds news : List W)
+      → (ran : RanAll put_may flush_may z givens endeds ends counts journal pool olds news)
+      → (served_to z givens endeds ends counts journal pool olds news ran).run.sessions ≡ ran.ran.served.sessions
   unfolding served_to
-  served_sessions z inputs lefts ends counts journal pool olds news ran = run_sessions z inputs lefts ends journal pool
-      olds news ran.ran ran.sends
+  served_sessions z givens endeds ends counts journal pool olds news ran = run_sessions z givens endeds ends journal
+      pool olds news ran.ran ran.sends
 
--- there are as many sources behind a run, and ends, as inputs
-pub lefts_count : {W : Type 0} (z : Sizes) (inputs lefts : List (Option (List ℕ))) (ends : List SessionEnd)
+-- there are as many ends as sources
+pub ends_count : {W : Type 0} (z : Sizes) (givens : List (List ℕ)) (endeds : List Bool) (ends : List SessionEnd)
     (journal : List (List Entry)) (pool : End) (olds news : List W) (told : W → WireTold)
-    → IsServedRun z inputs lefts ends journal pool olds news told → length lefts ≡ length inputs
-lefts_count z inputs lefts ends journal pool olds news told r =
-    let sessions = r.run.sessions in
-    let left : length sessions ≡ length lefts = sym (length-map sessions (λ (session : Session). session.left))
-    ∙ ap length r.run.lefts_are in
-    let input : length sessions ≡ length inputs = sym (length-map sessions (λ (session : Session). session.input))
-    ∙ ap length r.run.inputs_are in
-    sym left ∙ input
-
-pub ends_count : {W : Type 0} (z : Sizes) (inputs lefts : List (Option (List ℕ))) (ends : List SessionEnd)
-    (journal : List (List Entry)) (pool : End) (olds news : List W) (told : W → WireTold)
-    → IsServedRun z inputs lefts ends journal pool olds news told → length ends ≡ length inputs
-ends_count z inputs lefts ends journal pool olds news told r =
+    → IsServedRun z givens endeds ends journal pool olds news told → length ends ≡ length givens
+ends_count z givens endeds ends journal pool olds news told r =
     let sessions = r.run.sessions in
     let end : length sessions ≡ length ends = sym (length-map sessions (λ (session : Session). session.end))
     ∙ ap length r.run.ends_are in
-    let input : length sessions ≡ length inputs = sym (length-map sessions (λ (session : Session). session.input))
-    ∙ ap length r.run.inputs_are in
-    sym end ∙ input
+    let given : length sessions ≡ length givens = sym (length-map sessions (λ (session : Session). session.given))
+    ∙ ap length r.run.given_is in
+    sym end ∙ given

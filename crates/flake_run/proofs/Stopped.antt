@@ -1,5 +1,6 @@
 -- Statuses of runs that served nothing.
-use Rattle.std.proofs.Common.{◌≡◌, ◌⊎◌, inl, inr, ℕ, zero, suc, List, [], ◌∷◌, Some, slice_get, arith, subst}
+use Rattle.std.proofs.Common.{◌≡◌, ◌⊎◌, inl, inr, ℕ, zero, suc, List, [], ◌∷◌, Some, None, map, slice_get, arith, ap}
+use Rattle.std.proofs.Common.{refl, subst}
 use Rattle.std.specs.List.{AllByRecursion}
 use Rattle.flake_base.specs.Told.{WireTold, HostTold}
 use Rattle.flake_run.specs.Task.{Job, RunTask}
@@ -40,3 +41,16 @@ pub at_place : {A : Type 0} (P : A → Type 0) (xs : List A) (k : ℕ) (x : A) �
 at_place P [] k x all is = absurd (cc is)
 at_place P (y ∷ ys) zero x all is = let same : y ≡ x = cc is in subst P same all.0
 at_place P (y ∷ ys) (suc k) x all is = at_place P ys k x all.1 is
+
+-- and so it is in a map of the list
+pub at_map : {A B : Type 0} (f : A → B) (xs : List A) (k : ℕ) (x : A) → slice_get xs k ≡ Some x → slice_get (map f xs) k
+    ≡ Some (f x)
+at_map f [] k x is = absurd (cc is)
+at_map f (y ∷ ys) zero x is = let same : y ≡ x = cc is in ap (λ z. Some (f z)) same
+at_map f (y ∷ ys) (suc k) x is = at_map f ys k x is
+
+pub none_at_map : {A B : Type 0} (f : A → B) (xs : List A) (k : ℕ) → slice_get xs k ≡ None → slice_get (map f xs) k
+    ≡ None
+none_at_map f [] k is = refl
+none_at_map f (y ∷ ys) zero is = absurd (cc is)
+none_at_map f (y ∷ ys) (suc k) is = none_at_map f ys k is

@@ -2,7 +2,7 @@
 use Rattle.std.proofs.Common.{◌≡◌, ◌<◌, ◌≤◌, ℕ, ◌+◌, List, [], ◌∷◌, length, take, get_or, arith, ap, ◌∙◌}
 use Rattle.std.proofs.lemmas.List.{take_all, take_more}
 use Rattle.view_sums.proofs.Sums.{total-append}
-use Rattle.flake_base.specs.Told.{raised}
+use Rattle.serve_inputs.specs.Whole.{raised}
 use Rattle.flake_base.specs.declared.session.SessionEnd.{SessionEnd}
 use Rattle.flake_run.specs.Generated.{replies_in, sum_of}
 

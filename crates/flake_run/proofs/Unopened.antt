@@ -1,52 +1,51 @@
 -- What a run says of which a file did not open.
-use Rattle.std.proofs.Common.{◌≡◌, inl, inr, ℕ, suc, ◌==◌, if◌then◌else◌, List, [], Option, Some, IsSomeAnd, length}
-use Rattle.std.proofs.Common.{map, take, slice_get, arith, ap, sym, ◌∙◌, subst}
+use Rattle.std.proofs.Common.{◌≡◌, inl, inr, ℕ, suc, ◌==◌, if◌then◌else◌, List, [], Some, IsSomeAnd, length}
+use Rattle.std.proofs.Common.{take, slice_get, arith, ap, sym, ◌∙◌, subst}
 use Rattle.std.specs.List.{range_with_len}
-use Rattle.std.proofs.lemmas.List.{length-take}
+use Rattle.std.proofs.lemmas.List.{length-map, length-take}
 use Rattle.std.proofs.lemmas.List.Elements.{recursion_from_All}
 use Rattle.flake_base.specs.Calls.{counted}
 use Rattle.flake_base.specs.Causes.{Rose}
 use Rattle.flake_base.specs.Told.{HostTold, WireTold}
 use Rattle.check_files.specs.Named.{AreOther, counted_times}
-use Rattle.flake_run.specs.Opening.{FailsToOpen}
+use Rattle.flake_run.specs.Does.{ServeDoes}
+use Rattle.flake_run.specs.Opening.{AreOfFiles, FailsToOpen}
 use Rattle.flake_run.specs.Task.{Job, RunTask}
 use Rattle.flake_run.specs.Outside.{outside}
-use Rattle.flake_run.specs.Outcome.{RunOutcome, SourceTold, files_of, source_lefts, read_faults_of}
+use Rattle.flake_run.specs.Outcome.{RunOutcome, SourceTold, files_of, sources_of}
 use Rattle.flake_run.specs.Refusals.{RunRefused}
 use Rattle.flake_run.specs.Untouched.{Untouched}
 use Rattle.flake_run.specs.Causes.{Causes, OpenFailed}
-use Rattle.flake_run.specs.Complete.{Complete}
+use Rattle.flake_run.specs.Complete.{Complete, NothingFailed}
 use Rattle.flake_run.specs.Said.{Said, PrintsStatus, served_text, status_text}
 use Rattle.flake_run.specs.declared.outcome.Detail.TheVariants.{File}
 use Rattle.flake_run.specs.declared.outcome.Refusal.TheVariants.{OpenFault}
-use Rattle.flake_run.proofs.Ran.{Clauses, IsTask, says_since}
+use Rattle.flake_run.specs.declared.outcome.Opened.{Opened}
+use Rattle.flake_run.proofs.Ran.{IsTask, says_since, as_many_sources}
 use Rattle.flake_run.proofs.Stopped.{not_served, not_written, not_refusable, at_place}
-use Rattle.flake_run.proofs.Unread.{distinct_front, none_read}
 
 -- the files in front were opened, the open of the next one failed, and that was said
 pub record Unopened {W : Type 0} (tells : W → WireTold) (job : Job) (host mid now : HostTold) (wires after : List W)
-    (before : RunOutcome) (sources : List SourceTold) : Type 0 where
-  pub lefts : List (Option (List ℕ))
-  pub zeros : List ℕ
-  pub fails : FailsToOpen job.names host mid lefts zeros
+    (before : RunOutcome) (sources : List (Opened SourceTold)) : Type 0 where
+  pub fails : FailsToOpen job.names host mid (sources_of sources)
   pub refused : RunRefused (OpenFault (length sources)) (outside mid wires tells) (outside now after tells) before
-  pub as_many : length lefts ≡ length sources
-  pub lefts_are : source_lefts sources ≡ lefts
-  pub faults_are : read_faults_of sources ≡ zeros
   pub files_are : files_of sources ≡ range_with_len 0 (length sources)
 
 module _ {W : Type 0} (tells : W → WireTold) (task : RunTask) (job : Job) (host mid now : HostTold)
-    (wires after : List W) (before : RunOutcome) (sources : List SourceTold)
+    (wires after : List W) (before : RunOutcome) (sources : List (Opened SourceTold))
     (t : IsTask task job wires) (u : Unopened tells job host mid now wires after before sources) where
   two : before.status ≡ 2
   two = u.refused.status
 
+  as_many : length (sources_of sources) ≡ length sources
+  as_many = length-map sources (λ (one : Opened SourceTold). one.source)
+
   name_is : slice_get job.names (length sources) ≡ Some u.fails.name
-  name_is = ap (slice_get job.names) (sym u.as_many) ∙ u.fails.name_is
+  name_is = ap (slice_get job.names) (sym as_many) ∙ u.fails.name_is
 
   rose_since : Rose (host.open_faults u.fails.name) (now.open_faults u.fails.name)
   rose_since =
-      subst (λ n. Rose n (now.open_faults u.fails.name)) (u.fails.opened.open_faults u.fails.name)
+      subst (λ n. Rose n (now.open_faults u.fails.name)) (u.fails.opened.host.open_faults u.fails.name)
       (subst (Rose (u.fails.between.open_faults u.fails.name)) (sym (u.refused.files.open_faults u.fails.name))
       u.fails.unopened.rose)
 
@@ -57,12 +56,12 @@ module _ {W : Type 0} (tells : W → WireTold) (task : RunTask) (job : Job) (hos
   holds_since : (other : List ℕ) → AreOther other (take (length sources) job.names) → now.holds other ≡ host.holds other
   holds_since other all =
       u.refused.files.holds other ∙ u.fails.unopened.holds other
-      ∙ u.fails.opened.holds other (subst (λ n. AreOther other (take n job.names)) (sym u.as_many) all)
+      ∙ u.fails.opened.host.holds other (subst (λ n. AreOther other (take n job.names)) (sym as_many) all)
 
   opens_since : now.opens ≡ counted_times (suc (length sources)) host.opens
   opens_since = u.refused.files.opens ∙ u.fails.unopened.opens
-      ∙ ap counted (u.fails.opened.opens ∙ ap (λ n. counted_times n host.opens)
-      (sym u.fails.opened.as_many ∙ u.as_many))
+      ∙ ap counted (u.fails.opened.host.opens ∙ ap (λ n. counted_times n host.opens)
+      (sym (as_many_sources _ _ _ u.fails.opened.of_files) ∙ as_many))
 
   unopened_untouched : Untouched (Some job) (outside host wires tells) (outside now after tells)
       (record before { sources = sources })
@@ -70,9 +69,9 @@ module _ {W : Type 0} (tells : W → WireTold) (task : RunTask) (job : Job) (hos
     wires = λ none. u.refused.wires;
     journal = λ none. u.refused.journal;
     pool = λ none. (u.refused.pool, u.refused.held);
-    unread = λ none. none_read sources (take (length u.lefts) job.names) (u.faults_are ∙ u.fails.opened.fresh);
-    left = λ none distinct. u.lefts_are ∙ u.fails.opened.lefts_are (distinct_front (length u.lefts) job.names distinct)
-        ∙ ap (λ n. map host.holds (take n job.names)) u.as_many;
+    unread = λ none. u.fails.opened.unread;
+    of_files = subst (λ n. AreOfFiles (take n job.names) host.holds (sources_of sources)) as_many
+        u.fails.opened.of_files;
     refused = λ status. u.refused.ends;
     sources = λ one. absurd (omega (arith, one, two));
     holds = λ one. absurd (omega (arith, one, two));
@@ -98,19 +97,28 @@ module _ {W : Type 0} (tells : W → WireTold) (task : RunTask) (job : Job) (hos
     written = λ status. not_written before.status (inl two) status;
     detail = λ is. u.refused.detail;
     no_detail = λ other. absurd (other two);
-    sources = omega (arith, u.as_many, u.fails.opened.as_many, length-take (length u.lefts) job.names);
+    sources = omega (
+      arith,
+      as_many,
+      as_many_sources _ _ _ u.fails.opened.of_files,
+      length-take (length (sources_of sources)) job.names,
+    );
     in_order = u.files_are;
   }
 
   unopened_complete : Complete (Some job) (outside host wires tells) (outside now after tells)
       (record before { sources = sources })
   unopened_complete = record {
-    whole = λ enough distinct nothing whole. absurd
-        (at_place (λ (name : List ℕ). Rose (host.open_faults name) (now.open_faults name) → ⊥) job.names
+    whole = λ enough nothing whole. absurd (none nothing);
+    told = λ enough nothing distinct told. absurd (none nothing);
+  } where
+    none : NothingFailed job.names (outside host wires tells) (outside now after tells)
+        (record before { sources = sources }) → ⊥
+    none nothing =
+        at_place (λ (name : List ℕ). Rose (host.open_faults name) (now.open_faults name) → ⊥) job.names
         (length sources) u.fails.name
         (recursion_from_All (λ (name : List ℕ). Rose (host.open_faults name) (now.open_faults name) → ⊥) job.names
-        nothing.opens) name_is rose_since);
-  }
+        nothing.opens) name_is rose_since
 
   text_is : status_text before.status before.detail (served_text job.journal before.journal before.ends before.held)
       ≡ status_text 2 (File (length sources)) []
@@ -121,14 +129,16 @@ module _ {W : Type 0} (tells : W → WireTold) (task : RunTask) (job : Job) (hos
       (record before { sources = sources })
   unopened_said = record {
     text = λ other. subst (λ text. PrintsStatus text host now) (sym text_is)
-        (says_since _ host mid now (u.fails.unopened.said ∙ u.fails.opened.said)
-        (u.fails.unopened.say_faults ∙ u.fails.opened.say_faults) u.refused.said);
+        (says_since _ host mid now (u.fails.unopened.said ∙ u.fails.opened.host.said)
+        (u.fails.unopened.say_faults ∙ u.fails.opened.host.say_faults) u.refused.said);
     no_memory = λ six. absurd (omega (arith, six, two));
     served = λ some. absurd (some u.refused.ends);
   }
 
-  pub unopened_all : Clauses tells task host now wires after (record before { sources = sources })
-  unopened_all = subst (λ t. Clauses tells t host now wires after (record before { sources = sources })) (sym t.task_is)
+  pub unopened_all : ServeDoes task (outside host wires tells) (outside now after tells)
+      (record before { sources = sources })
+  unopened_all = subst (λ t. ServeDoes t (outside host wires tells) (outside now after tells)
+      (record before { sources = sources })) (sym t.task_is)
       (record {
         served = λ some. absurd (some u.refused.ends);
         untouched = unopened_untouched;

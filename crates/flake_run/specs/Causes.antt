@@ -1,5 +1,5 @@
 -- When a run answers what.
-use Rattle.std.specs.Prelude.{◌≡◌, ◌≢◌, ◌⊎◌, ◌≤◌, ◌<◌, ◌∷◌, [], ℕ, List, length, max, slice_get, slice_index}
+use Rattle.std.specs.Prelude.{◌≡◌, ◌≢◌, ◌⊎◌, ◌≤◌, ◌<◌, ◌∷◌, [], ℕ, List, length, max, slice_get, slice_index_or}
 use Rattle.std.specs.Prelude.{All, IsNone, IfSome, IsSomeAnd}
 use Rattle.std.specs.List.{range_with_len}
 use Rattle.flake_base.specs.Causes.{Rose}
@@ -10,7 +10,7 @@ use Rattle.flake_base.specs.declared.session.End.TheVariants.{Left}
 use Rattle.command_pump.specs.Pump.{EndFaults}
 use Rattle.flake_run.specs.Task.{RunTask, names_of}
 use Rattle.flake_run.specs.Outside.{Outside, wire_faults}
-use Rattle.flake_run.specs.Outcome.{RunOutcome, ways, files_of, read_faults_of}
+use Rattle.flake_run.specs.Outcome.{RunOutcome, ways, files_of, sources_of, read_faults_of}
 use Rattle.flake_run.specs.declared.outcome.Detail.{Detail}
 use Rattle.flake_run.specs.declared.outcome.Detail.TheVariants.{Nothing, File}
 
@@ -35,10 +35,15 @@ AreCountsOf [] counts = counts ≡ []
 AreCountsOf (end ∷ ends) [] = ⊥
 AreCountsOf (end ∷ ends) (count ∷ counts) = EndFaults end 0 count × AreCountsOf ends counts
 
--- the count of puts that failed rose on one of so many first wires
-abbrev pub SomePutFailed : {W : Type 0} → ℕ → Outside W → Outside W → Type 0
-SomePutFailed sessions before after = (session : ℕ) × (session < sessions)
-    × Rose (slice_index (wire_faults before) session) (slice_index (wire_faults after) session)
+-- the count of puts that failed rose, or that of flushes
+abbrev pub EitherRose : ℕ × ℕ → ℕ × ℕ → Type 0
+EitherRose old new = Rose old.0 new.0 ⊎ Rose old.1 new.1
+
+-- so it did on one of so many first wires
+abbrev pub SomeWireFailed : {W : Type 0} → ℕ → Outside W → Outside W → Type 0
+SomeWireFailed sessions before after = (session : ℕ) × (session < sessions)
+    × EitherRose (slice_index_or (wire_faults before) session (0, 0))
+    (slice_index_or (wire_faults after) session (0, 0))
 
 -- the open of the file that is named failed
 abbrev pub OpenFailed : List (List ℕ) → Detail → HostTold → HostTold → Type 0
@@ -70,10 +75,10 @@ pub record Causes {W : Type 0} (task : RunTask) (before after : Outside W) (done
   pub opened : done.status ≢ 2 → done.status ≢ 6
       → (name : List ℕ) → after.host.open_faults name ≡ before.host.open_faults name
   -- a read failed exactly where the end says so
-  pub reads : done.ends ≢ [] → AreCountsOf (ways done.ends) (read_faults_of done.sources)
-  -- 5 only where a put or a say failed, and memory was not wanting
+  pub reads : done.ends ≢ [] → AreCountsOf (ways done.ends) (read_faults_of (sources_of done.sources))
+  -- 5 only where a put, a flush or a say failed, and memory was not wanting
   pub write_fault : done.status ≡ 5 → All (λ way. status_by way ≢ 6) (ways done.ends)
-      × (Rose before.host.say_faults after.host.say_faults ⊎ SomePutFailed (length done.ends) before after)
+      × (Rose before.host.say_faults after.host.say_faults ⊎ SomeWireFailed (length done.ends) before after)
   -- and with 0, 3 and 4 none did
   pub written : (done.status ≡ 0) ⊎ (done.status ≡ 3) ⊎ (done.status ≡ 4)
       → (after.host.say_faults ≡ before.host.say_faults) × (wire_faults after ≡ wire_faults before)

@@ -1,29 +1,37 @@
 -- Nothing is refused without a cause.
-use Rattle.std.specs.Prelude.{◌≡◌, ◌≢◌, ◌≤◌, ℕ, List, Option, length, All, IfSome, IsSomeAnd}
+use Rattle.std.specs.Prelude.{◌≡◌, ◌≢◌, ◌≤◌, ℕ, List, length, All, IfSome, IsSomeAnd}
+use Rattle.std.specs.List.{AllByRecursion}
 use Rattle.flake_base.specs.Causes.{Rose}
 use Rattle.flake_base.specs.declared.session.End.TheVariants.{Clean}
 use Rattle.flake_model.specs.Resp.{Words, Parses}
 use Rattle.check_files.specs.Named.{AreDistinct}
 use Rattle.flake_run.specs.Task.{RunTask}
 use Rattle.flake_run.specs.Outside.{Outside}
-use Rattle.flake_run.specs.Outcome.{RunOutcome}
-use Rattle.flake_run.specs.Causes.{SomePutFailed}
+use Rattle.flake_run.specs.Outcome.{RunOutcome, SourceTold, MayHold, read_faults_of, sources_of}
+use Rattle.flake_run.specs.Causes.{SomeWireFailed}
 
 -- memory was not wanting, and no count of failed calls rose
 pub record NothingFailed {W : Type 0} (names : List (List ℕ)) (before after : Outside W) (done : RunOutcome)
     : Type 0 where
   pub memory : done.status ≢ 6
   pub opens : All (λ name. Rose (before.host.open_faults name) (after.host.open_faults name) → ⊥) names
-  pub reads : All (λ source. source.faults ≡ 0) done.sources
+  pub reads : All (λ count. count ≡ 0) (read_faults_of (sources_of done.sources))
   pub says : Rose before.host.say_faults after.host.say_faults → ⊥
-  pub puts : SomePutFailed (length names) before after → ⊥
+  pub puts : SomeWireFailed (length names) before after → ⊥
 
--- an input that is told, and is whole requests
-abbrev pub IsWholeInput : Option (List ℕ) → Type 0
-IsWholeInput input = IsSomeAnd input (λ bytes. (requests : List Words) × Parses bytes requests Clean)
+-- whole requests
+abbrev pub AreRequests : List ℕ → Type 0
+AreRequests bytes = (requests : List Words) × Parses bytes requests Clean
+
+-- by what a source gave, its bytes may be whole requests, also where it doesn't tell what it holds
+abbrev pub MayHoldRequests : SourceTold → Type 0
+MayHoldRequests source = (bytes : List ℕ) × MayHold bytes source × AreRequests bytes
 
 pub record Complete {W : Type 0} (task : RunTask) (before after : Outside W) (done : RunOutcome) : Type 0 where
-  -- where the words are accepted and nothing failed, inputs of whole requests are served with status 0
-  pub whole : IfSome task (λ job. length job.names ≤ length before.wires → AreDistinct job.names
-      → NothingFailed job.names before after done → All (λ name. IsWholeInput (before.host.holds name)) job.names
+  -- where the words are accepted and nothing failed, sources of whole requests are served with status 0
+  pub whole : IfSome task (λ job. length job.names ≤ length before.wires → NothingFailed job.names before after done
+      → AllByRecursion MayHoldRequests (sources_of done.sources) → done.status ≡ 0)
+  -- and so are those that the host tells to be that, where no name stands twice
+  pub told : IfSome task (λ job. length job.names ≤ length before.wires → NothingFailed job.names before after done
+      → AreDistinct job.names → All (λ name. IsSomeAnd (before.host.holds name) AreRequests) job.names
       → done.status ≡ 0)

@@ -1,4 +1,4 @@
--- What a check comes to, and what is answered and said of it.
+-- What files come to, and what is answered and said of it.
 use Rattle.std.specs.Prelude.{ℕ, ◌++◌, List, Option, Some, None, Result, Ok, Err, codes}
 use Rattle.std.specs.Fmt.{decimal}
 use Rattle.flake_model.specs.Said.{said_line}
@@ -10,7 +10,7 @@ use Rattle.flake_run.specs.declared.outcome.Detail.{Detail}
 use Rattle.flake_run.specs.declared.outcome.Detail.TheVariants as detail
 use Rattle.flake_run.specs.declared.finding.Finding.{Finding}
 use Rattle.flake_run.specs.declared.finding.Finding.TheVariants.{BadWords, OpenFault, ReadFault, TooLarge, BadLine}
-use Rattle.flake_run.specs.declared.finding.Finding.TheVariants.{Judged, Memory}
+use Rattle.flake_run.specs.declared.finding.Finding.TheVariants.{Judged, BadFrame, Missing, Memory}
 
 abbrev pub stopped_by : CheckError → Finding
 stopped_by (errors.OpenFault file) = OpenFault file
@@ -36,6 +36,8 @@ finding_status (ReadFault file) = 4
 finding_status (TooLarge file) = 9
 finding_status (BadLine line) = 7
 finding_status (Judged verdict) = verdict_status verdict
+finding_status (BadFrame number) = 7
+finding_status (Missing call frame) = 8
 finding_status Memory = 6
 
 -- the status, where saying it fails
@@ -55,6 +57,8 @@ finding_detail (ReadFault file) = detail.File file
 finding_detail (TooLarge file) = detail.File file
 finding_detail (BadLine line) = detail.Line line
 finding_detail (Judged verdict) = verdict_detail verdict
+finding_detail (BadFrame number) = detail.Frame number
+finding_detail (Missing call frame) = detail.Missing call frame
 finding_detail Memory = detail.Nothing
 
 abbrev pub byte_text : Option ℕ → List ℕ
@@ -76,4 +80,7 @@ finding_text (ReadFault file) = said_line (codes "read fault " ++ decimal file)
 finding_text (TooLarge file) = said_line (codes "too large " ++ decimal file)
 finding_text (BadLine line) = said_line (codes "bad line " ++ decimal line)
 finding_text (Judged verdict) = verdict_text verdict
+finding_text (BadFrame number) = said_line (codes "bad frame " ++ decimal number)
+finding_text (Missing call frame) =
+    said_line (codes "missing call " ++ decimal call ++ codes " frame " ++ decimal frame)
 finding_text Memory = said_line (codes "out of memory")

@@ -17,3 +17,5 @@ pub mod DriveTask
 pub mod Schedule
 pub mod Driven
 pub mod Drove
+pub mod Joined
+pub mod Does

@@ -1,6 +1,7 @@
 -- What stands outside of a run: the host, and the wires.
-use Rattle.std.specs.Prelude.{◌≡◌, ℕ, List, Option, map}
+use Rattle.std.specs.Prelude.{◌≡◌, ℕ, List, map}
 use Rattle.flake_base.specs.Told.{HostTold, WireTold}
+use Rattle.flake_model.specs.Wire.{faults_told}
 
 -- the wires stand for themselves, beside what each of them tells
 pub record Outside (W : Type 0) : Type 0 where
@@ -11,17 +12,20 @@ pub record Outside (W : Type 0) : Type 0 where
 abbrev pub outside : {W : Type 0} → HostTold → List W → (W → WireTold) → Outside W
 outside host wires tells = record { host = host; wires = wires; tells = tells }
 
-abbrev pub wires_sent : {W : Type 0} → Outside W → List (Option (List ℕ))
-wires_sent out = map (λ wire. (out.tells wire).sent) out.wires
+-- what each wire tells
+abbrev pub wires_told : {W : Type 0} → Outside W → List WireTold
+wires_told out = map out.tells out.wires
 
-abbrev pub wire_bytes : {W : Type 0} → Outside W → List ℕ
-wire_bytes out = map (λ wire. (out.tells wire).bytes) out.wires
+-- all bytes that were put on each wire
+abbrev pub put_on : {W : Type 0} → Outside W → List (List ℕ)
+put_on out = map (λ wire. (out.tells wire).put) out.wires
 
 abbrev pub kept_by : {W : Type 0} → Outside W → List ℕ
 kept_by out = map (λ wire. (out.tells wire).kept) out.wires
 
-abbrev pub wire_faults : {W : Type 0} → Outside W → List ℕ
-wire_faults out = map (λ wire. (out.tells wire).faults) out.wires
+-- how often a put of each wire failed, and how often a flush
+abbrev pub wire_faults : {W : Type 0} → Outside W → List (ℕ × ℕ)
+wire_faults out = map (λ wire. faults_told (out.tells wire)) out.wires
 
 -- all that is held is as it was, and no file was opened
 pub record LeavesFiles (old new : HostTold) : Type 0 where

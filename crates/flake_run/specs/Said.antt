@@ -1,14 +1,15 @@
 -- What a run says to its host.
-use Rattle.std.specs.Prelude.{◌≡◌, ◌≢◌, ◌⊎◌, ℕ, ◌==◌, ◌++◌, ◌∷◌, Bool, if◌then◌else◌, true, false, List, [], codes}
+use Rattle.std.specs.Prelude.{◌≡◌, ◌≢◌, ℕ, ◌==◌, ◌++◌, Bool, if◌then◌else◌, true, false, List, [], codes}
 use Rattle.std.specs.Fmt.{decimal}
 use Rattle.flake_base.specs.Causes.{Rose}
 use Rattle.flake_base.specs.Growth.{Grew}
 use Rattle.flake_base.specs.Told.{HostTold}
 use Rattle.flake_base.specs.declared.journal.Entry.{Entry}
 use Rattle.flake_base.specs.declared.session.SessionEnd.{SessionEnd}
-use Rattle.flake_model.specs.Said.{said_line, summary_from}
+use Rattle.flake_model.specs.Said.{said_line}
 use Rattle.journal_text.specs.Text.{journal_text_of as journal_text}
 use Rattle.pin_core.specs.declared.class.Held.{Held}
+use Rattle.report_text.specs.Report.{summary_of}
 use Rattle.flake_run.specs.Task.{RunTask, shows_journal}
 use Rattle.flake_run.specs.Outside.{Outside}
 use Rattle.flake_run.specs.Outcome.{RunOutcome}
@@ -24,18 +25,6 @@ pub record PrintsStatus (text : List ℕ) (old new : HostTold) : Type 0 where
 pub record SaysNothing (old new : HostTold) : Type 0 where
   pub said : new.said ≡ old.said
   pub none_failed : new.say_faults ≡ old.say_faults
-
--- A text was said. Or nothing was, where memory was wanting for the text itself, which has a status of its own.
-abbrev pub SaysOrLacksRoom : ℕ → List ℕ → HostTold → HostTold → Type 0
-SaysOrLacksRoom status text old new = PrintsStatus text old new ⊎ ((status ≡ 6) × SaysNothing old new)
-
--- how many small and large buffers are held at the end
-abbrev pub held_line : Held → List ℕ
-held_line held = said_line (codes "held " ++ decimal held.small ++ 32 ∷ decimal held.large)
-
--- how each session ended, and what is held
-abbrev pub summary_of : List SessionEnd → Held → List ℕ
-summary_of ends held = summary_from 0 ends ++ held_line held
 
 -- what is said of files that were served: the journal's text alone, or the summary
 abbrev pub served_text : Bool → List (List Entry) → List SessionEnd → Held → List ℕ
@@ -63,5 +52,4 @@ pub record Said {W : Type 0} (task : RunTask) (before after : Outside W) (done :
       after.host
   -- where something was served the same is said of it, also where memory was wanting
   pub served : done.ends ≢ []
-      → SaysOrLacksRoom done.status (served_text (shows_journal task) done.journal done.ends done.held)
-      before.host after.host
+      → PrintsStatus (served_text (shows_journal task) done.journal done.ends done.held) before.host after.host

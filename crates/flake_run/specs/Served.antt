@@ -1,33 +1,28 @@
 -- What a run says of what it served.
-use Rattle.std.specs.Prelude.{◌≡◌, ◌≢◌, ◌≤◌, ℕ, List, [], Option, Some, length, map, drop, All}
+use Rattle.std.specs.Prelude.{◌≡◌, ◌≢◌, ◌≤◌, Some, length, map, drop, All}
 use Rattle.std.specs.List.{range_with_len}
-use Rattle.flake_base.specs.Told.{HostTold}
 use Rattle.flake_base.specs.declared.session.End.TheVariants.{Left}
 use Rattle.flake_model.specs.Run.{WasServed, all_commands, missing_writes, wire_texts}
-use Rattle.flake_model.specs.Wire.{FaultsAre, BytesAre, KeptAre}
+use Rattle.flake_model.specs.Wire.{FaultsAre, KeptAre, WiresGrew}
 use Rattle.pin_core.specs.declared.class.Class.{Class}
 use Rattle.pinned_pool.specs.Claims.{count_of}
 use Rattle.pinned_pool.specs.Ends.{End}
 use Rattle.serve_model.specs.Demand.{demand_of}
 use Rattle.serve_model.specs.Shown.{IsCounted}
-use Rattle.check_files.specs.Named.{AreDistinct, counted_times}
-use Rattle.flake_run.specs.Opening.{HaveTheirOwn}
+use Rattle.check_files.specs.Named.{counted_times}
+use Rattle.flake_run.specs.Opening.{AreOfFiles}
 use Rattle.flake_run.specs.Task.{RunTask, names_of, pool_of, shards_of}
-use Rattle.flake_run.specs.Outside.{Outside, wires_sent, wire_bytes, kept_by, wire_faults}
-use Rattle.flake_run.specs.Outcome.{RunOutcome, ways, files_of, source_lefts}
-
--- what the host held under the names of the files, where it tells that
-abbrev pub held_inputs : RunTask → HostTold → List (Option (List ℕ))
-held_inputs task host = map host.holds (names_of task)
+use Rattle.flake_run.specs.Outside.{Outside, put_on, kept_by, wire_faults}
+use Rattle.flake_run.specs.Outcome.{RunOutcome, ways, files_of, sources_of, givens_of, endeds_of}
 
 pub record Served {W : Type 0} (task : RunTask) (before after : Outside W) (done : RunOutcome) : Type 0 where
-  -- the inputs were held under the names, where no name stands twice; else each was that stands under its name first
-  pub inputs : List (Option (List ℕ))
-  pub inputs_are : AreDistinct (names_of task) → inputs ≡ held_inputs task before.host
-  pub own : HaveTheirOwn before.host.holds [] (names_of task) inputs
-  -- the journal has the parts that were run, in one history, and the wires were sent the texts of the replies that it
-  -- gives
-  pub run : WasServed inputs (source_lefts done.sources) done.ends done.journal (wires_sent before) (wires_sent after)
+  -- the sources that come back are those of the files that the words name
+  pub of_files : AreOfFiles (names_of task) before.host.holds (sources_of done.sources)
+  -- the requests were what these gave, and the journal has the parts of them that were run, in one history
+  pub run : WasServed (givens_of (sources_of done.sources)) (endeds_of (sources_of done.sources)) done.ends done.journal
+  -- what was put on a wire grew by the texts of its session's replies, which the journal gives; or by a front of them,
+  -- where it failed
+  pub wires : WiresGrew (wire_texts run.sessions done.journal) (put_on before) (put_on after)
   -- what the closed pool shows by the journal: a buffer is held for each fragment of a final value, as many were
   -- claimed as the commands may claim at most, and a write without an entry found no free buffer
   pub pool : End
@@ -37,8 +32,6 @@ pub record Served {W : Type 0} (task : RunTask) (before after : Outside W) (done
   -- and every write has its entry, where the pool has as many buffers of each class as the commands may claim
   pub none_missing : ((class : Class) → demand_of class (all_commands run.sessions) ≤ count_of (pool_of task) class)
       → missing_writes run.sessions done.journal ≡ 0
-  -- as many bytes were put as the texts have, also on a wire that doesn't tell which
-  pub bytes : BytesAre (wire_texts run.sessions done.journal) (wire_bytes before) (wire_bytes after)
   -- a wire that didn't fail keeps none of them back
   pub flushed : KeptAre (map (λ end. end.failed) done.ends) (kept_by before) (kept_by after)
   -- a session failed where its wire's count of faults rose, and else that count is as it was

@@ -1,10 +1,11 @@
 -- What a run leaves as it was.
-use Rattle.std.specs.Prelude.{◌≡◌, ◌⊎◌, ℕ, suc, ◌==◌, if◌then◌else◌, List, [], None, length, map, take}
+use Rattle.std.specs.Prelude.{◌≡◌, ◌⊎◌, ℕ, suc, ◌==◌, if◌then◌else◌, List, [], None, length, take}
 use Rattle.std.specs.List.{AllByRecursion}
-use Rattle.check_files.specs.Named.{AreDistinct, AreOther, counted_times}
+use Rattle.check_files.specs.Named.{AreOther, counted_times}
+use Rattle.flake_run.specs.Opening.{AreOfFiles}
 use Rattle.flake_run.specs.Task.{RunTask, names_of}
 use Rattle.flake_run.specs.Outside.{Outside}
-use Rattle.flake_run.specs.Outcome.{RunOutcome, source_lefts, none_held}
+use Rattle.flake_run.specs.Outcome.{RunOutcome, IsUntouched, none_held, sources_of}
 
 -- the files that were opened
 abbrev pub opened_of : RunTask → RunOutcome → List (List ℕ)
@@ -21,11 +22,10 @@ pub record Untouched {W : Type 0} (task : RunTask) (before after : Outside W) (d
   pub journal : done.ends ≡ [] → done.journal ≡ []
   -- and no pool, of which anything is held
   pub pool : done.ends ≡ [] → (done.pool ≡ None) × (done.held ≡ none_held)
-  -- and no source that comes back was read: no read of it failed
-  pub unread : done.ends ≡ [] → AllByRecursion (λ source. source.faults ≡ 0) done.sources
-  -- and it has all that the host held under its name, where no name stands twice
-  pub left : done.ends ≡ [] → AreDistinct (names_of task)
-      → source_lefts done.sources ≡ map before.host.holds (opened_of task done)
+  -- and nothing was read of a source that comes back
+  pub unread : done.ends ≡ [] → AllByRecursion IsUntouched (sources_of done.sources)
+  -- whatever the status, those that come back are the sources of the first files
+  pub of_files : AreOfFiles (opened_of task done) before.host.holds (sources_of done.sources)
   -- bad words and a file that doesn't open serve nothing
   pub refused : (done.status ≡ 1) ⊎ (done.status ≡ 2) → done.ends ≡ []
   -- no source comes of bad words

@@ -1,9 +1,9 @@
 // The command `check`, over any host.
-ghost use Rattle.std.specs.Prelude.{◌<◌, [], length, map};
+ghost use Rattle.std.specs.Prelude.{◌<◌, [], length};
 ghost use Rattle.serve_words.specs.Check.{check_of};
 ghost use Rattle.serve_words.specs.Task.{word_texts};
 ghost use Rattle.flake_run.specs.Outside.{LeavesFiles, outside};
-ghost use Rattle.flake_run.specs.Outcome.{done, source_told};
+ghost use Rattle.flake_run.specs.Outcome.{done, opened_told, source_told};
 ghost use Rattle.flake_run.specs.Said.{PrintsStatus};
 ghost use Rattle.flake_run.specs.Checked.{Checked, ConcludesBy, IsStatus};
 
@@ -56,11 +56,12 @@ pub fn check<H: Host>(
     host: &mut H,
     wires: Vec<Box<dyn Wire>>,
 ) -> Outcome<H::In>
-    ensures { Checked (check_of (word_texts words.now))
-        (outside (H.host_told host.old) wires.items (λ w. wire_told w))
-        (outside (H.host_told host.new) result.wires.items (λ w. wire_told w))
-        (done result.status result.detail result.ends.items result.journal.items result.held result.pool
-        (map (λ s. source_told s.file (H.In.left s.source) (H.In.read_faults s.source)) result.sources.items)) }
+    ensures { let before = outside (H.host_told host.old) wires.items (λ w. wire_told w) in
+        let after = outside (H.host_told host.new) result.wires.items (λ w. wire_told w) in
+        let told = opened_told (source_told H.In.name H.In.whole H.In.given H.In.ended H.In.read_faults)
+        result.sources.items in
+        Checked (check_of (word_texts words.now)) before after
+        (done result.status result.detail result.ends.items result.journal.items result.held result.pool told) }
 {
     let task = match check_task(alloc, words) {
         Ok(Some(task)) => task,

@@ -1,5 +1,6 @@
 // The command `drive`, over any host and any wires.
-ghost use Rattle.std.specs.Prelude.{◌≡◌, ◌<◌, ◌≤◌, [], All, length, map, vec_capacity};
+ghost use Rattle.std.specs.Prelude.{◌≡◌, ◌<◌, ◌≤◌, [], ◌∷◌, length, map, vec_capacity};
+ghost use Rattle.std.specs.List.{AllByRecursion};
 ghost use Rattle.run_resources.specs.Opened.{HasRunSizes};
 ghost use Rattle.transcript_model.specs.Lines.{held_text};
 ghost use Rattle.drive_script.specs.Says.{PrintsText};
@@ -7,7 +8,7 @@ ghost use Rattle.drive_show.specs.Held.{held_room};
 ghost use Rattle.flake_run.specs.Driven.{CameOf};
 ghost use Rattle.flake_run.specs.DriveTask.{drive_job_of};
 ghost use Rattle.flake_run.specs.Drove.{Drove};
-ghost use Rattle.flake_run.specs.Outcome.{done, source_told};
+ghost use Rattle.flake_run.specs.Outcome.{IsUntouched, done, opened_told, source_told};
 ghost use Rattle.flake_run.specs.Outside.{outside};
 
 use crate::check::conclude;
@@ -52,13 +53,15 @@ fn drive_opened<R: Wait, H: Host>(
     requires wires { length sources.items ≤ length wires.items }
     requires places { (places.items ≡ []) × (length sources.items < vec_capacity places) }
     requires text { held_room ≤ vec_capacity text }
-    requires fresh { H.In.read_faults schedule ≡ 0 }
-    requires all_fresh { map (λ s. H.In.read_faults s) sources.items ≡ map (λ s. 0) sources.items }
-    ensures { CameOf sizes.now (H.In.left schedule) (map (λ s. H.In.left s) sources.items)
-        (outside (H.host_told host.old) wires.items (λ w. wire_told w))
-        (outside (H.host_told host.new) result.wires.items (λ w. wire_told w))
-        (done result.status result.detail result.ends.items result.journal.items result.held result.pool
-        (map (λ s. source_told s.file (H.In.left s.source) (H.In.read_faults s.source)) result.sources.items)) }
+    requires unread { AllByRecursion IsUntouched
+        (map (source_told H.In.name H.In.whole H.In.given H.In.ended H.In.read_faults) (schedule ∷ sources.items)) }
+    ensures { let before = outside (H.host_told host.old) wires.items (λ w. wire_told w) in
+        let after = outside (H.host_told host.new) result.wires.items (λ w. wire_told w) in
+        let told = opened_told (source_told H.In.name H.In.whole H.In.given H.In.ended H.In.read_faults)
+        result.sources.items in
+        CameOf sizes.now (H.In.name schedule ∷ map (λ s. H.In.name s) sources.items)
+        (H.In.whole schedule ∷ map (λ s. H.In.whole s) sources.items) before after
+        (done result.status result.detail result.ends.items result.journal.items result.held result.pool told) }
 {
     let mut schedule = schedule;
     match drive_by(rt, alloc, sizes, &mut schedule, sources, wires, host) {
@@ -93,11 +96,12 @@ pub fn drive<R: Wait, H: Host>(
     host: &mut H,
     wires: Vec<Box<dyn Wire>>,
 ) -> Outcome<H::In>
-    ensures { Drove (drive_job_of words.now)
-        (outside (H.host_told host.old) wires.items (λ w. wire_told w))
-        (outside (H.host_told host.new) result.wires.items (λ w. wire_told w))
-        (done result.status result.detail result.ends.items result.journal.items result.held result.pool
-        (map (λ s. source_told s.file (H.In.left s.source) (H.In.read_faults s.source)) result.sources.items)) }
+    ensures { let before = outside (H.host_told host.old) wires.items (λ w. wire_told w) in
+        let after = outside (H.host_told host.new) result.wires.items (λ w. wire_told w) in
+        let told = opened_told (source_told H.In.name H.In.whole H.In.given H.In.ended H.In.read_faults)
+        result.sources.items in
+        Drove (drive_job_of words.now) before after
+        (done result.status result.detail result.ends.items result.journal.items result.held result.pool told) }
 {
     let task = match drive_task(alloc, words) {
         Ok(Some(task)) => task,

@@ -1,6 +1,5 @@
 // Sources that are driven by a schedule, to the first wires.
-ghost use Rattle.std.specs.Prelude.{◌≡◌, ◌<◌, ◌≤◌, All, IfErr, IfOk, OnErr, OnOk, length, map};
-ghost use Rattle.check_files.specs.Whole.{emptied};
+ghost use Rattle.std.specs.Prelude.{◌≡◌, ◌<◌, ◌≤◌, [], All, IfErr, IfOk, OnErr, OnOk, length, map};
 ghost use Rattle.schedule_text.specs.Text.{line_session};
 ghost use Rattle.run_resources.specs.Opened.{HasRunSizes, pool_sizes};
 ghost use Rattle.run_resources.specs.Ran.{AreReads};
@@ -33,10 +32,13 @@ fn drive_sources<R: Wait, S: Source + Drop, H: Host>(
     requires sized { HasRunSizes (length sources.items) sizes.now }
     requires wires { length sources.items ≤ length wires.items }
     requires there { All (λ line. line_session line < length sources.items) schedule.now }
+    requires unread { All (λ s. S.given s ≡ []) sources.items }
     ensures run { IfOk result (λ r. IsDrivenRun (pool_sizes (length sources.items) sizes.now) sizes.now.ring
-        sizes.now.threshold schedule.now r.failed (map (λ s. S.left s) sources.items)
-        (map (λ s. S.left s) r.sources.items) r.ends.items (histories r.journal.items) r.pool wires.items r.wires.items
+        sizes.now.threshold schedule.now r.failed (map (λ s. S.given s) r.sources.items)
+        (map (λ s. S.ended s) r.sources.items) r.ends.items (histories r.journal.items) r.pool wires.items r.wires.items
         (λ w. wire_told w) (H.host_told host.old) (H.host_told host.new)) }
+    ensures names { IfOk result (λ r. map (λ s. S.name s) r.sources.items ≡ map (λ s. S.name s) sources.items) }
+    ensures wholes { IfOk result (λ r. map (λ s. S.whole s) r.sources.items ≡ map (λ s. S.whole s) sources.items) }
     ensures reads { IfOk result (λ r. AreReads r.ends.items (map (λ s. S.read_faults s) sources.items)
         (map (λ s. S.read_faults s) r.sources.items)) }
     ensures shards { IfOk result (λ r. length r.journal.items ≡ sizes.now.shards) }
@@ -76,17 +78,22 @@ pub fn drive_by<R: Wait, S: Source + Drop, H: Host>(
 ) -> Result<Driven<S, Box<dyn Wire>>, (Finding, Vec<S>, Vec<Box<dyn Wire>>)>
     requires sized { HasRunSizes (length sources.items) sizes.now }
     requires wires { length sources.items ≤ length wires.items }
-    ensures run { IfOk result (λ r. IsDrivenBy sizes.now (S.left schedule.old) r.failed
-        (map (λ s. S.left s) sources.items) (map (λ s. S.left s) r.sources.items) r.ends.items
+    requires asked { S.given schedule.old ≡ [] }
+    requires unread { All (λ s. S.given s ≡ []) sources.items }
+    ensures run { IfOk result (λ r. IsDrivenBy sizes.now (S.given schedule.new) (S.ended schedule.new) r.failed
+        (map (λ s. S.given s) r.sources.items) (map (λ s. S.ended s) r.sources.items) r.ends.items
         (histories r.journal.items) r.pool wires.items r.wires.items (λ w. wire_told w) (H.host_told host.old)
         (H.host_told host.new)) }
+    ensures names { IfOk result (λ r. map (λ s. S.name s) r.sources.items ≡ map (λ s. S.name s) sources.items) }
+    ensures wholes { IfOk result (λ r. map (λ s. S.whole s) r.sources.items ≡ map (λ s. S.whole s) sources.items) }
     ensures reads { IfOk result (λ r. AreReads r.ends.items (map (λ s. S.read_faults s) sources.items)
         (map (λ s. S.read_faults s) r.sources.items)) }
     ensures shards { IfOk result (λ r. length r.journal.items ≡ sizes.now.shards) }
-    ensures left { OnOk result (S.left schedule.new ≡ emptied (S.left schedule.old)) }
     ensures calm { OnOk result (S.read_faults schedule.new ≡ S.read_faults schedule.old) }
-    ensures undriven { IfErr result (λ e. IsUndriven e.0 (length sources.items) (S.left schedule.old)
-        (S.left schedule.new) (S.read_faults schedule.old) (S.read_faults schedule.new)) }
+    ensures undriven { IfErr result (λ e. IsUndriven e.0 (length sources.items) (S.given schedule.new)
+        (S.ended schedule.new) (S.read_faults schedule.old) (S.read_faults schedule.new)) }
+    ensures name { S.name schedule.new ≡ S.name schedule.old }
+    ensures whole { S.whole schedule.new ≡ S.whole schedule.old }
     ensures back { IfErr result (λ e. (e.1.items ≡ sources.items) × (e.2.items ≡ wires.items)) }
     ensures silent { OnErr result (H.host_told host.new ≡ H.host_told host.old) }
 {

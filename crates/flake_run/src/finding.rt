@@ -1,4 +1,4 @@
-// What a check comes to.
+// What the files of a command come to that serves nothing.
 ghost use Rattle.std.specs.Prelude.{◌≡◌, ◌<◌, length, IfOk, string_bytes};
 ghost use Rattle.flake_run.specs.Finding.{finding_text, found_by, stopped_by};
 
@@ -12,7 +12,7 @@ use replay_check::Verdict;
 use std::alloc::Global;
 use std::fmt;
 
-/// What a check of files comes to.
+/// What files come to that are checked, that are to be driven, or whose frames are to be put together.
 #[derive(Clone, Copy, Debug, PartialEq, Eq)]
 pub enum Finding {
     BadWords,
@@ -25,6 +25,10 @@ pub enum Finding {
     /// This line of the journal's file isn't of its form.
     BadLine(u64),
     Judged(Verdict),
+    /// The frame of this number, counted from 1, is the first that is refused.
+    BadFrame(u64),
+    /// The least frame that is missing.
+    Missing { call: u32, frame: u32 },
     Memory,
 }
 
@@ -41,9 +45,10 @@ impl Finding {
             Finding::OpenFault(file) => Refusal::OpenFault(file).status(),
             Finding::ReadFault(_) => READ_FAULT,
             Finding::TooLarge(_) => TOO_LARGE,
-            Finding::BadLine(_) => BAD_LINE,
+            Finding::BadLine(_) | Finding::BadFrame(_) => BAD_LINE,
             Finding::Judged(Verdict::Same) => SERVED,
             Finding::Judged(Verdict::Differs { .. } | Verdict::BadJournal { .. }) => NOT_THE_SAME,
+            Finding::Missing { .. } => NOT_THE_SAME,
             Finding::Memory => OUT_OF_MEMORY,
         }
     }
@@ -82,6 +87,8 @@ impl Finding {
             Finding::Judged(Verdict::BadJournal { shard, place }) => {
                 Detail::Journal { shard, place }
             }
+            Finding::BadFrame(number) => Detail::Frame(number),
+            Finding::Missing { call, frame } => Detail::Missing { call, frame },
             Finding::BadWords | Finding::Judged(Verdict::Same) | Finding::Memory => Detail::Nothing,
         }
     }
@@ -179,6 +186,8 @@ impl fmt::Display for FindingLine {
                 let verdict = VerdictLine(verdict);
                 write!(f, "{verdict}")
             }
+            Finding::BadFrame(number) => write!(f, "bad frame {number}\n"),
+            Finding::Missing { call, frame } => write!(f, "missing call {call} frame {frame}\n"),
             Finding::Memory => f.write_str("out of memory\n"),
         }
     }

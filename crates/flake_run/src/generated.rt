@@ -1,12 +1,12 @@
 // Generated requests, from the words to what is said.
-ghost use Rattle.std.specs.Prelude.{◌≡◌, ◌≤◌, ◌<◌, length, map, Some, IfOk, IfErr};
+ghost use Rattle.std.specs.Prelude.{◌≡◌, ◌≤◌, ◌<◌, length, map, IfOk, IfErr};
 ghost use Rattle.flake_base.specs.Histories.{histories};
 ghost use Rattle.serve_words.specs.Task.{word_texts};
 ghost use Rattle.gen_words.specs.Task.{IsAllowedGenerated, generated_task_of};
 ghost use Rattle.serve_generated.specs.Generated.{IsTooMuch};
 ghost use Rattle.wire_told.specs.Sent.{PutIs, FlushIs};
 ghost use Rattle.flake_run.specs.Outside.{outside};
-ghost use Rattle.flake_run.specs.Outcome.{done, source_told};
+ghost use Rattle.flake_run.specs.Outcome.{done, opened_told, source_told};
 ghost use Rattle.flake_run.specs.Generated.{Generated, IsGeneratedRun};
 
 use crate::outcome::{Detail, Outcome, Refusal};
@@ -15,6 +15,7 @@ use crate::tell::{refuse, report_total};
 use crate::total::sum_of;
 use flake_base::{Host, Memory, Wire};
 use gen_words::{GenTask, gen_task};
+use report_text::REPORT_ROOM;
 use serve_generated::{InputSource, Refused, serve_generated};
 use serve_inputs::Served;
 use session_pass::Gate;
@@ -32,8 +33,9 @@ fn serve_requests<R: Threads + Wait + Sync, G: Gate>(
 ) -> Result<Served<InputSource, Box<dyn Wire>>, (Refused, Vec<Box<dyn Wire>>)>
     requires task { IsAllowedGenerated task.now }
     requires wires { task.now.sessions ≤ length wires.items }
-    ensures run { IfOk result (λ r. IsGeneratedRun task.now (map Some r.sources.items) r.ends.items r.sent.items
-        (histories r.journal.items) r.pool wires.items r.wires.items (λ w. wire_told w)) }
+    ensures run { IfOk result (λ r. IsGeneratedRun task.now (map (λ s. s.given) r.sources.items)
+        (map (λ s. s.ended) r.sources.items) r.ends.items r.sent.items (histories r.journal.items) r.pool
+        wires.items r.wires.items (λ w. wire_told w)) }
     ensures shards { IfOk result (λ r. length r.journal.items ≡ 8) }
     ensures ends { IfOk result (λ r. length r.ends.items ≡ task.now.sessions) }
     ensures fits { IfOk result (λ r. IsTooMuch task.now → ⊥) }
@@ -68,11 +70,12 @@ pub fn generate<R: Threads + Wait + Sync, H: Host, G: Gate>(
     wires: Vec<Box<dyn Wire>>,
     gate: &G,
 ) -> Outcome<H::In>
-    ensures { Generated (generated_task_of (word_texts words.now))
-        (outside (H.host_told host.old) wires.items (λ w. wire_told w))
-        (outside (H.host_told host.new) result.wires.items (λ w. wire_told w))
-        (done result.status result.detail result.ends.items result.journal.items result.held result.pool
-        (map (λ s. source_told s.file (H.In.left s.source) (H.In.read_faults s.source)) result.sources.items)) }
+    ensures { let before = outside (H.host_told host.old) wires.items (λ w. wire_told w) in
+        let after = outside (H.host_told host.new) result.wires.items (λ w. wire_told w) in
+        let told = opened_told (source_told H.In.name H.In.whole H.In.given H.In.ended H.In.read_faults)
+        result.sources.items in
+        Generated (generated_task_of (word_texts words.now)) before after
+        (done result.status result.detail result.ends.items result.journal.items result.held result.pool told) }
 {
     let task = match gen_task(alloc, words) {
         Ok(Some(task)) => task,
@@ -82,12 +85,15 @@ pub fn generate<R: Threads + Wait + Sync, H: Host, G: Gate>(
     if wires.len() < usize::from(task.sessions) {
         return refuse(alloc, host, Refusal::BadWords, wires);
     }
+    let Ok(text) = Vec::with_capacity(alloc, REPORT_ROOM) else {
+        return refuse(alloc, host, Refusal::Memory, wires);
+    };
     match serve_requests(rt, alloc, &task, wires, gate) {
         Ok(ran) => {
             let held = ran.pool.held();
             let bytes = sum_of(ran.sent.as_slice());
             Outcome {
-                status: report_total(alloc, host, ran.ends.as_slice(), bytes, held),
+                status: report_total(host, text, ran.ends.as_slice(), bytes, held),
                 detail: Detail::Nothing,
                 ends: ran.ends,
                 journal: ran.journal,

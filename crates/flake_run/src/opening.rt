@@ -1,7 +1,8 @@
 // Files that are opened before any is read.
 ghost use Rattle.std.specs.Prelude.{◌≡◌, ◌<◌, ◌≤◌, suc, [], ◌∷◌, length, map, vec_capacity, IfOk, IfErr};
-ghost use Rattle.std.specs.List.{range_with_len};
+ghost use Rattle.std.specs.List.{AllByRecursion, range_with_len};
 ghost use Rattle.flake_run.specs.Opening.{AreOpened, FailsToOpen};
+ghost use Rattle.flake_run.specs.Outcome.{GaveFront, opened_told, source_told, sources_of};
 
 use crate::outcome::Opened;
 use flake_base::{Host, Source};
@@ -14,11 +15,11 @@ pub fn open_files<H: Host>(
 ) -> Result<Vec<H::In>, Vec<H::In>>
     requires { (room.items ≡ []) × (length files.now ≤ vec_capacity room) }
     ensures opened { IfOk result (λ sources. AreOpened (map (λ file. file.now) files.entry.now)
-        (H.host_told host.old) (H.host_told host.new) (map (λ s. H.In.left s) sources.items)
-        (map (λ s. H.In.read_faults s) sources.items)) }
+        (H.host_told host.old) (H.host_told host.new)
+        (map (source_told H.In.name H.In.whole H.In.given H.In.ended H.In.read_faults) sources.items)) }
     ensures failed { IfErr result (λ sources. FailsToOpen (map (λ file. file.now) files.entry.now)
-        (H.host_told host.old) (H.host_told host.new) (map (λ s. H.In.left s) sources.items)
-        (map (λ s. H.In.read_faults s) sources.items)) }
+        (H.host_told host.old) (H.host_told host.new)
+        (map (source_told H.In.name H.In.whole H.In.given H.In.ended H.In.read_faults) sources.items)) }
 {
     let mut sources = room;
     for file in files {
@@ -36,6 +37,8 @@ pub fn numbered<S: Source + Drop>(sources: Vec<S>, room: Vec<Opened<S>>) -> Vec<
     requires few { length sources.items ≤ 16 }
     ensures files { map (λ s. s.file) result.items ≡ range_with_len 0 (length sources.items) }
     ensures sources { map (λ s. s.source) result.items ≡ sources.items }
+    ensures fronts { AllByRecursion GaveFront (sources_of (opened_told (source_told S.name S.whole S.given S.ended
+        S.read_faults) result.items)) }
 {
     let mut opened = room;
     for source in sources {
@@ -55,6 +58,8 @@ pub fn numbered_behind<S: Source + Drop>(
     requires few { length sources.items ≤ 16 }
     ensures files { map (λ s. s.file) result.items ≡ range_with_len 0 (suc (length sources.items)) }
     ensures sources { map (λ s. s.source) result.items ≡ first ∷ sources.items }
+    ensures fronts { AllByRecursion GaveFront (sources_of (opened_told (source_told S.name S.whole S.given S.ended
+        S.read_faults) result.items)) }
 {
     let mut opened = room;
     let _ = opened.push(Opened {

@@ -32,6 +32,13 @@ pub enum Detail {
         shard: u16,
         place: u64,
     },
+    /// The first frame that is refused, counted from 1.
+    Frame(u64),
+    /// The least frame that is missing.
+    Missing {
+        call: u32,
+        frame: u32,
+    },
 }
 
 /// All was served.
@@ -48,10 +55,10 @@ pub const WRITE_FAULT: u8 = 5;
 
 pub const OUT_OF_MEMORY: u8 = 6;
 
-/// A line that isn't of its form.
+/// A line or a frame that isn't of its form.
 pub const BAD_LINE: u8 = 7;
 
-/// Replies that aren't those of the journal, or a journal that isn't in order.
+/// Replies that aren't those of the journal, a journal that isn't in order, or a frame that is missing.
 pub const NOT_THE_SAME: u8 = 8;
 
 /// A file that has more bytes than it may.

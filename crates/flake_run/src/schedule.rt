@@ -1,6 +1,5 @@
 // A schedule that is read whole.
-ghost use Rattle.std.specs.Prelude.{◌≡◌, ◌≤◌, IfErr, IfOk, OnOk};
-ghost use Rattle.check_files.specs.Whole.{emptied};
+ghost use Rattle.std.specs.Prelude.{◌≡◌, ◌≤◌, [], IfErr, IfOk, OnOk};
 ghost use Rattle.flake_run.specs.Schedule.{HasSchedule, IsUndriven};
 
 use crate::finding::Finding;
@@ -19,11 +18,13 @@ pub fn schedule_in<S: Source>(
     source: &mut S,
     sessions: u16,
 ) -> Result<Schedule, Finding>
-    ensures lines { IfOk result (λ lines. HasSchedule sessions (S.left source.old) lines.items) }
-    ensures left { OnOk result (S.left source.new ≡ emptied (S.left source.old)) }
+    requires { S.given source.old ≡ [] }
+    ensures lines { IfOk result (λ lines. HasSchedule sessions (S.given source.new) (S.ended source.new) lines.items) }
     ensures calm { OnOk result (S.read_faults source.new ≡ S.read_faults source.old) }
-    ensures undriven { IfErr result (λ finding. IsUndriven finding sessions (S.left source.old)
-        (S.left source.new) (S.read_faults source.old) (S.read_faults source.new)) }
+    ensures undriven { IfErr result (λ finding. IsUndriven finding sessions (S.given source.new) (S.ended source.new)
+        (S.read_faults source.old) (S.read_faults source.new)) }
+    ensures name { S.name source.new ≡ S.name source.old }
+    ensures whole { S.whole source.new ≡ S.whole source.old }
 {
     let text = match read_whole(alloc, source, LIMIT) {
         Ok(text) => text,

@@ -1,13 +1,8 @@
 // The command `serve`, over any host and any wires.
-ghost use Rattle.std.specs.Prelude.{◌≡◌, ◌≢◌, [], map};
-ghost use Rattle.flake_run.specs.Task.{run_task_of};
+ghost use Rattle.flake_run.specs.Does.{ServeDoes};
+ghost use Rattle.flake_run.specs.Outcome.{done, opened_told, source_told};
 ghost use Rattle.flake_run.specs.Outside.{outside};
-ghost use Rattle.flake_run.specs.Outcome.{done, source_told};
-ghost use Rattle.flake_run.specs.Served.{Served};
-ghost use Rattle.flake_run.specs.Untouched.{Untouched};
-ghost use Rattle.flake_run.specs.Causes.{Causes};
-ghost use Rattle.flake_run.specs.Complete.{Complete};
-ghost use Rattle.flake_run.specs.Said.{Said};
+ghost use Rattle.flake_run.specs.Task.{run_task_of};
 
 use crate::opening::{numbered, open_files};
 use crate::outcome::{Detail, Outcome, Refusal};
@@ -15,6 +10,7 @@ use crate::source::serve_sources;
 use crate::tell::{refuse, report};
 use crate::words::files_task;
 use flake_base::{Host, Memory, Source, Wire};
+use report_text::REPORT_ROOM;
 use session_pass::Gate;
 use std::alloc::Global;
 use std::sync::Wait;
@@ -30,36 +26,12 @@ pub fn serve<R: Threads + Wait + Sync, H: Host, G: Gate>(
     wires: Vec<Box<dyn Wire>>,
     gate: &G,
 ) -> Outcome<H::In>
-    // The headline, where something was served.
-    ensures served { result.ends.items ≢ [] → Served (run_task_of words.now)
-        (outside (H.host_told host.old) wires.items (λ w. wire_told w))
-        (outside (H.host_told host.new) result.wires.items (λ w. wire_told w))
-        (done result.status result.detail result.ends.items result.journal.items result.held result.pool
-        (map (λ s. source_told s.file (H.In.left s.source) (H.In.read_faults s.source)) result.sources.items)) }
-    // What stays as it was.
-    ensures untouched { Untouched (run_task_of words.now)
-        (outside (H.host_told host.old) wires.items (λ w. wire_told w))
-        (outside (H.host_told host.new) result.wires.items (λ w. wire_told w))
-        (done result.status result.detail result.ends.items result.journal.items result.held result.pool
-        (map (λ s. source_told s.file (H.In.left s.source) (H.In.read_faults s.source)) result.sources.items)) }
-    // Each status, end and detail has its cause.
-    ensures causes { Causes (run_task_of words.now)
-        (outside (H.host_told host.old) wires.items (λ w. wire_told w))
-        (outside (H.host_told host.new) result.wires.items (λ w. wire_told w))
-        (done result.status result.detail result.ends.items result.journal.items result.held result.pool
-        (map (λ s. source_told s.file (H.In.left s.source) (H.In.read_faults s.source)) result.sources.items)) }
-    // Nothing is refused without a cause.
-    ensures complete { Complete (run_task_of words.now)
-        (outside (H.host_told host.old) wires.items (λ w. wire_told w))
-        (outside (H.host_told host.new) result.wires.items (λ w. wire_told w))
-        (done result.status result.detail result.ends.items result.journal.items result.held result.pool
-        (map (λ s. source_told s.file (H.In.left s.source) (H.In.read_faults s.source)) result.sources.items)) }
-    // What is said of it.
-    ensures said { Said (run_task_of words.now)
-        (outside (H.host_told host.old) wires.items (λ w. wire_told w))
-        (outside (H.host_told host.new) result.wires.items (λ w. wire_told w))
-        (done result.status result.detail result.ends.items result.journal.items result.held result.pool
-        (map (λ s. source_told s.file (H.In.left s.source) (H.In.read_faults s.source)) result.sources.items)) }
+    ensures { let before = outside (H.host_told host.old) wires.items (λ w. wire_told w) in
+        let after = outside (H.host_told host.new) result.wires.items (λ w. wire_told w) in
+        let told = opened_told (source_told H.In.name H.In.whole H.In.given H.In.ended H.In.read_faults)
+        result.sources.items in
+        ServeDoes (run_task_of words.now) before after
+        (done result.status result.detail result.ends.items result.journal.items result.held result.pool told) }
 {
     let task = match files_task(alloc, words) {
         Ok(Some(task)) => task,
@@ -70,9 +42,10 @@ pub fn serve<R: Threads + Wait + Sync, H: Host, G: Gate>(
     if wires.len() < count {
         return refuse(alloc, host, Refusal::BadWords, wires);
     }
-    let (Ok(room), Ok(places)) = (
+    let (Ok(room), Ok(places), Ok(text)) = (
         Vec::with_capacity(alloc, count),
         Vec::with_capacity(alloc, count),
+        Vec::with_capacity(alloc, REPORT_ROOM),
     ) else {
         return refuse(alloc, host, Refusal::Memory, wires);
     };
@@ -90,8 +63,8 @@ pub fn serve<R: Threads + Wait + Sync, H: Host, G: Gate>(
             let held = ran.pool.held();
             Outcome {
                 status: report(
-                    alloc,
                     host,
+                    text,
                     task.journal,
                     &ran.journal,
                     ran.ends.as_slice(),

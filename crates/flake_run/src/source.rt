@@ -1,5 +1,5 @@
 // Sources that are served to the first wires.
-ghost use Rattle.std.specs.Prelude.{◌≡◌, ◌≢◌, ◌<◌, ◌≤◌, length, map, All, IfOk, IfErr};
+ghost use Rattle.std.specs.Prelude.{◌≡◌, ◌≢◌, ◌<◌, ◌≤◌, [], length, map, All, IfOk, IfErr};
 ghost use Rattle.flake_base.specs.Histories.{histories};
 ghost use Rattle.flake_run.specs.Serving.{IsServedRun};
 ghost use Rattle.run_resources.specs.Opened.{HasRunSizes, pool_sizes};
@@ -48,9 +48,12 @@ pub fn serve_sources<R: Threads + Wait + Sync, S: Source + Send + Drop, G: Gate>
     requires sized { HasRunSizes (length sources.items) sizes.now }
     requires workers { (0 < workers) × (workers ≤ 16) }
     requires wires { length sources.items ≤ length wires.items }
+    requires unread { All (λ s. S.given s ≡ []) sources.items }
     ensures run { IfOk result (λ r. IsServedRun (pool_sizes (length sources.items) sizes.now)
-        (map (λ s. S.left s) sources.items) (map (λ s. S.left s) r.sources.items) r.ends.items
+        (map (λ s. S.given s) r.sources.items) (map (λ s. S.ended s) r.sources.items) r.ends.items
         (histories r.journal.items) r.pool wires.items r.wires.items (λ w. wire_told w)) }
+    ensures names { IfOk result (λ r. map (λ s. S.name s) r.sources.items ≡ map (λ s. S.name s) sources.items) }
+    ensures wholes { IfOk result (λ r. map (λ s. S.whole s) r.sources.items ≡ map (λ s. S.whole s) sources.items) }
     ensures reads { IfOk result (λ r. AreReads r.ends.items (map (λ s. S.read_faults s) sources.items)
         (map (λ s. S.read_faults s) r.sources.items)) }
     ensures to_the_end { IfOk result (λ r. All (λ end. end.end ≢ End.Left) r.ends.items) }

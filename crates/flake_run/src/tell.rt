@@ -1,24 +1,25 @@
 // What is said.
-ghost use Rattle.std.specs.Prelude.{◌≡◌, ◌≢◌, ◌<◌, ◌≤◌, ◌⊎◌, ◌||◌, length, map, true, false, IfOk};
+ghost use Rattle.std.specs.Prelude.{◌≡◌, ◌≢◌, ◌<◌, ◌≤◌, ◌⊎◌, ◌||◌, ℕ, length, true, false, vec_capacity};
 ghost use Rattle.std.specs.List.{list_any};
 ghost use Rattle.flake_base.specs.Causes.{Rose, HasCause};
 ghost use Rattle.flake_run.specs.Causes.{status_by, highest_by};
 ghost use Rattle.flake_run.specs.Driven.{some_put_failed, status_with};
-ghost use Rattle.flake_run.specs.Generated.{replies_in, total_line};
+ghost use Rattle.flake_run.specs.Generated.{replies_in};
 ghost use Rattle.flake_run.specs.Outside.{LeavesFiles, outside};
-ghost use Rattle.flake_run.specs.Outcome.{done, source_told, ways};
+ghost use Rattle.flake_run.specs.Outcome.{done, opened_told, source_told, ways};
 ghost use Rattle.flake_run.specs.Refusals.{IsNumbered, RunRefused};
-ghost use Rattle.flake_run.specs.Said.{PrintsStatus, SaysOrLacksRoom, served_text};
+ghost use Rattle.flake_run.specs.Said.{PrintsStatus, served_text};
 ghost use Rattle.flake_base.specs.Histories.{histories};
+ghost use Rattle.journal_text.specs.Text.{journal_text_of};
+ghost use Rattle.report_text.specs.Report.{report_room, total_line};
 
 use crate::outcome::{
     BAD_SESSION, OUT_OF_MEMORY, Outcome, READ_FAULT, Refusal, SERVED, WRITE_FAULT,
 };
-use crate::summary::summary;
-use crate::total::total_text;
-use flake_base::{Bytes, End, Failed, Host, Journal, Memory, SessionEnd, Source, Wire};
-use journal_text::journal_text;
+use crate::total::replies_in;
+use flake_base::{End, Failed, Host, Journal, SessionEnd, Source, Wire};
 use pin_core::Held;
+use report_text::{put_summary, put_total, say_journal};
 use std::alloc::Global;
 
 /// Says a text.
@@ -39,10 +40,12 @@ pub fn refuse<H: Host>(
     wires: Vec<Box<dyn Wire>>,
 ) -> Outcome<H::In>
     requires { IsNumbered refusal }
-    ensures { RunRefused refusal (outside (H.host_told host.old) wires.items (λ w. wire_told w))
-        (outside (H.host_told host.new) result.wires.items (λ w. wire_told w))
-        (done result.status result.detail result.ends.items result.journal.items result.held result.pool
-        (map (λ s. source_told s.file (H.In.left s.source) (H.In.read_faults s.source)) result.sources.items)) }
+    ensures { let before = outside (H.host_told host.old) wires.items (λ w. wire_told w) in
+        let after = outside (H.host_told host.new) result.wires.items (λ w. wire_told w) in
+        let told = opened_told (source_told H.In.name H.In.whole H.In.given H.In.ended H.In.read_faults)
+        result.sources.items in
+        RunRefused refusal before after
+        (done result.status result.detail result.ends.items result.journal.items result.held result.pool told) }
 {
     let _ = tell(host, refusal.text().as_bytes());
     Outcome::unserved(alloc, refusal.status(), refusal.detail(), wires)
@@ -79,39 +82,49 @@ fn some_failed(ends: &[SessionEnd]) -> bool
     ends.iter().any(|end| end.failed)
 }
 
-// The journal's text, or how each session ended and what is held.
-fn served_text(
-    alloc: Global,
+// Says the text of a journal.
+fn tell_journal<H: Host>(host: &mut H, room: &mut Vec<u8>, journal: &Journal) -> Result<(), Failed>
+    requires { report_room ≤ vec_capacity room.old }
+    ensures said { PrintsStatus (journal_text_of (histories journal.now.items)) (H.host_told host.old)
+        (H.host_told host.new) }
+    ensures files { LeavesFiles (H.host_told host.old) (H.host_told host.new) }
+    ensures cause { HasCause (H.host_told host.old).say_faults (H.host_told host.new).say_faults result }
+{
+    say_journal(host, room, journal)
+}
+
+// Says the journal, or how each session ended and what is held.
+fn tell_served<H: Host>(
+    host: &mut H,
+    room: Vec<u8>,
     shows_journal: bool,
     journal: &Journal,
     ends: &[SessionEnd],
     held: Held,
-) -> Result<Bytes, Memory>
-    requires { length ends.now ≤ 16 }
-    ensures text { IfOk result (λ text.
-        text.items ≡ served_text shows_journal (histories journal.now.items) ends.now held) }
-    ensures some { IfOk result (λ text. 0 < length text.items) }
+) -> Result<(), Failed>
+    requires room { report_room ≤ vec_capacity room }
+    requires few { length ends.now ≤ 16 }
+    ensures said { PrintsStatus (served_text shows_journal (histories journal.now.items) ends.now held)
+        (H.host_told host.old) (H.host_told host.new) }
+    ensures files { LeavesFiles (H.host_told host.old) (H.host_told host.new) }
+    ensures cause { HasCause (H.host_told host.old).say_faults (H.host_told host.new).say_faults result }
 {
+    let mut room = room;
     if shows_journal {
-        return journal_text(alloc, journal);
+        return tell_journal(host, &mut room, journal);
     }
-    let text = summary(alloc, ends, held)?;
-    Bytes::from_slice(alloc, text.as_bytes())
+    put_summary(&mut room, ends, held);
+    tell(host, room.as_slice())
 }
 
-// Says the text, and answers the status.
-fn answer<H: Host>(host: &mut H, text: &[u8], ends: &[SessionEnd]) -> u8
-    requires { 0 < length text.now }
-    ensures said { PrintsStatus text.now (H.host_told host.old) (H.host_told host.new) }
-    ensures files { LeavesFiles (H.host_told host.old) (H.host_told host.new) }
-    ensures by_end { result ≢ 5 → result ≢ 6 → (result ≡ highest_by (ways ends.now))
-        × (list_any (λ end. end.failed) ends.now ≡ false)
-        × ((H.host_told host.new).say_faults ≡ (H.host_told host.old).say_faults) }
-    ensures failed { result ≡ 5 → (highest_by (ways ends.now) ≢ 6) × ((list_any (λ end. end.failed) ends.now ≡ true)
-        ⊎ Rose (H.host_told host.old).say_faults (H.host_told host.new).say_faults) }
+// The status of what was served, by whether it was said.
+fn status_of(ends: &[SessionEnd], said: Result<(), Failed>) -> u8
+    ensures by_end { (before now : ℕ) → HasCause before now said → result ≢ 5 → result ≢ 6
+        → (result ≡ highest_by (ways ends.now)) × (list_any (λ end. end.failed) ends.now ≡ false) × (now ≡ before) }
+    ensures failed { (before now : ℕ) → HasCause before now said → result ≡ 5 → (highest_by (ways ends.now) ≢ 6)
+        × ((list_any (λ end. end.failed) ends.now ≡ true) ⊎ Rose before now) }
     ensures statuses { (result ≡ 0) ⊎ (result ≡ 3) ⊎ (result ≡ 4) ⊎ (result ≡ 5) ⊎ (result ≡ 6) }
 {
-    let said = tell(host, text);
     let status = status_by_ends(ends);
     let failed = some_failed(ends);
     if status != OUT_OF_MEMORY && (failed || said.is_err()) {
@@ -120,17 +133,18 @@ fn answer<H: Host>(host: &mut H, text: &[u8], ends: &[SessionEnd]) -> u8
     status
 }
 
-/// Says the journal, or how each session ended, and answers the status.
+/// Says the journal, or how each session ended, and answers the status. The room was taken ahead.
 pub fn report<H: Host>(
-    alloc: Global,
     host: &mut H,
+    room: Vec<u8>,
     shows_journal: bool,
     journal: &Journal,
     ends: &[SessionEnd],
     held: Held,
 ) -> u8
-    requires { length ends.now ≤ 16 }
-    ensures said { SaysOrLacksRoom result (served_text shows_journal (histories journal.now.items) ends.now held)
+    requires room { report_room ≤ vec_capacity room }
+    requires few { length ends.now ≤ 16 }
+    ensures said { PrintsStatus (served_text shows_journal (histories journal.now.items) ends.now held)
         (H.host_told host.old) (H.host_told host.new) }
     ensures files { LeavesFiles (H.host_told host.old) (H.host_told host.new) }
     ensures by_end { result ≢ 5 → result ≢ 6 → (result ≡ highest_by (ways ends.now))
@@ -140,22 +154,22 @@ pub fn report<H: Host>(
         ⊎ Rose (H.host_told host.old).say_faults (H.host_told host.new).say_faults) }
     ensures statuses { (result ≡ 0) ⊎ (result ≡ 3) ⊎ (result ≡ 4) ⊎ (result ≡ 5) ⊎ (result ≡ 6) }
 {
-    let Ok(text) = served_text(alloc, shows_journal, journal, ends, held) else {
-        return OUT_OF_MEMORY;
-    };
-    answer(host, text.as_slice(), ends)
+    let said = tell_served(host, room, shows_journal, journal, ends, held);
+    status_of(ends, said)
 }
 
-/// Says how many replies there are, of how many bytes, and what is held, and answers the status.
+/// Says how many replies there are, of how many bytes, and what is held, and answers the status. The room was taken
+/// ahead.
 pub fn report_total<H: Host>(
-    alloc: Global,
     host: &mut H,
+    room: Vec<u8>,
     ends: &[SessionEnd],
     bytes: u64,
     held: Held,
 ) -> u8
-    requires { length ends.now ≤ 16 }
-    ensures said { SaysOrLacksRoom result (total_line (replies_in ends.now) bytes held) (H.host_told host.old)
+    requires room { report_room ≤ vec_capacity room }
+    requires few { length ends.now ≤ 16 }
+    ensures said { PrintsStatus (total_line (replies_in ends.now) bytes held) (H.host_told host.old)
         (H.host_told host.new) }
     ensures files { LeavesFiles (H.host_told host.old) (H.host_told host.new) }
     ensures by_end { result ≢ 5 → result ≢ 6 → (result ≡ highest_by (ways ends.now))
@@ -165,10 +179,10 @@ pub fn report_total<H: Host>(
         ⊎ Rose (H.host_told host.old).say_faults (H.host_told host.new).say_faults) }
     ensures statuses { (result ≡ 0) ⊎ (result ≡ 3) ⊎ (result ≡ 4) ⊎ (result ≡ 5) ⊎ (result ≡ 6) }
 {
-    let Ok(text) = total_text(alloc, ends, bytes, held) else {
-        return OUT_OF_MEMORY;
-    };
-    answer(host, text.as_bytes(), ends)
+    let mut room = room;
+    put_total(&mut room, replies_in(ends), bytes, held);
+    let said = tell(host, room.as_slice());
+    status_of(ends, said)
 }
 
 /// The status of sessions that were driven, where a say failed or not.

@@ -3,7 +3,6 @@ use Rattle.std.proofs.Common.{◌≡◌, ℕ, zero, suc, ◌+◌, ◌<◌, ◌�
 use Rattle.std.proofs.Common.{◌∷◌, ◌++◌, Option, Some, None, length, take, drop, take-append-drop, refl, ap, sym, ◌∙◌}
 use Rattle.std.proofs.Common.{eqb, subst, arith, append_assoc, append-nil, add-one}
 use Rattle.std.proofs.lemmas.Bool.{cases_lt, eqb-true, eqb-false}
-use Rattle.std.proofs.lemmas.List.{length-append}
 use Rattle.flake_base.specs.Growth.{Grew}
 use Rattle.flake_base.specs.Causes.{Rose}
 use Rattle.flake_base.specs.Told.{WireTold, Took}
@@ -13,46 +12,35 @@ use Rattle.mtu_frames.specs.Joining.{frame_at, frame_piece, frame_count, pieces_
 use Rattle.mtu_frames.specs.Joining.{IsWhole}
 use Rattle.mtu_frames.specs.Kept.{AreKept}
 use Rattle.mtu_frames.specs.Puts.{WasPut}
-use Rattle.mtu_frames.proofs.Growing.{grew_whole, grew_front, grew_no_more, grew_so, nothing_grew}
+use Rattle.mtu_frames.proofs.Growing.{grew_more, grew_no_more, nothing_grew}
 
 pub nothing_put : (wire : WireTold) → WasPut false [] wire wire
-nothing_put wire = record { sent = nothing_grew wire.sent; bytes = omega arith; faults = refl }
+nothing_put wire = record { put = nothing_grew wire.put; faults = refl; flush_faults = refl }
 
-pub put_piece : (piece : List ℕ) (old new : WireTold) → Took false piece old new → new.faults ≡ old.faults
+pub put_piece : (piece : List ℕ) (old new : WireTold) → Took false piece old new → new.put_faults ≡ old.put_faults
     → WasPut false piece old new
-put_piece piece old new took same = let counted = took.bytes in
-    record { sent = took.sent; bytes = omega (arith, counted); faults = same }
+put_piece piece old new took same = record { put = took.put; faults = same; flush_faults = took.flush_faults }
 
-pub put_front : (piece : List ℕ) (old new : WireTold) → Took true piece old new → Rose old.faults new.faults
+pub put_front : (piece : List ℕ) (old new : WireTold) → Took true piece old new → Rose old.put_faults new.put_faults
     → WasPut true piece old new
-put_front piece old new took rose =
-    let low = took.bytes.0 in let high = took.bytes.1 in
-    record { sent = took.sent; bytes = (omega (arith, low, high), omega (arith, low, high)); faults = rose }
+put_front piece old new took rose = record { put = took.put; faults = rose; flush_faults = took.flush_faults }
 
 -- nothing is put behind a failure
 pub no_more : (front text : List ℕ) (old new : WireTold) → WasPut true front old new
     → WasPut true (front ++ text) old new
 no_more front text old new was = record {
-  sent = grew_no_more old.sent new.sent front text was.sent;
-  bytes = (was.bytes.0, omega (arith, was.bytes.1, length-append front text));
+  put = grew_no_more old.put new.put front text was.put;
   faults = was.faults;
+  flush_faults = was.flush_faults;
 }
 
 -- one piece more
 pub put_more : (now : Bool) (front text : List ℕ) (old mid new : WireTold) → WasPut false front old mid
     → WasPut now text mid new → WasPut now (front ++ text) old new
-put_more false front text old mid new was put = record {
-  sent = grew_whole old.sent mid.sent new.sent front text was.sent put.sent;
-  bytes = omega (arith, was.bytes, put.bytes, length-append front text);
-  faults = subst (λ n. FaultIs false n new.faults) was.faults put.faults;
-}
-put_more true front text old mid new was put = record {
-  sent = grew_front old.sent mid.sent new.sent front text was.sent put.sent;
-  bytes = (
-    omega (arith, was.bytes, put.bytes.0),
-    omega (arith, was.bytes, put.bytes.1, length-append front text),
-  );
-  faults = subst (λ n. FaultIs true n new.faults) was.faults put.faults;
+put_more now front text old mid new was put = record {
+  put = grew_more now old.put mid.put new.put front text was.put put.put;
+  faults = subst (λ n. FaultIs now n new.put_faults) was.faults put.faults;
+  flush_faults = put.flush_faults ∙ was.flush_faults;
 }
 
 -- bytes of which a front was put, where of the rest a piece of so many is put next

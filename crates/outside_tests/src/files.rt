@@ -44,7 +44,8 @@ fn a_wire_makes_its_file_at_the_first_put(rt: HostRuntime) -> Result<(), Fail> {
     assert_eq!(rt; put(&mut wire, b"$-1\r\n"), Ok(()));
     assert_eq!(rt; flush(&mut wire), Ok(()));
     assert_eq!(rt; flush(&mut wire), Ok(()));
-    assert_eq!(rt; wire.faults(), 0);
+    assert_eq!(rt; wire.put_faults(), 0);
+    assert_eq!(rt; wire.flush_faults(), 0);
     expect_file(&rt, "first_put.test", b"+OK\r\n$-1\r\n")
 }
 
@@ -72,7 +73,8 @@ fn a_wire_to_no_folder_fails_at_its_put(rt: HostRuntime) -> Result<(), Fail> {
     let mut nowhere = wire(rt.alloc(), rt.clone()?, "no_such_folder/nowhere.test")?;
     assert_eq!(rt; put(&mut nowhere, b"+OK\r\n"), Err(Failed));
     assert_eq!(rt; flush(&mut nowhere), Ok(()));
-    assert_eq!(rt; nowhere.faults(), 1);
+    assert_eq!(rt; nowhere.put_faults(), 1);
+    assert_eq!(rt; nowhere.flush_faults(), 0);
     Ok(())
 }
 
@@ -83,11 +85,12 @@ fn a_full_disk_is_a_fault(rt: HostRuntime) -> Result<(), Fail> {
     let mut full = wire(rt.alloc(), rt.clone()?, "/dev/full")?;
     assert_eq!(rt; put(&mut full, b"+OK\r\n"), Ok(()));
     assert_eq!(rt; flush(&mut full), Err(Failed));
-    assert_eq!(rt; full.faults(), 1);
+    assert_eq!(rt; full.flush_faults(), 1);
     assert_eq!(rt; put(&mut full, bytes.as_slice()), Err(Failed));
-    assert_eq!(rt; full.faults(), 2);
+    assert_eq!(rt; full.put_faults(), 1);
     assert_eq!(rt; flush(&mut full), Err(Failed));
-    assert_eq!(rt; full.faults(), 3);
+    assert_eq!(rt; full.put_faults(), 1);
+    assert_eq!(rt; full.flush_faults(), 2);
     Ok(())
 }
 

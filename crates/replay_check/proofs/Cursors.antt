@@ -13,7 +13,6 @@ use Rattle.flake_base.specs.declared.journal.Entry.{Entry}
 use Rattle.flake_model.specs.Store.{key_of}
 use Rattle.flake_model.specs.Command.{Command}
 use Rattle.flake_model.specs.Journal.{Step, shard_of, of_session, in_shard, commands_of, session_steps}
-use Rattle.byte_store.proofs.Places.{read_set}
 use Rattle.replay_check.specs.Writes.{writes}
 use Rattle.replay_check.specs.Inputs.{parts_of}
 use Rattle.replay_check.specs.InOrder.{behind, steps_behind, AreWrites, IsNext, left_behind}
@@ -22,6 +21,7 @@ use Rattle.replay_check.specs.Taken.{IsEntryTaken}
 use Rattle.replay_check.specs.declared.place.Place.{Place}
 use Rattle.replay_check.specs.declared.session.Session.{Session}
 use Rattle.replay_check.proofs.Orders.{is_write, no_write, none_next, left_by-append}
+use Rattle.replay_check.proofs.Lists.{read_set}
 use Rattle.replay_check.proofs.Passed.{from_place, in_shard_here, in_shard_there}
 
 -- the commands of a session that is there

@@ -1,6 +1,6 @@
--- Lists with one item more.
-use Rattle.std.proofs.Common.{◌≡◌, ℕ, ◌+◌, ◌<◌, ◌⊎◌, ⊎_elim, inl, inr, zero, suc, List, [], ◌∷◌, ◌++◌, Some, None}
-use Rattle.std.proofs.Common.{length, map, take, slice_get, arith, refl, ap, sym, ◌∙◌, subst}
+-- Lists with one item more, and with one written.
+use Rattle.std.proofs.Common.{◌≡◌, ◌≢◌, ℕ, ◌+◌, ◌<◌, ◌⊎◌, ⊎_elim, inl, inr, zero, suc, List, [], ◌∷◌, ◌++◌, Some}
+use Rattle.std.proofs.Common.{None, length, map, set, take, slice_get, arith, refl, ap, sym, ◌∙◌, subst}
 use Rattle.std.proofs.lemmas.List.{map-append}
 
 pub in_front : {A : Type 0} (front more : List A) (k : ℕ) (x : A) → slice_get front k ≡ Some x
@@ -38,3 +38,14 @@ take_next (y ∷ xs) zero x is = let same : y ≡ x = cc in ap (λ z. z ∷ []) 
 take_next (y ∷ xs) (suc k) x is =
     let next : suc k + 1 ≡ suc (k + 1) = omega arith in
     ap (λ n. take n (y ∷ xs)) next ∙ ap (λ rest. y ∷ rest) (take_next xs k x is)
+
+-- what a list has at a place after a write
+pub read_set : {X : Type 0} (xs : List X) (i j : ℕ) (y found : X) → slice_get (set xs i y) j ≡ Some found
+    → ((j ≡ i) × (found ≡ y)) ⊎ ((j ≢ i) × (slice_get xs j ≡ Some found))
+read_set [] i j y found is = absurd (cc (is))
+read_set (x ∷ xs) zero zero y found is = inl (refl, cc)
+read_set (x ∷ xs) zero (suc j) y found is = inr ((λ same. omega arith), is)
+read_set (x ∷ xs) (suc i) zero y found is = inr ((λ same. omega arith), is)
+read_set (x ∷ xs) (suc i) (suc j) y found is =
+    ⊎_elim (λ here. inl (ap suc here.0, here.1)) (λ there. inr ((λ same. there.0 (omega arith)), there.1))
+    (read_set xs i j y found is)

@@ -16,9 +16,9 @@ use Rattle.flake_model.specs.Order.{IsBefore}
 use Rattle.flake_model.proofs.Entries.{is_itself}
 use Rattle.byte_store.specs.Store.{answer_meant}
 use Rattle.byte_store.specs.declared.store.PartAnswer.{PartAnswer}
-use Rattle.byte_store.proofs.Places.{read_set}
 use Rattle.replay_check.specs.Inputs.{parts_of}
 use Rattle.replay_check.specs.Noted.{slot_meant, slots_meant, first_answer, noted, answers_by, AreNoted, HasPart}
+use Rattle.replay_check.proofs.Lists.{read_set}
 use Rattle.replay_check.proofs.Rising.{Later, AreRising, rising, not_before, not_behind, all_own, has_part, at_place}
 
 -- a slot that is written, or kept

@@ -8,7 +8,8 @@ use Rattle.flake_base.specs.declared.journal.Entry.{Entry}
 use Rattle.flake_model.specs.Store.{Store, Operation, Answer, answer, after}
 use Rattle.flake_model.specs.Command.{Command, parts}
 use Rattle.flake_model.specs.Journal.{Step, operation_at, step_of, answers_from, answers_of, store_after, commands_of}
-use Rattle.byte_store.specs.Store.{Tables, HoldsStore}
+use Rattle.byte_store.specs.Store.{HoldsStore}
+use Rattle.byte_store.specs.Table.{TableEntries}
 use Rattle.byte_store.specs.declared.store.PartAnswer.{PartAnswer}
 use Rattle.std.specs.Global.{Vec}
 use Rattle.replay_check.specs.InOrder.{AreWrites, IsNext, left_behind, IsInOrder, AreInOrder, IsFirstFault}
@@ -72,11 +73,11 @@ module _ (sessions : List (List Command)) (history : List Entry) (place : ℕ) (
   steps_now = more_steps sessions history place entry operation is (stands_for sessions entry operation has)
 
   -- the store behind it
-  pub held_more : (tables : Tables)
-      → HoldsStore tables (after (store_after finite.empty (flat_map (step_of sessions) (take place history)))
+  pub held_more : (entries : TableEntries)
+      → HoldsStore entries (after (store_after finite.empty (flat_map (step_of sessions) (take place history)))
       operation)
-      → HoldsStore tables (store_after finite.empty (flat_map (step_of sessions) (take (place + 1) history)))
-  held_more tables held = subst (HoldsStore tables)
+      → HoldsStore entries (store_after finite.empty (flat_map (step_of sessions) (take (place + 1) history)))
+  held_more entries held = subst (HoldsStore entries)
       (sym (ap (store_after finite.empty) steps_now
       ∙ store_more finite.empty (flat_map (step_of sessions) (take place history)) (entry, operation))) held
 

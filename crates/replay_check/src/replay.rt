@@ -59,7 +59,7 @@ fn replay_shard(
     ensures fault { (shards : ℕ) → ArePlaced shards sessions.now
         → IfErr result (IsFaultIn (told sessions.now) shards shard history.now) }
 {
-    let mut store = Store::new(alloc)?;
+    let mut store = Store::new(alloc);
     let mut cursors = starts(alloc, sessions)?;
     for (place, entry) in history.iter().enumerate() {
         let Some(part) = take_part(sessions, &mut cursors, shard, *entry) else {

@@ -1,5 +1,5 @@
 -- Frames over buffers that are held.
-use Rattle.std.specs.Prelude.{◌≡◌, ℕ, ◌+◌, ◌*◌, ◌%◌, ◌^◌, ◌<◌, ◌≤◌, ◌⊎◌, List, ◌++◌, if◌then◌else◌, Some, length}
+use Rattle.std.specs.Prelude.{◌≡◌, ℕ, ◌+◌, ◌*◌, ◌%◌, ◌^◌, ◌<◌, ◌≤◌, ◌⊎◌, List, ◌++◌, if◌then◌else◌, Some, length, map}
 use Rattle.std.specs.List.{slice_get}
 use Rattle.view_sums.specs.Total.{total, Each}
 use Rattle.pin_core.specs.Holding.{Holding, Key}
@@ -28,6 +28,10 @@ pub record Sent : Type 0 where
   pub pinned : ℕ
   pub paid : ℕ
   pub holds : List Holding
+
+-- the texts of some parcels, in their order
+abbrev pub texts_in : List Sent → List (List ℕ)
+texts_in parcels = map (λ (parcel : Sent). parcel.text) parcels
 
 -- the addresses of its staging buffers
 abbrev pub lent : Sizes → Sent → List ℕ

@@ -1,6 +1,6 @@
 //! A plan takes values and ranges of values.
 ghost use Rattle.std.specs.Prelude.{◌≡◌, ℕ, ◌+◌, ◌*◌, ◌<◌, ◌≤◌, ◌-◌, ◌/◌, ◌∷◌, ◌++◌, [], false, length, vec_capacity};
-ghost use Rattle.std.specs.Prelude.{MatchOption};
+ghost use Rattle.std.specs.Prelude.{MatchOption, true};
 ghost use Rattle.pinned_pool.specs.Addresses.{address_of};
 ghost use Rattle.pinned_pool.specs.Moves.{meant_count, front_of};
 ghost use Rattle.frag_value.specs.Taken.{
@@ -65,6 +65,15 @@ fn lay<N: PoolName>(
         len,
     });
     lists.pins.push_reserved(hold);
+}
+
+// Whether a run of so many bytes stays where it lies.
+#[inline(always)]
+fn stays(threshold: u32, len: u32) -> bool
+    ensures long { result ≡ true → threshold ≤ len }
+    ensures short { result ≡ false → len < threshold }
+{
+    len >= threshold
 }
 
 impl<'a, N: PoolName> Plan<'a, N> {
@@ -215,19 +224,19 @@ impl<'a, N: PoolName> Taker<N> for Plan<'a, N> {
         from: u32,
         len: u32,
     ) {
-        if len < self.threshold {
-            self.copy_part(pool, owner, frag, from, len);
-        } else {
+        if stays(self.threshold, len) {
             self.pin_part(pool, owner, frag, from, len);
+        } else {
+            self.copy_part(pool, owner, frag, from, len);
         }
     }
 
     fn take_over(&mut self, pool: &Pool<N>, owner: &mut PoolSeat<N>, value: &mut Value<N>) {
         if let Some(frag) = value.next_frag() {
-            if frag.len < self.threshold {
-                self.copy_over(pool, owner, frag);
-            } else {
+            if stays(self.threshold, frag.len) {
                 self.move_over(pool, owner, frag);
+            } else {
+                self.copy_over(pool, owner, frag);
             }
         }
     }

@@ -87,6 +87,19 @@ impl Parser {
         Err(ReadError::TooLong { taken: JUDGED })
     }
 
+    /// Places for the rooms that come back. Where memory is wanting for them there are none, and those rooms are
+    /// dropped.
+    #[inline(always)]
+    pub fn make_places(&mut self)
+        ensures ready { self.new.ready ≡ self.old.ready }
+        ensures begun { self.new.begun ≡ self.old.begun }
+        ensures places { (self.new.taken ≡ self.old.taken) × (self.new.place ≡ self.old.place) }
+    {
+        if self.spares.capacity() == 0 {
+            let _ = self.spares.reserve(SPARES);
+        }
+    }
+
     // Takes a piece that is judged whole.
     fn judge(&mut self, piece: &[u8]) -> Result<(), ReadError>
         requires kept { IsBetweenCalls self.old }
@@ -251,8 +264,8 @@ impl Parser {
         self.place = place;
     }
 
-    /// Takes the room of a request back. Of long rooms it keeps one at most, of short ones as many as a piece has
-    /// requests.
+    /// Takes the room of a request back, where there is a place for it. Of long rooms it keeps one at most, of short
+    /// ones as many as a piece has requests.
     pub fn give_back(&mut self, request: Request)
         ensures ready { self.new.ready ≡ self.old.ready }
         ensures begun { self.new.begun ≡ self.old.begun }
@@ -260,8 +273,8 @@ impl Parser {
     {
         let room = request.into_room();
         let most = if self.spares.is_empty() { MOST } else { SOME };
-        if room.capacity() <= most && self.spares.len() < SPARES {
-            let _ = self.spares.push(room);
+        if room.capacity() <= most && self.spares.len() < self.spares.capacity() {
+            self.spares.push_reserved(room);
         }
     }
 

@@ -62,6 +62,7 @@ impl Reader {
         if let Some(error) = self.closed {
             return Err(error);
         }
+        self.parser.make_places();
         match self.parser.feed(piece) {
             Ok(()) => Ok(()),
             Err(ReadError::Memory) => Err(ReadError::Memory),

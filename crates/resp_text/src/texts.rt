@@ -2,7 +2,7 @@ ghost use Rattle.std.specs.Prelude.{◌≡◌, ◌<◌, ◌++◌, ◌∷◌, len
 ghost use Rattle.std.specs.Fmt.{decimal};
 ghost use Rattle.flake_model.specs.Resp.{crlf, bulk_string};
 ghost use Rattle.flake_model.specs.Reply as model;
-ghost use Rattle.resp_text.specs.Meaning.{meaning, item_meaning};
+ghost use Rattle.resp_text.specs.Meaning.{meaning, item_meaning, StandsInFront};
 
 use crate::errors::error_text;
 use crate::lines::line;
@@ -21,9 +21,10 @@ pub fn text(alloc: Global, reply: &Reply) -> Result<Bytes, Memory>
     Ok(text)
 }
 
-/// Puts the RESP2 text of a reply behind what stands there.
+/// Puts the RESP2 text of a reply behind what stands there, which stays there also where memory is wanting.
 pub fn put_text(text: &mut Bytes, reply: &Reply) -> Result<(), Memory>
     ensures text { OnOk result (text.new.items ≡ text.old.items ++ model.reply_text (meaning reply.now)) }
+    ensures front { StandsInFront text.old.items text.new.items }
     ensures some { OnOk result (0 < length text.new.items) }
 {
     match reply {
@@ -38,7 +39,8 @@ pub fn put_text(text: &mut Bytes, reply: &Reply) -> Result<(), Memory>
 }
 
 fn put_error(text: &mut Bytes, kind: ErrorKind) -> Result<(), Memory>
-    ensures { OnOk result (text.new.items ≡ text.old.items ++ 45 ∷ model.error_text kind ++ crlf) }
+    ensures text { OnOk result (text.new.items ≡ text.old.items ++ 45 ∷ model.error_text kind ++ crlf) }
+    ensures front { StandsInFront text.old.items text.new.items }
 {
     text.append(b"-")?;
     text.append(error_text(kind).as_bytes())?;
@@ -46,7 +48,8 @@ fn put_error(text: &mut Bytes, kind: ErrorKind) -> Result<(), Memory>
 }
 
 fn put_line(text: &mut Bytes, mark: u8, n: u64) -> Result<(), Memory>
-    ensures { OnOk result (text.new.items ≡ text.old.items ++ mark ∷ decimal n ++ crlf) }
+    ensures text { OnOk result (text.new.items ≡ text.old.items ++ mark ∷ decimal n ++ crlf) }
+    ensures front { StandsInFront text.old.items text.new.items }
 {
     let mut room = [0; 24];
     let count = line(&mut room, mark, n);
@@ -54,7 +57,8 @@ fn put_line(text: &mut Bytes, mark: u8, n: u64) -> Result<(), Memory>
 }
 
 fn put_bulk(text: &mut Bytes, bytes: &[u8]) -> Result<(), Memory>
-    ensures { OnOk result (text.new.items ≡ text.old.items ++ bulk_string bytes.now) }
+    ensures text { OnOk result (text.new.items ≡ text.old.items ++ bulk_string bytes.now) }
+    ensures front { StandsInFront text.old.items text.new.items }
 {
     put_line(text, b'$', bytes.len() as u64)?;
     text.append(bytes)?;
@@ -62,13 +66,15 @@ fn put_bulk(text: &mut Bytes, bytes: &[u8]) -> Result<(), Memory>
 }
 
 fn put_null(text: &mut Bytes) -> Result<(), Memory>
-    ensures { OnOk result (text.new.items ≡ text.old.items ++ model.null_text) }
+    ensures text { OnOk result (text.new.items ≡ text.old.items ++ model.null_text) }
+    ensures front { StandsInFront text.old.items text.new.items }
 {
     text.append(b"$-1\r\n")
 }
 
 fn put_item(text: &mut Bytes, item: &Option<Bytes>) -> Result<(), Memory>
-    ensures { OnOk result (text.new.items ≡ text.old.items ++ model.item_text (item_meaning item.now)) }
+    ensures text { OnOk result (text.new.items ≡ text.old.items ++ model.item_text (item_meaning item.now)) }
+    ensures front { StandsInFront text.old.items text.new.items }
 {
     match item {
         Some(bytes) => put_bulk(text, bytes.as_slice()),
@@ -77,7 +83,8 @@ fn put_item(text: &mut Bytes, item: &Option<Bytes>) -> Result<(), Memory>
 }
 
 fn put_array(text: &mut Bytes, items: &Items) -> Result<(), Memory>
-    ensures { OnOk result (text.new.items ≡ text.old.items ++ model.reply_text (meaning (Reply.Array items.now))) }
+    ensures text { OnOk result (text.new.items ≡ text.old.items ++ model.reply_text (meaning (Reply.Array items.now))) }
+    ensures front { StandsInFront text.old.items text.new.items }
 {
     put_line(text, b'*', items.len() as u64)?;
     for item in items.as_slice() {

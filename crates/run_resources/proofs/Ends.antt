@@ -1,5 +1,5 @@
 -- What the end of a run shows.
-use Rattle.std.proofs.Common.{◌≡◌, ℕ, Bool, List, [], ◌∷◌, ◌++◌, Option, map, length, ap, sym, ◌∙◌, subst, append-nil}
+use Rattle.std.proofs.Common.{◌≡◌, ℕ, Bool, List, [], ◌∷◌, map, length, ap, sym, ◌∙◌, subst}
 use Rattle.std.specs.List.{flat_map}
 use Rattle.std.proofs.lemmas.List.{length-map}
 use Rattle.std.proofs.lemmas.List.FromFn.{length-range_with_len}
@@ -25,24 +25,14 @@ use Rattle.serve_model.specs.Whole.{ServedTogether, WholeRun}
 use Rattle.serve_model.proofs.Seats.{joins_add}
 use Rattle.flake_base.specs.Histories.{histories}
 use Rattle.run_resources.specs.Closed.{WasClosed}
-use Rattle.run_resources.specs.Ran.{no_wires}
 use Rattle.run_resources.specs.Together.{AreRuns, HaveShown}
 
--- a run with these texts and replies, whatever its wires and its end are called
-abbrev Texts : pool_sizes.Sizes → List (Option (List ℕ)) → List (Option (List ℕ)) → List SessionEnd → List (List Entry)
-    → List (Bool × List ℕ) → List (Bool × List (List ℕ)) → List (Option (List ℕ)) × List (Option (List ℕ)) × End
-    → Type 0
-Texts z inputs lefts ends journal texts replies y =
-    (run : WasRun z inputs lefts ends journal y.0 y.1 y.2) × (wire_texts run.served.sessions journal ≡ texts)
+-- a run with these texts and replies, whatever its end is called
+abbrev Texts : pool_sizes.Sizes → List (List ℕ) → List Bool → List SessionEnd → List (List Entry)
+    → List (Bool × List ℕ) → List (Bool × List (List ℕ)) → End → Type 0
+Texts z givens endeds ends journal texts replies end =
+    (run : WasRun z givens endeds ends journal end) × (wire_texts run.served.sessions journal ≡ texts)
     × (all_replies run.served.sessions journal ≡ replies)
-
-same_wires : (z : pool_sizes.Sizes) (inputs lefts : List (Option (List ℕ))) (ends : List SessionEnd)
-    (journal : List (List Entry)) (first last : End) (olds news others nexts : List (Option (List ℕ)))
-    (texts : List (Bool × List ℕ)) (replies : List (Bool × List (List ℕ))) → olds ≡ others → news ≡ nexts → first ≡ last
-    → Texts z inputs lefts ends journal texts replies (olds, news, first)
-    → Texts z inputs lefts ends journal texts replies (others, nexts, last)
-same_wires z inputs lefts ends journal first last olds news others nexts texts replies old_is new_is end_is is =
-    subst (Texts z inputs lefts ends journal texts replies) (λ i. (old_is i, new_is i, end_is i)) is
 
 -- what the closing says, together
 pub closed : (books : book_sizes.Sizes) (z : pool_sizes.Sizes) (shards : List ShardList) (lists : List SessionList)
@@ -80,15 +70,13 @@ shown books z shards lists journal main store last closed together whole are_clo
       loose = loose;
       looked = looked;
     } in
-    let served = together z books.shards each [] runs.all in
-    let ran = whole books z shards own journal store _ _ ends seats _ _ (runs.spare ∷ []) last
+    let served = together z books.shards each runs.all in
+    let ran = whole books z shards own journal store _ _ ends seats (runs.spare ∷ []) last
     (subst (AreClosed books shards) runs.lists_are are_closed) (sym (ap length runs.lists_are) ∙ as_many) parts
     served.0 is in
-    let olds : map (λ (one : OneRun). one.old) each ++ [] ≡ no_wires ends = append-nil _ ∙ runs.olds in
-    let news : map (λ (one : OneRun). one.new) each ++ [] ≡ no_wires ends = append-nil _ ∙ runs.news in
-    let w = same_wires z _ _ ends journal (pool_end z last) closed _ _ (no_wires ends) (no_wires ends)
+    let w = subst (Texts z _ _ ends journal
     (map (λ (one : OneRun). (one.end.failed, flat_map (λ text. text) one.texts)) each)
-    (map (λ (one : OneRun). (one.end.failed, one.texts)) each) olds news (sym closed_is)
+    (map (λ (one : OneRun). (one.end.failed, one.texts)) each)) (sym closed_is)
     (ran.0, ran.1.texts_are ∙ served.1, ran.1.replies_are ∙ served.2) in
     record { ran = w.0; texts_are = w.1; replies_are = w.2 }
 

@@ -1,5 +1,5 @@
 -- Sessions that wait for their sources.
-use Rattle.std.proofs.Common.{◌≡◌, ℕ, Bool, false, List, [], Option, refl, ap, sym, ◌∙◌, subst}
+use Rattle.std.proofs.Common.{◌≡◌, ℕ, Bool, false, [], refl, ap, sym, ◌∙◌, subst}
 use Rattle.pin_core.specs.declared.sizes.Sizes.{Sizes}
 use Rattle.view_sums.specs.Total.{total}
 use Rattle.pinned_pool.specs.Sought.{Sought}
@@ -13,7 +13,7 @@ use Rattle.tx_ring.specs.Shown.{driver_ring, driver_view, device_ring, device_vi
 use Rattle.tx_ring.specs.declared.device.DeviceEnd.{DeviceEnd}
 use Rattle.tx_ring.specs.declared.driver.Driver.{Driver}
 use Rattle.command_exec.specs.Passes.{PassView}
-use Rattle.command_pump.specs.Pump.{PumpState, IsPump}
+use Rattle.command_pump.specs.Pump.{Origin, PumpState, IsPump}
 use Rattle.serve_model.specs.Demand.{stage_row}
 use Rattle.session_pass.specs.Views.{SessionView, whole_view}
 use Rattle.session_serve.specs.Working.{IsFresh}
@@ -51,11 +51,11 @@ module _ {g : Ghosts Sent} where
   slot_credits z session device failed is =
       ap (λ (s : SessionView). s.opened.credits) is.session_is ∙ is.pass.opened.keeps.credits
 
-  -- with a source that wasn't read
+  -- with a source that gave nothing
   pub fresh : (z : Sizes) (session : SessionView) (device : DeviceEnd Sent g) (failed : Bool) (pump : PumpState)
-      (left : Option (List ℕ)) (faults : ℕ) → IsSessionSlot z session device failed → IsPump left faults [] pump
-      → (pump.left ≡ left) × (pump.faults ≡ faults) → IsFresh z session pump
-  fresh z session device failed pump left faults is unread own =
+      (origin : Origin) (faults : ℕ) → IsSessionSlot z session device failed → IsPump origin faults [] pump
+      → pump.given ≡ [] → pump.faults ≡ faults → IsFresh z session pump
+  fresh z session device failed pump origin faults is unread none same =
       let opened : session.opened ≡ session.pass.seat = ap (λ (s : SessionView). s.opened) is.session_is in
       record {
         none_posted = ap (λ (s : SessionView). s.posted) is.session_is;
@@ -65,5 +65,6 @@ module _ {g : Ghosts Sent} where
             ∙ stage_alone z session.pass.stage session_credits session.pass.seat is.pass.opened weight;
         claimed = subst (Sought z stage_row 0 nobody) (sym opened) is.pass.sought;
         unstopped = ap (λ (s : SessionView). s.stopped) is.session_is;
-        unread = subst (λ (y : Option (List ℕ) × ℕ). IsPump y.0 y.1 [] pump) (λ i. (sym own.0 i, sym own.1 i)) unread;
+        none_given = none;
+        unread = subst (λ (y : Origin × ℕ). IsPump y.0 y.1 [] pump) (λ i. (sym unread.origin_is i, sym same i)) unread;
       }

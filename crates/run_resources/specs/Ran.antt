@@ -1,14 +1,10 @@
 -- What is shown of wires and reads behind a run.
-use Rattle.std.specs.Prelude.{◌≡◌, ℕ, Bool, false, List, [], ◌∷◌, Option, None, map}
+use Rattle.std.specs.Prelude.{◌≡◌, ℕ, Bool, false, List, [], ◌∷◌}
 use Rattle.std.specs.Borrow.{Bor}
 use Rattle.flake_base.specs.declared.session.SessionEnd.{SessionEnd}
 use Rattle.command_pump.specs.Pump.{EndFaults}
 use Rattle.session_serve.specs.Whole.{SentWhole}
 use Rattle.session_serve.specs.Wires.{SendsOut}
-
--- nothing is told of the wires
-abbrev pub no_wires : List SessionEnd → List (Option (List ℕ))
-no_wires ends = map (λ (_ : SessionEnd). None) ends
 
 -- How often the reads of each source failed, before and behind, is by its session's end. All lists are as long.
 abbrev pub AreReads : List SessionEnd → List ℕ → List ℕ → Type 0

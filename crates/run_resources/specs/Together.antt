@@ -11,24 +11,20 @@ use Rattle.serve_model.specs.Handed.{OneRun, AllRun}
 use Rattle.serve_model.specs.Seats.{HasAll, IsSpare}
 use Rattle.serve_model.specs.Replies.{all_replies}
 use Rattle.serve_model.specs.Shown.{WasRun}
-use Rattle.run_resources.specs.Ran.{no_wires}
 
--- Each session ran; the lists and the seat are theirs, but for a seat that has nothing, and no wire is told.
+-- Each session ran; the lists and the seat are theirs, but for a seat that has nothing.
 pub record AreRuns (z : Sizes) (shards : ℕ) (each : List OneRun) (lists : List SessionList) (main : View)
     : Type 0 where
   pub all : AllRun z shards 0 each
   pub lists_are : lists ≡ map (λ (one : OneRun). one.list) each
-  pub olds : map (λ (one : OneRun). one.old) each ≡ no_wires (map (λ (one : OneRun). one.end) each)
-  pub news : map (λ (one : OneRun). one.new) each ≡ no_wires (map (λ (one : OneRun). one.end) each)
   pub spare : View
   pub spare_is : IsSpare spare
   pub seats : HasAll (spare ∷ map (λ (one : OneRun). one.seat) each) main
 
 -- So the inputs were served, and the returned journal gives the texts of the replies.
 pub record HaveShown (z : Sizes) (each : List OneRun) (journal : List (List Entry)) (closed : End) : Type 0 where
-  pub ran : WasRun z (map (λ (one : OneRun). one.input) each) (map (λ (one : OneRun). one.left) each)
-      (map (λ (one : OneRun). one.end) each) journal (no_wires (map (λ (one : OneRun). one.end) each))
-      (no_wires (map (λ (one : OneRun). one.end) each)) closed
+  pub ran : WasRun z (map (λ (one : OneRun). one.given) each) (map (λ (one : OneRun). one.ended) each)
+      (map (λ (one : OneRun). one.end) each) journal closed
   pub texts_are : wire_texts ran.served.sessions journal
       ≡ map (λ (one : OneRun). (one.end.failed, flat_map (λ text. text) one.texts)) each
   pub replies_are : all_replies ran.served.sessions journal

@@ -1,3 +1,4 @@
 pub mod Inputs
 pub mod Ran
 pub mod Ways
+pub mod Held

@@ -1,5 +1,6 @@
 -- Generated inputs that were served.
-use Rattle.std.proofs.Common.{◌≡◌, ◌≢◌, ◌∙◌, ℕ, ◌≤◌, Bool, List, Some, length, map, arith, ap, ap₂, subst}
+use Rattle.std.proofs.Common.{◌≡◌, ◌≢◌, ◌∙◌, ℕ, ◌≤◌, Bool, List, [], ◌∷◌, Some, length, map, arith, refl, ap}
+use Rattle.std.proofs.Common.{ap₂, sym, subst}
 use Rattle.std.specs.Borrow.{Bor}
 use Rattle.std.specs.List.{AllByRecursion, range_with_len}
 use Rattle.std.proofs.lemmas.Simd.{map-map}
@@ -21,13 +22,21 @@ use Rattle.run_resources.specs.Opened.{pool_sizes}
 use Rattle.run_resources.specs.Ran.{AreReads}
 use Rattle.serve_inputs.specs.Ran.{RanAll}
 use Rattle.run_resources.specs.declared.sizes.Sizes.{Sizes}
-use Rattle.serve_generated.specs.Generated.{RanGenerated, commands_in_all, inputs_of, generated_sizes}
+use Rattle.serve_generated.specs.Generated.{RanGenerated, AreFronts, commands_in_all, inputs_of, generated_sizes}
+use Rattle.serve_generated.specs.Input.{InputState, new_input, bytes_held, to_come, none_to_come}
+use Rattle.serve_generated.proofs.Inputs.{inputs_below}
 use Rattle.serve_generated.proofs.Ways.{all_ways, no_faults}
 
--- the text of each session's requests
-abbrev pub texts_of : GenTask → List (List ℕ)
-texts_of task = map (λ session. requests_text (all_words task.number session task.requests))
-    (range_with_len 0 task.sessions)
+-- what sources gave of the texts that they hold
+fronts_of : (texts : List (List ℕ)) (lasts : List InputState)
+    → map (λ (s : InputState). Some (bytes_held s)) lasts ≡ map Some texts
+    → AreFronts texts (map (λ (s : InputState). s.given) lasts) (map (λ (s : InputState). s.ended) lasts)
+fronts_of [] [] same = (refl, refl)
+fronts_of [] (s ∷ lasts) same = absurd (let no : ⊥ = cc same in no)
+fronts_of (text ∷ texts) [] same = absurd (let no : ⊥ = cc same in no)
+fronts_of (text ∷ texts) (s ∷ lasts) same =
+    let held : text ≡ bytes_held s = cc same in
+    ((to_come s.ended s.left, held, none_to_come s.ended s.left), fronts_of texts lasts (cc same))
 
 -- the pool has what the commands may claim
 enough : (task : GenTask) (commands : List (List Command)) (class : Class) → commands ≡ commands_in_all task
@@ -36,33 +45,37 @@ enough task commands Small is = omega (arith, ap (demand_of Small) is)
 enough task commands Large is = omega (arith, ap (demand_of Large) is)
 
 module _ {W : Type 0} (put_may : W → Bor (List ℕ) → (W × Bool) → Type 0) (flush_may : W → (W × Bool) → Type 0) where
-  pub ran_generated : (task : GenTask) (sizes : Sizes) (sources lefts : List (List ℕ)) (ends : List SessionEnd)
+  pub ran_generated : (task : GenTask) (sizes : Sizes) (sources lasts : List InputState) (ends : List SessionEnd)
       (counts : List ℕ) (journal : List (List Entry)) (pool : End) (olds news : List W)
-      → task.sessions ≤ 16 → task.requests ≤ 4000 → sizes ≡ generated_sizes task → sources ≡ texts_of task
-      → RanAll put_may flush_may (pool_sizes (length sources) sizes) (map Some sources) (map Some lefts) ends counts
-      journal pool olds news
-      → AreReads ends (no_faults sources) (no_faults lefts) → AllByRecursion (λ end. end.end ≢ Left) ends
-      → RanGenerated put_may flush_may task (map Some lefts) ends counts journal pool olds news
-  ran_generated task sizes sources lefts ends counts journal pool olds news few short sizes_are sources_are was reads
-      stays =
+      → task.sessions ≤ 16 → task.requests ≤ 4000 → sizes ≡ generated_sizes task
+      → sources ≡ inputs_below task.number task.requests task.sessions
+      → RanAll put_may flush_may (pool_sizes (length sources) sizes) (map (λ (s : InputState). s.given) lasts)
+      (map (λ (s : InputState). s.ended) lasts) ends counts journal pool olds news
+      → map (λ (s : InputState). Some (bytes_held s)) lasts ≡ map (λ (s : InputState). Some (bytes_held s)) sources
+      → AreReads ends (no_faults sources) (no_faults lasts) → AllByRecursion (λ end. end.end ≢ Left) ends
+      → RanGenerated put_may flush_may task (map (λ (s : InputState). s.given) lasts)
+      (map (λ (s : InputState). s.ended) lasts) ends counts journal pool olds news
+  ran_generated task sizes sources lasts ends counts journal pool olds news few short sizes_are sources_are was wholes
+      reads stays =
+      let givens = map (λ (s : InputState). s.given) lasts in
+      let endeds = map (λ (s : InputState). s.ended) lasts in
+      let text : ℕ → List ℕ = λ session. requests_text (all_words task.number session task.requests) in
       let as_many : length sources ≡ task.sessions = ap length sources_are
-      ∙ length-map-range_with_len (λ session. requests_text (all_words task.number session task.requests)) 0
-      task.sessions in
-      let inputs : map Some sources ≡ inputs_of task = ap (map Some) sources_are
-      ∙ map-map Some (λ session. requests_text (all_words task.number session task.requests))
-      (range_with_len 0 task.sessions) in
-      let here : RanAll put_may flush_may (pool_sizes task.sessions (generated_sizes task)) (map Some sources)
-      (map Some lefts) ends counts journal pool olds news =
-      subst (λ z. RanAll put_may flush_may z (map Some sources) (map Some lefts) ends counts journal pool olds news)
+      ∙ length-map-range_with_len (λ session. new_input (text session)) 0 task.sessions in
+      let held : map (λ (s : InputState). Some (bytes_held s)) lasts ≡ map Some (inputs_of task) =
+      wholes ∙ ap (map (λ (s : InputState). Some (bytes_held s))) sources_are
+      ∙ map-map (λ (s : InputState). Some (bytes_held s)) (λ session. new_input (text session))
+      (range_with_len 0 task.sessions) ∙ sym (map-map Some text (range_with_len 0 task.sessions)) in
+      let gave = fronts_of (inputs_of task) lasts held in
+      let ran : RanAll put_may flush_may (pool_sizes task.sessions (generated_sizes task)) givens endeds ends counts
+      journal pool olds news =
+      subst (λ z. RanAll put_may flush_may z givens endeds ends counts journal pool olds news)
       (ap₂ pool_sizes as_many sizes_are) was in
-      let ran : RanAll put_may flush_may (pool_sizes task.sessions (generated_sizes task)) (inputs_of task)
-      (map Some lefts) ends counts journal pool olds news =
-      subst (λ inputs. RanAll put_may flush_may (pool_sizes task.sessions (generated_sizes task)) inputs
-      (map Some lefts) ends counts journal pool olds news) inputs here in
       let served = ran.ran.served in
-      let both = all_ways task.number task.requests 0 task.sessions served.sessions ends sources lefts
-      (omega arith) short served.each_is served.inputs_are served.ends_are reads stays in
+      let both = all_ways task.number task.requests 0 task.sessions served.sessions givens endeds ends sources lasts
+      (omega arith) short served.each_is served.given_is served.ended_is served.ends_are gave reads stays in
       record {
+        gave = gave;
         ran = ran;
         ways = both.0;
         commands = both.1;

@@ -1,7 +1,8 @@
 -- Generated requests that were served.
-use Rattle.std.specs.Prelude.{◌≡◌, ◌≢◌, ℕ, ◌<◌, ◌⊎◌, max, Bool, List, Option, Some, map}
+use Rattle.std.specs.Prelude.{◌≡◌, ◌≢◌, ℕ, ◌<◌, ◌⊎◌, max, Bool, List, [], ◌∷◌, Some, map}
 use Rattle.std.specs.Borrow.{Bor}
 use Rattle.std.specs.List.{AllByRecursion, range_with_len}
+use Rattle.flake_base.specs.Reads.{IsGivenFront}
 use Rattle.flake_base.specs.declared.journal.Entry.{Entry}
 use Rattle.flake_base.specs.declared.session.End.TheVariants.{Clean, Memory}
 use Rattle.flake_base.specs.declared.session.SessionEnd.{SessionEnd}
@@ -18,9 +19,9 @@ use Rattle.serve_inputs.specs.Ran.{RanAll}
 use Rattle.run_resources.specs.declared.sizes.Sizes.{Sizes}
 
 -- the input of each session
-abbrev pub inputs_of : GenTask → List (Option (List ℕ))
+abbrev pub inputs_of : GenTask → List (List ℕ)
 inputs_of task =
-    map (λ session. Some (requests_text (all_words task.number session task.requests))) (range_with_len 0 task.sessions)
+    map (λ session. requests_text (all_words task.number session task.requests)) (range_with_len 0 task.sessions)
 
 -- and its commands
 abbrev pub commands_in_all : GenTask → List (List Command)
@@ -36,6 +37,14 @@ generated_sizes task = record {
   threshold = 512;
 }
 
+-- of each input a front was given, and all of it where none was given at last
+abbrev pub AreFronts : List (List ℕ) → List (List ℕ) → List Bool → Type 0
+AreFronts [] givens endeds = (givens ≡ []) × (endeds ≡ [])
+AreFronts (input ∷ inputs) [] endeds = ⊥
+AreFronts (input ∷ inputs) (given ∷ givens) [] = ⊥
+AreFronts (input ∷ inputs) (given ∷ givens) (ended ∷ endeds) =
+    IsGivenFront (Some input) given ended × AreFronts inputs givens endeds
+
 -- no pool can have as many
 abbrev pub IsTooMuch : GenTask → Type 0
 IsTooMuch task = (65_536 < demand_of Small (commands_in_all task)) ⊎ (16_384 < demand_of Large (commands_in_all task))
@@ -45,11 +54,12 @@ abbrev pub HadMemory : List SessionEnd → Type 0
 HadMemory ends = AllByRecursion (λ end. end.end ≢ Memory) ends
 
 module _ {W : Type 0} (put_may : W → Bor (List ℕ) → (W × Bool) → Type 0) (flush_may : W → (W × Bool) → Type 0) where
-  -- The generated inputs were served, and so many bytes of each were put in whole replies.
-  pub record RanGenerated (task : GenTask) (lefts : List (Option (List ℕ))) (ends : List SessionEnd)
+  -- What the sources gave of the generated inputs was served, and so many bytes of each one's replies were put in whole
+  -- replies.
+  pub record RanGenerated (task : GenTask) (givens : List (List ℕ)) (endeds : List Bool) (ends : List SessionEnd)
       (counts : List ℕ) (journal : List (List Entry)) (pool : End) (olds news : List W) : Type 0 where
-    pub ran : RanAll put_may flush_may (pool_sizes task.sessions (generated_sizes task)) (inputs_of task) lefts ends
-        counts
+    pub gave : AreFronts (inputs_of task) givens endeds
+    pub ran : RanAll put_may flush_may (pool_sizes task.sessions (generated_sizes task)) givens endeds ends counts
         journal pool olds news
     -- each session ended clean, but for want of memory
     pub ways : AllByRecursion (λ end. (end.end ≡ Clean) ⊎ (end.end ≡ Memory)) ends

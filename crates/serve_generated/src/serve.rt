@@ -1,4 +1,4 @@
-ghost use Rattle.std.specs.Prelude.{◌≡◌, ◌≢◌, ◌<◌, ◌≤◌, All, length, map, Some, IfOk, IfErr, IsErrAnd};
+ghost use Rattle.std.specs.Prelude.{◌≡◌, ◌≢◌, ◌<◌, ◌≤◌, All, length, map, IfOk, IfErr, IsErrAnd};
 ghost use Rattle.flake_base.specs.Histories.{histories};
 ghost use Rattle.gen_words.specs.Task.{IsAllowedGenerated};
 ghost use Rattle.serve_generated.specs.Generated.{IsTooMuch, RanGenerated};
@@ -42,8 +42,8 @@ pub fn serve_generated<
     requires task { IsAllowedGenerated task.now }
     requires wires { task.now.sessions ≤ length wires.items }
     ensures ran { IfOk result (λ r. RanGenerated (λ w p r. PUT.post put.now w p r) (λ w r. FLUSH.post flush.now w r)
-        task.now (map Some r.sources.items) r.ends.items r.sent.items (histories r.journal.items) r.pool
-        wires.items r.wires.items) }
+        task.now (map (λ s. s.given) r.sources.items) (map (λ s. s.ended) r.sources.items) r.ends.items r.sent.items
+        (histories r.journal.items) r.pool wires.items r.wires.items) }
     ensures shards { IfOk result (λ r. length r.journal.items ≡ 8) }
     ensures fits { IfOk result (λ r. IsTooMuch task.now → ⊥) }
     ensures too_much { IfErr result (λ e. e.0 ≡ Refused.TooMuch → IsTooMuch task.now) }

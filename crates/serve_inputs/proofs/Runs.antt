@@ -11,8 +11,6 @@ use Rattle.std.proofs.Common.{
   [],
   ◌∷◌,
   ◌++◌,
-  Option,
-  None,
   All,
   map,
   length,
@@ -35,7 +33,7 @@ use Rattle.serve_model.specs.Handed.{SessionHasRun, OneRun, AllRun}
 use Rattle.session_pass.specs.Views.{SessionView}
 use Rattle.session_workers.specs.Jobs.{IsDone}
 use Rattle.run_resources.specs.Opened.{session_credits}
-use Rattle.run_resources.specs.Ran.{no_wires, AreReads, AllSent, AllWhole}
+use Rattle.run_resources.specs.Ran.{AreReads, AllSent, AllWhole}
 use Rattle.run_resources.proofs.SessionSlots.{number_of, HasCredits}
 
 module _ {J D W : Type 0} (put_may : W → Bor (List ℕ) → (W × Bool) → Type 0) (flush_may : W → (W × Bool) → Type 0)
@@ -53,31 +51,44 @@ module _ {J D W : Type 0} (put_may : W → Bor (List ℕ) → (W × Bool) → Ty
   runs_of (j ∷ jobs) [] is = []
   runs_of (j ∷ jobs) (d ∷ dones) is =
       record {
-        input = (pump j).left;
-        left = (left d).left;
+        given = (left d).given;
+        ended = (left d).ended;
         end = end d;
         list = mine d;
         seat = seat d;
         texts = is.0.served.texts;
-        old = None;
-        new = None;
       } ∷ runs_of jobs dones is.1
 
-  pub inputs_are : (jobs : List J) (dones : List D) (is : AllZip WasDone jobs dones)
-      → map (λ (one : OneRun). one.input) (runs_of jobs dones is) ≡ map (λ (j : J). (pump j).left) jobs
-  inputs_are [] [] is = refl
-  inputs_are [] (d ∷ dones) is = absurd is
-  inputs_are (j ∷ jobs) [] is = absurd is
-  inputs_are (j ∷ jobs) (d ∷ dones) is = ap (λ (more : List (Option (List ℕ))). (pump j).left ∷ more)
-      (inputs_are jobs dones is.1)
+  pub givens_are : (jobs : List J) (dones : List D) (is : AllZip WasDone jobs dones)
+      → map (λ (one : OneRun). one.given) (runs_of jobs dones is) ≡ map (λ (d : D). (left d).given) dones
+  givens_are [] [] is = refl
+  givens_are [] (d ∷ dones) is = absurd is
+  givens_are (j ∷ jobs) [] is = absurd is
+  givens_are (j ∷ jobs) (d ∷ dones) is = ap (λ (more : List (List ℕ)). (left d).given ∷ more)
+      (givens_are jobs dones is.1)
 
-  pub lefts_are : (jobs : List J) (dones : List D) (is : AllZip WasDone jobs dones)
-      → map (λ (one : OneRun). one.left) (runs_of jobs dones is) ≡ map (λ (d : D). (left d).left) dones
-  lefts_are [] [] is = refl
-  lefts_are [] (d ∷ dones) is = absurd is
-  lefts_are (j ∷ jobs) [] is = absurd is
-  lefts_are (j ∷ jobs) (d ∷ dones) is = ap (λ (more : List (Option (List ℕ))). (left d).left ∷ more)
-      (lefts_are jobs dones is.1)
+  pub endeds_are : (jobs : List J) (dones : List D) (is : AllZip WasDone jobs dones)
+      → map (λ (one : OneRun). one.ended) (runs_of jobs dones is) ≡ map (λ (d : D). (left d).ended) dones
+  endeds_are [] [] is = refl
+  endeds_are [] (d ∷ dones) is = absurd is
+  endeds_are (j ∷ jobs) [] is = absurd is
+  endeds_are (j ∷ jobs) (d ∷ dones) is = ap (λ (more : List Bool). (left d).ended ∷ more)
+      (endeds_are jobs dones is.1)
+
+  -- what a source says of itself stays
+  pub names_kept : (jobs : List J) (dones : List D) → AllZip WasDone jobs dones
+      → map (λ (d : D). (left d).origin.name) dones ≡ map (λ (j : J). (pump j).origin.name) jobs
+  names_kept [] [] is = refl
+  names_kept [] (d ∷ dones) is = absurd is
+  names_kept (j ∷ jobs) [] is = absurd is
+  names_kept (j ∷ jobs) (d ∷ dones) is = λ i. (is.0.origin i).name ∷ names_kept jobs dones is.1 i
+
+  pub wholes_kept : (jobs : List J) (dones : List D) → AllZip WasDone jobs dones
+      → map (λ (d : D). (left d).origin.whole) dones ≡ map (λ (j : J). (pump j).origin.whole) jobs
+  wholes_kept [] [] is = refl
+  wholes_kept [] (d ∷ dones) is = absurd is
+  wholes_kept (j ∷ jobs) [] is = absurd is
+  wholes_kept (j ∷ jobs) (d ∷ dones) is = λ i. (is.0.origin i).whole ∷ wholes_kept jobs dones is.1 i
 
   pub ends_are : (jobs : List J) (dones : List D) (is : AllZip WasDone jobs dones)
       → map (λ (one : OneRun). one.end) (runs_of jobs dones is) ≡ map end dones
@@ -100,23 +111,6 @@ module _ {J D W : Type 0} (put_may : W → Bor (List ℕ) → (W × Bool) → Ty
   seats_are (j ∷ jobs) [] is = absurd is
   seats_are (j ∷ jobs) (d ∷ dones) is = ap (λ (more : List View). seat d ∷ more) (seats_are jobs dones is.1)
 
-  -- no wire is told
-  pub olds_are : (jobs : List J) (dones : List D) (is : AllZip WasDone jobs dones)
-      → map (λ (one : OneRun). one.old) (runs_of jobs dones is)
-      ≡ no_wires (map (λ (one : OneRun). one.end) (runs_of jobs dones is))
-  olds_are [] [] is = refl
-  olds_are [] (d ∷ dones) is = refl
-  olds_are (j ∷ jobs) [] is = refl
-  olds_are (j ∷ jobs) (d ∷ dones) is = ap (λ (more : List (Option (List ℕ))). None ∷ more) (olds_are jobs dones is.1)
-
-  pub news_are : (jobs : List J) (dones : List D) (is : AllZip WasDone jobs dones)
-      → map (λ (one : OneRun). one.new) (runs_of jobs dones is)
-      ≡ no_wires (map (λ (one : OneRun). one.end) (runs_of jobs dones is))
-  news_are [] [] is = refl
-  news_are [] (d ∷ dones) is = refl
-  news_are (j ∷ jobs) [] is = refl
-  news_are (j ∷ jobs) (d ∷ dones) is = ap (λ (more : List (Option (List ℕ))). None ∷ more) (news_are jobs dones is.1)
-
   pub all_ran : (n : ℕ) (jobs : List J) (dones : List D) (is : AllZip WasDone jobs dones)
       → map number_of (map session jobs) ≡ range_with_len n (length jobs) → AllRun z shards n (runs_of jobs dones is)
   all_ran n [] [] is numbers = tt
@@ -125,10 +119,9 @@ module _ {J D W : Type 0} (put_may : W → Bor (List ℕ) → (W × Bool) → Ty
   all_ran n (j ∷ jobs) (d ∷ dones) is numbers =
       let first : (session j).pass.list.number ≡ n = cc in
       let others : map number_of (map session jobs) ≡ range_with_len (n + 1) (length jobs) = cc in (
-        subst (λ (k : ℕ). SessionHasRun z shards k (pump j).left (left d).left (end d) (mine d)
+        subst (λ (k : ℕ). SessionHasRun z shards k (left d).given (left d).ended (end d) (mine d)
             (seat d) is.0.served.texts)
             first is.0.served.ran,
-        refl,
         all_ran (n + 1) jobs dones is.1 others,
       )
 

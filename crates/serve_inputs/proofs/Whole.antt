@@ -52,19 +52,19 @@ pub ran_all : {J D W : Type 0} (jobs : List J) (dones : List D) (put_may : W →
     (flush_may : W → (W × Bool) → Type 0) (z y : Sizes) (shards : ℕ) (session : J → SessionView)
     (pump : J → PumpState) (old : J → W) (end : D → SessionEnd) (bytes : D → ℕ) (mine : D → SessionList)
     (seat : D → View)
-    (left : D → PumpState) (new : D → W) (inputs lefts : List (Option (List ℕ))) (ends : List SessionEnd)
+    (left : D → PumpState) (new : D → W) (givens : List (List ℕ)) (endeds : List Bool) (ends : List SessionEnd)
     (counts : List ℕ) (lists : List SessionList) (journal : List (List Entry)) (closed : End) (spare main : View)
     (past olds news : List W)
     → AllZip (WasDone put_may flush_may z shards session pump old end bytes mine seat left new) jobs dones
     → z ≡ y → map number_of (map session jobs) ≡ range_with_len 0 (length jobs) → lists ≡ map mine dones
     → IsSpare spare → HasJoined (map seat dones) spare main
     → ((each : List OneRun) → AreRuns z shards each lists main → HaveShown z each journal closed)
-    → map (λ (j : J). (pump j).left) jobs ≡ inputs → lefts ≡ map (λ (d : D). (left d).left) dones
+    → givens ≡ map (λ (d : D). (left d).given) dones → endeds ≡ map (λ (d : D). (left d).ended) dones
     → ends ≡ map end dones → counts ≡ map bytes dones → map old jobs ++ past ≡ olds → news ≡ map new dones ++ past
-    → RanAll put_may flush_may y inputs lefts ends counts journal closed olds news
-ran_all {J} {D} {W} jobs dones put_may flush_may z y shards session pump old end bytes mine seat left new inputs lefts
+    → RanAll put_may flush_may y givens endeds ends counts journal closed olds news
+ran_all {J} {D} {W} jobs dones put_may flush_may z y shards session pump old end bytes mine seat left new givens endeds
     ends
-    counts lists journal closed spare main past olds news is same numbers lists_is empty joins shown inputs_is lefts_is
+    counts lists journal closed spare main past olds news is same numbers lists_is empty joins shown givens_is endeds_is
     ends_is counts_is olds_is news_is =
     let each : List OneRun =
     runs.runs_of put_may flush_may z shards session pump old end bytes mine seat left new jobs dones is in
@@ -74,26 +74,24 @@ ran_all {J} {D} {W} jobs dones put_may flush_may z y shards session pump old end
           numbers;
       lists_are = lists_is
           ∙ sym (runs.lists_are put_may flush_may z shards session pump old end bytes mine seat left new jobs dones is);
-      olds = runs.olds_are put_may flush_may z shards session pump old end bytes mine seat left new jobs dones is;
-      news = runs.news_are put_may flush_may z shards session pump old end bytes mine seat left new jobs dones is;
       spare = spare;
       spare_is = empty;
       seats = subst (λ (views : List View). HasAll (spare ∷ views) main) (sym seats)
           (joins_all (map seat dones) spare main joins);
     } in
     let has = shown each are in
-    let a = runs.inputs_are put_may flush_may z shards session pump old end bytes mine seat left new jobs dones is
-    ∙ inputs_is in
-    let b = runs.lefts_are put_may flush_may z shards session pump old end bytes mine seat left new jobs dones is
-    ∙ sym lefts_is in
+    let a = runs.givens_are put_may flush_may z shards session pump old end bytes mine seat left new jobs dones is
+    ∙ sym givens_is in
+    let b = runs.endeds_are put_may flush_may z shards session pump old end bytes mine seat left new jobs dones is
+    ∙ sym endeds_is in
     let e = runs.ends_are put_may flush_may z shards session pump old end bytes mine seat left new jobs dones is
     ∙ sym ends_is in
     let sent = runs.all_sent put_may flush_may z shards session pump old end bytes mine seat left new past jobs dones is
     in
     let whole = runs.all_whole put_may flush_may z shards session pump old end bytes mine seat left new past jobs dones
     is in
-    let own : RanAll put_may flush_may z (map (λ (one : OneRun). one.input) each)
-    (map (λ (one : OneRun). one.left) each) (map (λ (one : OneRun). one.end) each) (map bytes dones) journal closed
+    let own : RanAll put_may flush_may z (map (λ (one : OneRun). one.given) each)
+    (map (λ (one : OneRun). one.ended) each) (map (λ (one : OneRun). one.end) each) (map bytes dones) journal closed
     (map old jobs ++ past) (map new dones ++ past) = record {
       ran = has.ran;
       sends = subst (λ (texts : List (Bool × List ℕ)). AllSent put_may flush_may texts (map old jobs ++ past)
@@ -101,9 +99,35 @@ ran_all {J} {D} {W} jobs dones put_may flush_may z y shards session pump old end
       wholes = subst (λ (replies : List (Bool × List (List ℕ))). AllWhole put_may flush_may replies (map bytes dones)
           (map old jobs ++ past) (map new dones ++ past)) (sym has.replies_are) whole;
     } in
-    subst (λ (q : Sizes × List (Option (List ℕ)) × List (Option (List ℕ)) × List SessionEnd × List ℕ × List W × List W).
+    subst (λ (q : Sizes × List (List ℕ) × List Bool × List SessionEnd × List ℕ × List W × List W).
     RanAll put_may flush_may q.0 q.1 q.2 q.3 q.4 journal closed q.5 q.6)
     (λ i. (same i, a i, b i, e i, sym counts_is i, olds_is i, sym news_is i)) own
+
+pub names_kept : {J D W : Type 0} (jobs : List J) (dones : List D)
+    (put_may : W → Bor (List ℕ) → (W × Bool) → Type 0) (flush_may : W → (W × Bool) → Type 0) (z : Sizes) (shards : ℕ)
+    (session : J → SessionView) (pump : J → PumpState) (old : J → W) (end : D → SessionEnd) (bytes : D → ℕ)
+    (mine : D → SessionList)
+    (seat : D → View) (left : D → PumpState) (new : D → W) (befores nows : List (List ℕ))
+    → AllZip (WasDone put_may flush_may z shards session pump old end bytes mine seat left new) jobs dones
+    → map (λ (j : J). (pump j).origin.name) jobs ≡ befores → nows ≡ map (λ (d : D). (left d).origin.name) dones
+    → nows ≡ befores
+names_kept jobs dones put_may flush_may z shards session pump old end bytes mine seat left new befores nows is
+    befores_are nows_are =
+    nows_are ∙ runs.names_kept put_may flush_may z shards session pump old end bytes mine seat left new jobs dones is
+    ∙ befores_are
+
+pub wholes_kept : {J D W : Type 0} (jobs : List J) (dones : List D)
+    (put_may : W → Bor (List ℕ) → (W × Bool) → Type 0) (flush_may : W → (W × Bool) → Type 0) (z : Sizes) (shards : ℕ)
+    (session : J → SessionView) (pump : J → PumpState) (old : J → W) (end : D → SessionEnd) (bytes : D → ℕ)
+    (mine : D → SessionList)
+    (seat : D → View) (left : D → PumpState) (new : D → W) (befores nows : List (Option (List ℕ)))
+    → AllZip (WasDone put_may flush_may z shards session pump old end bytes mine seat left new) jobs dones
+    → map (λ (j : J). (pump j).origin.whole) jobs ≡ befores → nows ≡ map (λ (d : D). (left d).origin.whole) dones
+    → nows ≡ befores
+wholes_kept jobs dones put_may flush_may z shards session pump old end bytes mine seat left new befores nows is
+    befores_are nows_are =
+    nows_are ∙ runs.wholes_kept put_may flush_may z shards session pump old end bytes mine seat left new jobs dones is
+    ∙ befores_are
 
 pub all_reads : {J D W : Type 0} (jobs : List J) (dones : List D)
     (put_may : W → Bor (List ℕ) → (W × Bool) → Type 0) (flush_may : W → (W × Bool) → Type 0) (z : Sizes) (shards : ℕ)

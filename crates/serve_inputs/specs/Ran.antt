@@ -1,5 +1,5 @@
 -- What is shown of a run.
-use Rattle.std.specs.Prelude.{ℕ, Bool, List, Option}
+use Rattle.std.specs.Prelude.{ℕ, Bool, List}
 use Rattle.std.specs.Borrow.{Bor}
 use Rattle.flake_base.specs.declared.journal.Entry.{Entry}
 use Rattle.flake_base.specs.declared.session.SessionEnd.{SessionEnd}
@@ -8,14 +8,14 @@ use Rattle.pin_core.specs.declared.sizes.Sizes.{Sizes}
 use Rattle.pinned_pool.specs.Ends.{End}
 use Rattle.serve_model.specs.Replies.{all_replies}
 use Rattle.serve_model.specs.Shown.{WasRun}
-use Rattle.run_resources.specs.Ran.{no_wires, AllSent, AllWhole}
+use Rattle.run_resources.specs.Ran.{AllSent, AllWhole}
 
 module _ {W : Type 0} (put_may : W → Bor (List ℕ) → (W × Bool) → Type 0) (flush_may : W → (W × Bool) → Type 0) where
-  -- The inputs were served; the returned journal gives the texts of their replies, each of which was put on its wire.
-  pub record RanAll (z : Sizes) (inputs lefts : List (Option (List ℕ))) (ends : List SessionEnd) (counts : List ℕ)
+  -- What the sources gave was served; the returned journal gives the texts of the replies, each of which was put on its
+  -- wire.
+  pub record RanAll (z : Sizes) (givens : List (List ℕ)) (endeds : List Bool) (ends : List SessionEnd) (counts : List ℕ)
       (journal : List (List Entry)) (closed : End) (olds news : List W) : Type 0 where
-    -- what the wires have of it is said by `sends`
-    pub ran : WasRun z inputs lefts ends journal (no_wires ends) (no_wires ends) closed
+    pub ran : WasRun z givens endeds ends journal closed
     pub sends : AllSent put_may flush_may (wire_texts ran.served.sessions journal) olds news
     -- so many bytes of each in whole replies
     pub wholes : AllWhole put_may flush_may (all_replies ran.served.sessions journal) counts olds news

@@ -29,12 +29,14 @@ pub(crate) fn line_up<N: BookName, P: PoolName + Send, S: Source + Drop, W: Drop
 ) -> (Vec<Job<N, P, S, W>>, IntoIter<W>)
     requires slots { All (λ d. IsSessionSlot P.sizes d.session d.device.end d.device.failed) slots.items }
     requires sources { length sources.items ≡ length slots.items }
+    requires unread { All (λ s. S.given s ≡ []) sources.items }
     requires wires { length slots.items ≤ length wires.items }
     requires room { (jobs.items ≡ []) × (length slots.items ≤ vec_capacity jobs) }
     ensures fresh { All (λ job. IsNewJob P.sizes job.line.session job.line.pump job.line.device.end
         job.line.device.failed) result.0.items }
     ensures sessions { map (λ job. job.line.session) result.0.items ≡ map (λ d. d.session) slots.items }
-    ensures lefts { map (λ job. job.line.pump.left) result.0.items ≡ map (λ s. S.left s) sources.items }
+    ensures names { map (λ job. job.line.pump.origin.name) result.0.items ≡ map (λ s. S.name s) sources.items }
+    ensures wholes { map (λ job. job.line.pump.origin.whole) result.0.items ≡ map (λ s. S.whole s) sources.items }
     ensures faults { map (λ job. job.line.pump.faults) result.0.items ≡ map (λ s. S.read_faults s) sources.items }
     ensures wires { map (λ job. job.wire) result.0.items ++ into_iter_items result.1 ≡ wires.items }
 {

@@ -57,7 +57,10 @@ pub(crate) fn bring_in<N: BookName, P: PoolName, S: Source + Drop, W: Drop>(
     ensures ends { result.ends.items ≡ map (λ d. d.account.end) dones.items }
     ensures sent { result.sent.items ≡ map (λ d. d.account.sent) dones.items }
     ensures lists { result.lists.items ≡ map (λ d. d.account.mine) dones.items }
-    ensures lefts { map (λ s. S.left s) result.sources.items ≡ map (λ d. d.account.pump.left) dones.items }
+    ensures names { map (λ s. S.name s) result.sources.items ≡ map (λ d. d.account.pump.origin.name) dones.items }
+    ensures wholes { map (λ s. S.whole s) result.sources.items ≡ map (λ d. d.account.pump.origin.whole) dones.items }
+    ensures givens { map (λ s. S.given s) result.sources.items ≡ map (λ d. d.account.pump.given) dones.items }
+    ensures endeds { map (λ s. S.ended s) result.sources.items ≡ map (λ d. d.account.pump.ended) dones.items }
     ensures faults { map (λ s. S.read_faults s) result.sources.items ≡ map (λ d. d.account.pump.faults) dones.items }
     ensures wires { result.wires.items ≡ map (λ d. d.wire) dones.items ++ into_iter_items past }
     ensures seats { HasJoined (map (λ d. d.account.seat) dones.items) main.old main.new }

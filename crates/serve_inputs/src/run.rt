@@ -1,5 +1,5 @@
 // Some sources, from nothing to nothing.
-ghost use Rattle.std.specs.Prelude.{◌≡◌, ◌≢◌, ◌<◌, ◌≤◌, All, length, map, IfOk, IfErr};
+ghost use Rattle.std.specs.Prelude.{◌≡◌, ◌≢◌, ◌<◌, ◌≤◌, [], All, length, map, IfOk, IfErr};
 ghost use Rattle.flake_base.specs.Histories.{histories};
 ghost use Rattle.run_resources.specs.Opened.{HasRunSizes, IsPool, IsBook, pool_sizes};
 ghost use Rattle.run_resources.specs.Ran.{AreReads};
@@ -42,15 +42,18 @@ fn serve_named<
     requires calls { PUT.IsAlwaysCallable put.now × FLUSH.IsAlwaysCallable flush.now }
     requires sized { HasRunSizes (length sources.items) sizes.now }
     requires workers { (0 < workers) × (workers ≤ 16) }
+    requires unread { All (λ s. S.given s ≡ []) sources.items }
     requires wires { length sources.items ≤ length wires.items }
     requires pool { (P.table ≡ pool.table) × (P.sizes ≡ pool.sizes)
         × IsPool (length sources.items) sizes.now P.sizes }
     requires book { (N.table ≡ book.table) × (N.sizes ≡ book.sizes)
         × IsBook (length sources.items) sizes.now N.sizes }
     ensures ran { IfOk result (λ r. RanAll (λ w p r. PUT.post put.now w p r) (λ w r. FLUSH.post flush.now w r)
-        (pool_sizes (length sources.items) sizes.now) (map (λ s. S.left s) sources.items)
-        (map (λ s. S.left s) r.sources.items) r.ends.items r.sent.items (histories r.journal.items) r.pool
+        (pool_sizes (length sources.items) sizes.now) (map (λ s. S.given s) r.sources.items)
+        (map (λ s. S.ended s) r.sources.items) r.ends.items r.sent.items (histories r.journal.items) r.pool
         wires.items r.wires.items) }
+    ensures names { IfOk result (λ r. map (λ s. S.name s) r.sources.items ≡ map (λ s. S.name s) sources.items) }
+    ensures wholes { IfOk result (λ r. map (λ s. S.whole s) r.sources.items ≡ map (λ s. S.whole s) sources.items) }
     ensures shards { IfOk result (λ r. length r.journal.items ≡ sizes.now.shards) }
     ensures reads { IfOk result (λ r. AreReads r.ends.items (map (λ s. S.read_faults s) sources.items)
         (map (λ s. S.read_faults s) r.sources.items)) }
@@ -68,9 +71,9 @@ fn serve_named<
     ))
 }
 
-/// Serves the requests of each source to its end, or until memory is wanting, by so many workers, and puts the replies
-/// on its wire; wires past the sources come back as they are. Where memory is wanting before anything is read, the
-/// sources and the wires come back.
+/// Serves the requests of each source, of which nothing was read, to its end, or until memory is wanting, by so many
+/// workers, and puts the replies on its wire; wires past the sources come back as they are. Where memory is wanting
+/// before anything is read, the sources and the wires come back.
 pub fn serve_inputs<
     R: Threads + Wait + Sync,
     S: Source + Send + Drop,
@@ -92,11 +95,14 @@ pub fn serve_inputs<
     requires calls { PUT.IsAlwaysCallable put.now × FLUSH.IsAlwaysCallable flush.now }
     requires sized { HasRunSizes (length sources.items) sizes.now }
     requires workers { (0 < workers) × (workers ≤ 16) }
+    requires unread { All (λ s. S.given s ≡ []) sources.items }
     requires wires { length sources.items ≤ length wires.items }
     ensures ran { IfOk result (λ r. RanAll (λ w p r. PUT.post put.now w p r) (λ w r. FLUSH.post flush.now w r)
-        (pool_sizes (length sources.items) sizes.now) (map (λ s. S.left s) sources.items)
-        (map (λ s. S.left s) r.sources.items) r.ends.items r.sent.items (histories r.journal.items) r.pool
+        (pool_sizes (length sources.items) sizes.now) (map (λ s. S.given s) r.sources.items)
+        (map (λ s. S.ended s) r.sources.items) r.ends.items r.sent.items (histories r.journal.items) r.pool
         wires.items r.wires.items) }
+    ensures names { IfOk result (λ r. map (λ s. S.name s) r.sources.items ≡ map (λ s. S.name s) sources.items) }
+    ensures wholes { IfOk result (λ r. map (λ s. S.whole s) r.sources.items ≡ map (λ s. S.whole s) sources.items) }
     ensures shards { IfOk result (λ r. length r.journal.items ≡ sizes.now.shards) }
     ensures reads { IfOk result (λ r. AreReads r.ends.items (map (λ s. S.read_faults s) sources.items)
         (map (λ s. S.read_faults s) r.sources.items)) }

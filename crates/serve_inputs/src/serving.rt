@@ -63,6 +63,7 @@ pub(crate) fn serve_opened<
     requires workers { (0 < workers) × (workers ≤ 16) }
     requires pool { IsPool (length sources.items) sizes.now P.sizes }
     requires book { IsBook (length sources.items) sizes.now N.sizes }
+    requires unread { All (λ s. S.given s ≡ []) sources.items }
     requires wires { length sources.items ≤ length wires.items }
     requires main { IsSpare resources.main × (resources.main.credits ≡ 1) }
     requires slots { All (λ d. IsSessionSlot P.sizes d.session d.device.end d.device.failed) resources.slots.items }
@@ -76,9 +77,11 @@ pub(crate) fn serve_opened<
     requires room { (space.results.sources.items ≡ []) × (length sources.items ≤ vec_capacity space.results.sources) }
     requires wire_room { (space.results.wires.items ≡ []) × (length wires.items ≤ vec_capacity space.results.wires) }
     ensures ran { RanAll (λ w p r. PUT.post put.now w p r) (λ w r. FLUSH.post flush.now w r)
-        (pool_sizes (length sources.items) sizes.now) (map (λ s. S.left s) sources.items)
-        (map (λ s. S.left s) result.sources.items) result.ends.items result.sent.items
+        (pool_sizes (length sources.items) sizes.now) (map (λ s. S.given s) result.sources.items)
+        (map (λ s. S.ended s) result.sources.items) result.ends.items result.sent.items
         (histories result.journal.items) result.pool wires.items result.wires.items }
+    ensures names { map (λ s. S.name s) result.sources.items ≡ map (λ s. S.name s) sources.items }
+    ensures wholes { map (λ s. S.whole s) result.sources.items ≡ map (λ s. S.whole s) sources.items }
     ensures shards { length result.journal.items ≡ sizes.now.shards }
     ensures reads { AreReads result.ends.items (map (λ s. S.read_faults s) sources.items)
         (map (λ s. S.read_faults s) result.sources.items) }

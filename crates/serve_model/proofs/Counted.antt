@@ -155,9 +155,9 @@ module _ (books : book_sizes.Sizes) (all : List SessionRun) (shards : List Shard
           held_most (λ (weight : Holding → ℕ). total weight last.holds) 0 z.small,
           held_most (λ (weight : Holding → ℕ). total weight last.holds) z.small z.large,
         );
-        claims = λ class. omega (arith, claimed class);
         missed = picks.picked;
         missed_are = picks.sum;
+        claims = λ class. omega (arith, claimed class, picks.within class);
         looks_small = λ b below.
             let small = class_of_range z Small b (omega arith) (omega arith) in
             omega (arith, picks.within Small, seen b (omega arith), ap sums.missed small);

@@ -183,7 +183,7 @@ with_stage z run opened seat stage calls =
     sought_as z _ _ _ _ nobody seat whole (λ class. omega arith) (omega arith)
 
 pub session_ran : SessionRan
-session_ran z shards session input left run texts pins told opened seat last stage is finished is_session =
+session_ran z shards session given ended run texts pins told opened seat last stage is finished is_session =
     let missed = missed_by run.calls + missed_in run.behind in
     let sought = with_stage z run opened last stage
     (sought_still z (λ (class : Class). commands_row class run.commands) missed opened seat last is.sought

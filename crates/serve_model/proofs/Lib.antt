@@ -19,3 +19,4 @@ pub mod One
 pub mod Cuts
 pub mod Rows
 pub mod Worked
+pub mod Mixed

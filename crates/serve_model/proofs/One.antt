@@ -26,21 +26,18 @@ only_text (session ∷ sessions) commands journal end text ends texts =
     sym (ap first_text texts) ∙ ap (λ (e : SessionEnd). wire_text commands journal 0 e.replies) same
 
 pub one_ran : OneRan
-one_ran books z shards list journal store input left end seat texts old new past spare last closed sessions parts has
-    grew is =
+one_ran books z shards list journal store given ended end seat texts spare last closed sessions parts has is =
     let one : OneRun = record {
-      input = input;
-      left = left;
+      given = given;
+      ended = ended;
       end = end;
       list = list;
       seat = seat;
       texts = texts;
-      old = old;
-      new = new;
     } in
-    let served = all_served z books.shards (one ∷ []) past (has, grew, tt) in
-    let ran = was_run books z shards (list ∷ []) journal store (input ∷ []) (left ∷ []) (end ∷ []) (seat ∷ [])
-    (old ∷ past) (new ∷ past) closed (sym sessions) parts served.0 last spare is in (
+    let served = all_served z books.shards (one ∷ []) (has, tt) in
+    let ran = was_run books z shards (list ∷ []) journal store (given ∷ []) (ended ∷ []) (end ∷ [])
+    (seat ∷ []) closed (sym sessions) parts served.0 last spare is in (
       ran.0,
       only_text ran.0.served.sessions _ journal end (flat_map (λ text. text) texts) ran.0.served.ends_are
           (ran.1.texts_are ∙ served.1),

@@ -1,5 +1,5 @@
 -- A served run, with the end of its pool, from what the layers hand up.
-use Rattle.std.proofs.Common.{◌≡◌, Bool, ℕ, ◌+◌, List, [], ◌∷◌, ◌++◌, Option, length, map, refl, ap, sym, ◌∙◌, subst}
+use Rattle.std.proofs.Common.{◌≡◌, Bool, ℕ, ◌+◌, List, [], ◌∷◌, length, map, refl, ap, sym, ◌∙◌, subst}
 use Rattle.std.specs.List.{flat_map}
 use Rattle.std.proofs.lemmas.List.Folds.{flat_map-map}
 use Rattle.view_sums.specs.Total.{Each}
@@ -11,7 +11,6 @@ use Rattle.pinned_pool.specs.declared.view.View.{View}
 use Rattle.flake_model.specs.Reply.{reply_text}
 use Rattle.flake_model.specs.Run.{WasServed}
 use Rattle.flake_model.specs.Session.{Session, IsSession}
-use Rattle.flake_model.specs.Wire.{WiresGrew}
 use Rattle.order_book.specs.Closed.{AreClosed, journal_of}
 use Rattle.order_book.specs.Pages.{ShardList, SessionList}
 use Rattle.order_book.specs.declared.rule.Sizes as book_sizes
@@ -24,15 +23,12 @@ use Rattle.serve_model.specs.Runs.{lists_told, texts_told, all_texts_told}
 use Rattle.serve_model.specs.Seats.{AreSpentSeats}
 use Rattle.serve_model.specs.Shown.{WasRun}
 use Rattle.serve_model.specs.Whole.{AreThose, ServedTogether}
-use Rattle.flake_base.specs.Growth.{Grew}
 use Rattle.serve_model.proofs.Counted.{counted}
 use Rattle.serve_model.proofs.OneHistory.{one_history}
 use Rattle.serve_model.proofs.Served.{lists_long, sessions_long, rising, all_sessions, texts, replies, in_order}
 
-abbrev Told : Type 0
-Told = Option (List ℕ)
-
-module _ (f : SessionRun → Told) (g : Session → Told) (same : (ran : SessionRun) → g (session_in ran) ≡ f ran) where
+module _ {T : Type 0} (f : SessionRun → T) (g : Session → T)
+    (same : (ran : SessionRun) → g (session_in ran) ≡ f ran) where
   mapped : (all : List SessionRun) → map g (map session_in all) ≡ map f all
   mapped [] = refl
   mapped (ran ∷ all) = λ i. same ran i ∷ mapped all i
@@ -43,10 +39,10 @@ ends_mapped [] = refl
 ends_mapped (ran ∷ all) = ap (λ (ends : List SessionEnd). ran.run.end ∷ ends) (ends_mapped all)
 
 module _ (books : book_sizes.Sizes) (z : pool_sizes.Sizes) (shards : List ShardList) (sessions : List SessionList)
-    (journal : List (List Entry)) (store : View) (inputs lefts : List Told) (ends : List SessionEnd)
-    (seats : List View) (olds news : List Told) (closed : AreClosed books shards sessions)
+    (journal : List (List Entry)) (store : View) (givens : List (List ℕ)) (endeds : List Bool)
+    (ends : List SessionEnd) (seats : List View) (closed : AreClosed books shards sessions)
     (as_many : length sessions ≡ books.sessions) (parts : AreParts z books.shards shards journal store)
-    (served : AreServed z books.shards inputs lefts ends sessions seats olds news) where
+    (served : AreServed z books.shards givens endeds ends sessions seats) where
   abbrev all : List SessionRun
   all = served.all
 
@@ -61,23 +57,22 @@ module _ (books : book_sizes.Sizes) (z : pool_sizes.Sizes) (shards : List ShardL
   }
 
   -- the run, by the journal that the shards' lists make
-  own : WasServed inputs lefts ends (journal_of shards) olds news
+  own : WasServed givens endeds ends (journal_of shards)
   own = record {
     sessions = map session_in all;
-    inputs_are = mapped (λ ran. ran.input) (λ session. session.input) (λ ran. refl) all ∙ sym served.inputs_are;
-    lefts_are = mapped (λ ran. ran.left) (λ session. session.left) (λ ran. refl) all ∙ sym served.lefts_are;
+    given_is = mapped (λ ran. ran.given) (λ session. session.given) (λ ran. refl) all ∙ sym served.givens_are;
+    ended_is = mapped (λ ran. ran.ended) (λ session. session.ended) (λ ran. refl) all ∙ sym served.endeds_are;
     ends_are = ends_mapped all ∙ sym served.ends_are;
     each_is = all_sessions all served.sessions_are;
     orderly = in_order books all shards sessions lists;
     one_order = (has_ranks books shards sessions closed (sessions_long books all shards sessions lists)
         (rising books all shards sessions lists)).0;
     one_history = one_history books all shards sessions lists;
-    wires = subst (λ t. WiresGrew t olds news) (sym (texts books all shards sessions lists)) served.wires;
   }
 
   -- it is of those sessions
   abbrev Served : List (List Entry) → Type 0
-  Served j = (run : WasServed inputs lefts ends j olds news) × AreThose all run.sessions j
+  Served j = (run : WasServed givens endeds ends j) × AreThose all run.sessions j
 
   pub was_served : Served journal
   unfolding own
@@ -93,7 +88,7 @@ module _ (books : book_sizes.Sizes) (z : pool_sizes.Sizes) (shards : List ShardL
       subst Served (sym parts.journal_is) run
 
   abbrev Ran : View → List (List Entry) → Type 0
-  Ran last j = (run : WasRun z inputs lefts ends j olds news (pool_end z last)) × AreThose all run.served.sessions j
+  Ran last j = (run : WasRun z givens endeds ends j (pool_end z last)) × AreThose all run.served.sessions j
 
   pub was_run : (last : View) (spare : List View) → IsLastSeat store spare seats last → Ran last journal
   unfolding own
@@ -115,8 +110,8 @@ module _ (books : book_sizes.Sizes) (z : pool_sizes.Sizes) (shards : List ShardL
 -- the sessions' runs, one behind the other
 record HasRuns (z : pool_sizes.Sizes) (shards session : ℕ) (each : List OneRun) : Type 0 where
   all : List SessionRun
-  inputs_are : map (λ (one : OneRun). one.input) each ≡ map (λ (ran : SessionRun). ran.input) all
-  lefts_are : map (λ (one : OneRun). one.left) each ≡ map (λ (ran : SessionRun). ran.left) all
+  givens_are : map (λ (one : OneRun). one.given) each ≡ map (λ (ran : SessionRun). ran.given) all
+  endeds_are : map (λ (one : OneRun). one.ended) each ≡ map (λ (ran : SessionRun). ran.ended) all
   ends_are : map (λ (one : OneRun). one.end) each ≡ map (λ (ran : SessionRun). ran.run.end) all
   sessions_are : Each (λ (ran : SessionRun). IsSession (session_in ran)) all
   runs_are : Each IsRun (runs_in all)
@@ -125,8 +120,6 @@ record HasRuns (z : pool_sizes.Sizes) (shards session : ℕ) (each : List OneRun
   texts_are : texts_told (runs_in all)
       ≡ map (λ (one : OneRun). (one.end.failed, flat_map (λ text. text) one.texts)) each
   replies_are : all_texts_told (runs_in all) ≡ map (λ (one : OneRun). (one.end.failed, one.texts)) each
-  wires : (past : List Told) → WiresGrew (texts_told (runs_in all)) (map (λ (one : OneRun). one.old) each ++ past)
-      (map (λ (one : OneRun). one.new) each ++ past)
 
 -- the texts of its replies, end to end
 abbrev in_one : Bool × List (List ℕ) → Bool × List ℕ
@@ -139,8 +132,8 @@ runs_of : (z : pool_sizes.Sizes) (shards session : ℕ) (each : List OneRun) →
     → HasRuns z shards session each
 runs_of z shards session [] have = record {
   all = [];
-  inputs_are = refl;
-  lefts_are = refl;
+  givens_are = refl;
+  endeds_are = refl;
   ends_are = refl;
   sessions_are = tt;
   runs_are = tt;
@@ -148,19 +141,18 @@ runs_of z shards session [] have = record {
   seats_are = tt;
   texts_are = refl;
   replies_are = refl;
-  wires = λ past. refl;
 }
 runs_of z shards session (one ∷ each) have =
-    let rest = runs_of z shards (session + 1) each have.2 in
+    let rest = runs_of z shards (session + 1) each have.1 in
     let has = have.0 in
     let texts : (has.run.end.failed, run_texts has.run) ≡ (one.end.failed, one.texts) =
     λ i. ((sym has.end_is i).failed, sym has.texts_are i) in
     let text : (has.run.end.failed, run_text has.run) ≡ (one.end.failed, flat_map (λ text. text) one.texts) =
     (λ i. (has.run.end.failed, run_text_is has.run i)) ∙ ap in_one texts in
     record {
-      all = record { input = one.input; left = one.left; run = has.run } ∷ rest.all;
-      inputs_are = ap (λ (l : List Told). one.input ∷ l) rest.inputs_are;
-      lefts_are = ap (λ (l : List Told). one.left ∷ l) rest.lefts_are;
+      all = record { given = one.given; ended = one.ended; run = has.run } ∷ rest.all;
+      givens_are = ap (λ (l : List (List ℕ)). one.given ∷ l) rest.givens_are;
+      endeds_are = ap (λ (l : List Bool). one.ended ∷ l) rest.endeds_are;
       ends_are = λ i. has.end_is i ∷ rest.ends_are i;
       sessions_are = (has.is_session, rest.sessions_are);
       runs_are = (has.is_run, rest.runs_are);
@@ -168,26 +160,21 @@ runs_of z shards session (one ∷ each) have =
       seats_are = (has.seat_is, rest.seats_are);
       texts_are = λ i. text i ∷ rest.texts_are i;
       replies_are = λ i. texts i ∷ rest.replies_are i;
-      wires = λ past. (
-        subst (λ (t : Bool × List ℕ). Grew t.0 t.1 one.old one.new) (sym text) have.1,
-        rest.wires past,
-      );
     }
 
 -- sessions that were run one by one, or beside each other, were served
 pub all_served : ServedTogether
-all_served z shards each past have =
+all_served z shards each have =
     let found = runs_of z shards 0 each have in (
       record {
         all = found.all;
-        inputs_are = found.inputs_are;
-        lefts_are = found.lefts_are;
+        givens_are = found.givens_are;
+        endeds_are = found.endeds_are;
         ends_are = found.ends_are;
         sessions_are = found.sessions_are;
         runs_are = found.runs_are;
         told = found.told;
         seats_are = found.seats_are;
-        wires = found.wires past;
       },
       found.texts_are,
       found.replies_are,

@@ -27,10 +27,10 @@ use Rattle.order_book.specs.Pages.{ShardList}
 use Rattle.call_model.specs.Stock.{AreParts, IsStock, fragments_left}
 use Rattle.serve_model.specs.Demand.{session_row}
 use Rattle.serve_model.specs.Handed.{SessionRun, session_in, runs_in, AreServed, IsLastSeat}
-use Rattle.serve_model.specs.Runs.{IsRun}
+use Rattle.serve_model.specs.Runs.{IsRun, texts_told}
 use Rattle.serve_model.specs.Worked.{pool, books, key_a, bytes, place, setting, getting, setting_other, set_input}
 use Rattle.serve_model.specs.Worked.{get_input, other_input, all, shard_pages, session_pages, shards, sessions, store}
-use Rattle.serve_model.specs.Worked.{seats, last, olds, news, WorkedRun}
+use Rattle.serve_model.specs.Worked.{seats, last, texts, WorkedRun}
 use Rattle.serve_model.proofs.Ran.{was_run}
 
 away : (a b : ℕ) → (a ≡ b → ⊥) → same a b ≡ 0
@@ -202,10 +202,6 @@ other_parsed = (
 sessions_are : Each (λ (ran : SessionRun). IsSession (session_in ran)) all
 sessions_are = (
   record {
-    gave = set_input;
-    left = [];
-    input_is = refl;
-    left_is = refl;
     requests = _;
     shown = Clean;
     parsed = set_parsed;
@@ -218,10 +214,6 @@ sessions_are = (
   },
   (
     record {
-      gave = get_input;
-      left = [];
-      input_is = refl;
-      left_is = refl;
       requests = _;
       shown = Clean;
       parsed = get_parsed;
@@ -234,10 +226,6 @@ sessions_are = (
     },
     (
       record {
-        gave = other_input;
-        left = [];
-        input_is = refl;
-        left_is = refl;
         requests = _;
         shown = Clean;
         parsed = other_parsed;
@@ -286,13 +274,13 @@ third_looks : (b : ℕ) → b < buffers pool → looked_at b [] + missed (class_
 third_looks zero below = omega arith
 third_looks (suc b) below = absurd (let no : ⊥ = omega arith in no)
 
-served : AreServed pool 1 (map (λ (ran : SessionRun). ran.input) all) (map (λ (ran : SessionRun). ran.left) all)
-    (map (λ (ran : SessionRun). ran.run.end) all) sessions seats olds news
+served : AreServed pool 1 (map (λ (ran : SessionRun). ran.given) all) (map (λ (ran : SessionRun). ran.ended) all)
+    (map (λ (ran : SessionRun). ran.run.end) all) sessions seats
 unfolding digits
 served = record {
   all = all;
-  inputs_are = refl;
-  lefts_are = refl;
+  givens_are = refl;
+  endeds_are = refl;
   ends_are = refl;
   sessions_are = sessions_are;
   runs_are = runs_are;
@@ -329,7 +317,6 @@ served = record {
       ),
     ),
   );
-  wires = ((_, refl, refl), ((_, refl, refl), ((_, refl, refl), refl)));
 }
 
 is_last : IsLastSeat store [] seats last
@@ -346,6 +333,11 @@ is_last = record {
   looked = λ b some. some;
 }
 
+-- by the text of each reply
+sent : texts_told (runs_in all) ≡ texts
+unfolding digits
+sent = refl
+
 pub worked : WorkedRun
 worked = record {
   closed = closed;
@@ -353,6 +345,7 @@ worked = record {
   parts = parts;
   served = served;
   last_is = is_last;
-  run = (was_run books pool shards sessions (journal_of shards) store _ _ _ seats olds news closed refl parts served
-      last [] is_last).0;
+  run = (was_run books pool shards sessions (journal_of shards) store _ _ _ seats closed refl parts served last
+      [] is_last).0;
+  texts_are = sent;
 }

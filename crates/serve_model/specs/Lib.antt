@@ -13,3 +13,4 @@ pub mod Stages
 pub mod Cuts
 pub mod Rows
 pub mod Worked
+pub mod Mixed

@@ -1,7 +1,6 @@
 -- A run of one session alone.
-use Rattle.std.specs.Prelude.{◌≡◌, ℕ, List, [], ◌∷◌, Option}
+use Rattle.std.specs.Prelude.{◌≡◌, ℕ, List, [], ◌∷◌, Bool}
 use Rattle.std.specs.List.{flat_map}
-use Rattle.flake_base.specs.Growth.{Grew}
 use Rattle.flake_base.specs.declared.journal.Entry.{Entry}
 use Rattle.flake_base.specs.declared.session.SessionEnd.{SessionEnd}
 use Rattle.pin_core.specs.declared.sizes.Sizes as pool_sizes
@@ -16,16 +15,13 @@ use Rattle.call_model.specs.Stock.{AreParts}
 use Rattle.serve_model.specs.Handed.{SessionHasRun, IsLastSeat}
 use Rattle.serve_model.specs.Shown.{WasRun}
 
--- The only session of a book ran, and its wire grew by its replies' texts: so it is a whole run, in which the journal
--- gives these texts.
+-- The only session of a book ran: so it is a whole run, in which the journal gives its replies' texts.
 abbrev pub OneRan : Type 0
 OneRan = (books : book_sizes.Sizes) (z : pool_sizes.Sizes) (shards : List ShardList) (list : SessionList)
-    (journal : List (List Entry)) (store : View) (input left : Option (List ℕ)) (end : SessionEnd) (seat : View)
-    (texts : List (List ℕ)) (old new : Option (List ℕ)) (past : List (Option (List ℕ))) (spare : List View)
-    (last : View)
+    (journal : List (List Entry)) (store : View) (given : List ℕ) (ended : Bool) (end : SessionEnd) (seat : View)
+    (texts : List (List ℕ)) (spare : List View) (last : View)
     → AreClosed books shards (list ∷ []) → books.sessions ≡ 1 → AreParts z books.shards shards journal store
-    → SessionHasRun z books.shards 0 input left end list seat texts
-    → Grew end.failed (flat_map (λ text. text) texts) old new
+    → SessionHasRun z books.shards 0 given ended end list seat texts
     → IsLastSeat store spare (seat ∷ []) last
-    → (run : WasRun z (input ∷ []) (left ∷ []) (end ∷ []) journal (old ∷ past) (new ∷ past) (pool_end z last))
+    → (run : WasRun z (given ∷ []) (ended ∷ []) (end ∷ []) journal (pool_end z last))
     × (flat_map (λ text. text) texts ≡ wire_text (all_commands run.served.sessions) journal 0 end.replies)

@@ -85,11 +85,11 @@ pub record IsRun (run : Run) : Type 0 where
   pub behind_are : AreOutcomes (next_parts (length run.calls) run.commands) run.behind
   pub begun_is : IsBegun run.end.end (length run.behind) (length (next_parts (length run.calls) run.commands))
 
--- the session that ran so, of an input with what it has left
-abbrev pub session_of : Option (List ℕ) → Option (List ℕ) → Run → Session
-session_of input left run = record {
-  input = input;
-  left = left;
+-- the session that ran so, with what its source gave, and whether it gave none at last
+abbrev pub session_of : List ℕ → Bool → Run → Session
+session_of given ended run = record {
+  given = given;
+  ended = ended;
   commands = run.commands;
   end = run.end;
   begun = length run.behind;

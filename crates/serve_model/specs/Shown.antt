@@ -1,5 +1,5 @@
 -- What the end of a served pool shows, by the journal.
-use Rattle.std.specs.Prelude.{◌≡◌, ℕ, ◌+◌, ◌<◌, ◌≤◌, List, Option}
+use Rattle.std.specs.Prelude.{◌≡◌, ℕ, ◌+◌, ◌<◌, ◌≤◌, Bool, List}
 use Rattle.std.specs.List.{flat_map}
 use Rattle.std.specs.FinMap as finite
 use Rattle.view_sums.specs.Total.{total}
@@ -46,10 +46,12 @@ pub record IsCounted (z : Sizes) (sessions : List Session) (journal : List (List
   pub held_large : end.large ≡ fragments_by_class Large (all_commands sessions) journal
   -- and no more than there are
   pub few : (end.small ≤ z.small) × (end.large ≤ z.large)
-  pub claims : (class : Class) → buffers_in z class end.seat.claims ≤ demand_of class (all_commands sessions)
   -- each write that is missing missed a buffer, of the one class or the other
   pub missed : Class → ℕ
   pub missed_are : missed Small + missed Large ≡ missing_writes sessions journal
+  -- of each class no more were claimed and missed than the commands may claim
+  pub claims : (class : Class)
+      → buffers_in z class end.seat.claims + missed class ≤ demand_of class (all_commands sessions)
   -- each of whose buffers was found held as often
   pub looks_small : (b : ℕ) → b < z.small → missed Small ≤ looked_at b end.seat.looks
   pub looks_large : (b : ℕ) → z.small ≤ b → b < z.small + z.large → missed Large ≤ looked_at b end.seat.looks
@@ -57,7 +59,7 @@ pub record IsCounted (z : Sizes) (sessions : List Session) (journal : List (List
   pub returned : long_found sessions journal ≤ end.seat.returns
 
 -- What a whole run says: the inputs were served, and the end of the pool is that of their commands.
-pub record WasRun (z : Sizes) (inputs lefts : List (Option (List ℕ))) (ends : List SessionEnd)
-    (journal : List (List Entry)) (olds news : List (Option (List ℕ))) (end : End) : Type 0 where
-  pub served : WasServed inputs lefts ends journal olds news
+pub record WasRun (z : Sizes) (givens : List (List ℕ)) (endeds : List Bool) (ends : List SessionEnd)
+    (journal : List (List Entry)) (end : End) : Type 0 where
+  pub served : WasServed givens endeds ends journal
   pub counted : IsCounted z served.sessions journal end

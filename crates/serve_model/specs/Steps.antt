@@ -1,5 +1,5 @@
 -- How a session goes on, call by call, and how it ends.
-use Rattle.std.specs.Prelude.{◌≡◌, ℕ, ◌+◌, List, [], ◌∷◌, ◌++◌, Option, length}
+use Rattle.std.specs.Prelude.{◌≡◌, ℕ, ◌+◌, List, [], ◌∷◌, ◌++◌, Bool, length}
 use Rattle.flake_base.specs.declared.session.End.TheVariants as how
 use Rattle.flake_base.specs.declared.session.SessionEnd.{SessionEnd}
 use Rattle.pin_core.specs.declared.class.Class.{Class}
@@ -93,12 +93,12 @@ WithStage = (z : Sizes) (run : Run) (opened seat : View) → Sought z stage_row 
     → Sought z (λ (class : Class). session_row class run.commands) (missed_by run.calls + missed_in run.behind)
     nobody seat
 
--- So the session ran, where its input is told so, and sends the texts of its frames.
+-- So the session ran on what its source gave, and its texts are those of its frames.
 abbrev pub SessionRan : Type 0
-SessionRan = (z : Sizes) (shards session : ℕ) (input left : Option (List ℕ)) (run : Run) (texts : List (List ℕ))
+SessionRan = (z : Sizes) (shards session : ℕ) (given : List ℕ) (ended : Bool) (run : Run) (texts : List (List ℕ))
     (pins : ℕ) (told : SessionDeeds) (opened seat last : View) → Sought z stage_row 0 nobody opened
     → CallsNoMore z shards session run texts pins told opened seat → IsFinished pins seat last
-    → IsSession (session_of input left run)
-    → SessionHasRun z shards session input left run.end (record { number = session; told = told; looks = run.looks })
+    → IsSession (session_of given ended run)
+    → SessionHasRun z shards session given ended run.end (record { number = session; told = told; looks = run.looks })
     last
     texts

@@ -1,5 +1,5 @@
 -- What a closed book, a store's parts and the sessions' runs give together.
-use Rattle.std.specs.Prelude.{◌≡◌, ℕ, ◌≤◌, List, ◌++◌, Option, length, map}
+use Rattle.std.specs.Prelude.{◌≡◌, ℕ, ◌≤◌, Bool, List, length, map}
 use Rattle.std.specs.List.{flat_map}
 use Rattle.flake_base.specs.declared.journal.Entry.{Entry}
 use Rattle.flake_base.specs.declared.session.SessionEnd.{SessionEnd}
@@ -20,19 +20,18 @@ use Rattle.serve_model.specs.Replies.{all_replies}
 use Rattle.serve_model.specs.Runs.{texts_told, all_texts_told}
 use Rattle.serve_model.specs.Shown.{IsCounted, WasRun}
 
--- sessions that ran each for itself were served together, with these texts; wires past theirs are as they were
+-- sessions that ran each for itself were served together, with these texts
 abbrev pub ServedTogether : Type 0
-ServedTogether = (z : pool_sizes.Sizes) (shards : ℕ) (each : List OneRun) (past : List (Option (List ℕ)))
+ServedTogether = (z : pool_sizes.Sizes) (shards : ℕ) (each : List OneRun)
     → AllRun z shards 0 each
-    → (served : AreServed z shards (map (λ (one : OneRun). one.input) each) (map (λ (one : OneRun). one.left) each)
+    → (served : AreServed z shards (map (λ (one : OneRun). one.given) each) (map (λ (one : OneRun). one.ended) each)
     (map (λ (one : OneRun). one.end) each) (map (λ (one : OneRun). one.list) each)
-    (map (λ (one : OneRun). one.seat) each) (map (λ (one : OneRun). one.old) each ++ past)
-    (map (λ (one : OneRun). one.new) each ++ past))
+    (map (λ (one : OneRun). one.seat) each))
     × (texts_told (runs_in served.all)
     ≡ map (λ (one : OneRun). (one.end.failed, flat_map (λ text. text) one.texts)) each)
     × (all_texts_told (runs_in served.all) ≡ map (λ (one : OneRun). (one.end.failed, one.texts)) each)
 
--- the sessions are those that ran so, and by the journal the wires are sent their texts
+-- the sessions are those that ran so, and the journal gives the texts of their replies
 pub record AreThose (all : List SessionRun) (sessions : List Session) (journal : List (List Entry)) : Type 0 where
   pub sessions_are : sessions ≡ map session_in all
   pub texts_are : wire_texts sessions journal ≡ texts_told (runs_in all)
@@ -41,23 +40,23 @@ pub record AreThose (all : List SessionRun) (sessions : List Session) (journal :
 -- the inputs were served
 abbrev pub InputsServed : Type 0
 InputsServed = (books : book_sizes.Sizes) (z : pool_sizes.Sizes) (shards : List ShardList)
-    (sessions : List SessionList) (journal : List (List Entry)) (store : View) (inputs lefts : List (Option (List ℕ)))
-    (ends : List SessionEnd) (seats : List View) (olds news : List (Option (List ℕ)))
+    (sessions : List SessionList) (journal : List (List Entry)) (store : View) (givens : List (List ℕ))
+    (endeds : List Bool) (ends : List SessionEnd) (seats : List View)
     → AreClosed books shards sessions → length sessions ≡ books.sessions
     → AreParts z books.shards shards journal store
-    → (served : AreServed z books.shards inputs lefts ends sessions seats olds news)
-    → (run : WasServed inputs lefts ends journal olds news) × AreThose served.all run.sessions journal
+    → (served : AreServed z books.shards givens endeds ends sessions seats)
+    → (run : WasServed givens endeds ends journal) × AreThose served.all run.sessions journal
 
 -- and with the pool's last seat the whole run is as its clause says
 abbrev pub WholeRun : Type 0
 WholeRun = (books : book_sizes.Sizes) (z : pool_sizes.Sizes) (shards : List ShardList) (sessions : List SessionList)
-    (journal : List (List Entry)) (store : View) (inputs lefts : List (Option (List ℕ))) (ends : List SessionEnd)
-    (seats : List View) (olds news : List (Option (List ℕ))) (spare : List View) (last : View)
+    (journal : List (List Entry)) (store : View) (givens : List (List ℕ)) (endeds : List Bool)
+    (ends : List SessionEnd) (seats : List View) (spare : List View) (last : View)
     → AreClosed books shards sessions → length sessions ≡ books.sessions
     → AreParts z books.shards shards journal store
-    → (served : AreServed z books.shards inputs lefts ends sessions seats olds news)
+    → (served : AreServed z books.shards givens endeds ends sessions seats)
     → IsLastSeat store spare seats last
-    → (run : WasRun z inputs lefts ends journal olds news (pool_end z last))
+    → (run : WasRun z givens endeds ends journal (pool_end z last))
     × AreThose served.all run.served.sessions journal
 
 -- where the pool has the demand in both classes no write is missing

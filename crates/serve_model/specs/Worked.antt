@@ -1,6 +1,6 @@
 -- A run of three sessions over one shard and a pool of one buffer: the first sets a key, the second gets it behind
 -- that, and the third sets another key and finds no buffer.
-use Rattle.std.specs.Prelude.{◌≡◌, ℕ, List, [], ◌∷◌, Option, Some, None, false, length, map, codes}
+use Rattle.std.specs.Prelude.{◌≡◌, ℕ, Bool, true, false, List, [], ◌∷◌, Some, None, length, map, codes}
 use Rattle.flake_base.specs.declared.session.End.TheVariants.{Clean}
 use Rattle.pin_core.specs.declared.sizes.Sizes as pool_sizes
 use Rattle.pinned_pool.specs.Ends.{pool_end}
@@ -14,7 +14,8 @@ use Rattle.order_book.specs.Pages.{Ranked, Page, page, ShardList, SessionList, s
 use Rattle.order_book.specs.declared.rule.Sizes as book_sizes
 use Rattle.call_model.specs.Outcomes.{PartOutcome, Outcomes, entry_at, deed_of}
 use Rattle.call_model.specs.Stock.{AreParts}
-use Rattle.serve_model.specs.Handed.{SessionRun, AreServed, IsLastSeat}
+use Rattle.serve_model.specs.Handed.{SessionRun, runs_in, AreServed, IsLastSeat}
+use Rattle.serve_model.specs.Runs.{texts_told}
 use Rattle.serve_model.specs.Shown.{WasRun}
 
 abbrev pub pool : pool_sizes.Sizes
@@ -48,11 +49,11 @@ was_set = record { answer = part.done; found = []; first = 0; stored = place }
 abbrev pub was_found : PartOutcome
 was_found = record { answer = part.value bytes; found = place; first = 0; stored = [] }
 
--- a session that was asked one command, in so many bytes, and read its input to the end
+-- a session that was asked one command, in bytes of which it took so many, and read to the end
 abbrev pub served_one : List ℕ → ℕ → Command → Outcomes → SessionRun
 served_one input taken command outcomes = record {
-  input = Some input;
-  left = Some [];
+  given = input;
+  ended = true;
   run = record {
     commands = command ∷ [];
     calls = outcomes ∷ [];
@@ -115,19 +116,19 @@ seats = view [] 1 (0 ∷ []) [] 0 [] ∷ view [] 1 [] [] 0 [] ∷ view [] 1 [] (
 abbrev pub last : View
 last = view store.holds 4 (0 ∷ []) ((0, 1) ∷ []) 0 []
 
-abbrev pub olds : List (Option (List ℕ))
-olds = Some [] ∷ Some [] ∷ Some [] ∷ []
-
-abbrev pub news : List (Option (List ℕ))
-news = Some (codes "+OK\r\n") ∷ Some (codes "$1\r\nx\r\n") ∷ Some (codes "-OOM no free buffer\r\n") ∷ []
+-- what the wires are sent
+abbrev pub texts : List (Bool × List ℕ)
+texts =
+    (false, codes "+OK\r\n") ∷ (false, codes "$1\r\nx\r\n") ∷ (false, codes "-OOM no free buffer\r\n") ∷ []
 
 -- The layers can hand all of this up together, and it is a whole run.
 pub record WorkedRun : Type 0 where
   pub closed : AreClosed books shards sessions
   pub as_many : length sessions ≡ books.sessions
   pub parts : AreParts pool books.shards shards (journal_of shards) store
-  pub served : AreServed pool books.shards (map (λ (ran : SessionRun). ran.input) all)
-      (map (λ (ran : SessionRun). ran.left) all) (map (λ (ran : SessionRun). ran.run.end) all) sessions seats olds news
+  pub served : AreServed pool books.shards (map (λ (ran : SessionRun). ran.given) all)
+      (map (λ (ran : SessionRun). ran.ended) all) (map (λ (ran : SessionRun). ran.run.end) all) sessions seats
   pub last_is : IsLastSeat store [] seats last
-  pub run : WasRun pool (map (λ (ran : SessionRun). ran.input) all) (map (λ (ran : SessionRun). ran.left) all)
-      (map (λ (ran : SessionRun). ran.run.end) all) (journal_of shards) olds news (pool_end pool last)
+  pub run : WasRun pool (map (λ (ran : SessionRun). ran.given) all) (map (λ (ran : SessionRun). ran.ended) all)
+      (map (λ (ran : SessionRun). ran.run.end) all) (journal_of shards) (pool_end pool last)
+  pub texts_are : texts_told (runs_in all) ≡ texts

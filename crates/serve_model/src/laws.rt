@@ -1,5 +1,7 @@
 //! What the clauses of parts, calls and sessions imply together, as contracts of calls that do nothing.
+ghost use Rattle.std.specs.Prelude.{ℕ, List};
 ghost use Rattle.serve_model.specs.Cuts.{CutsAgree};
+ghost use Rattle.serve_model.specs.Mixed.{MixedIsNone};
 ghost use Rattle.serve_model.specs.One.{OneRan};
 ghost use Rattle.serve_model.specs.Rows.{AreRows};
 ghost use Rattle.serve_model.specs.Seats.{JoinsAdd, OneSeat, AnyOrder, IdleStarts};
@@ -10,7 +12,7 @@ ghost use Rattle.serve_model.specs.Whole.{ServedTogether, InputsServed, WholeRun
 ghost use Rattle.serve_model.specs.Worked.{WorkedRun};
 
 /// The inputs of any number of sessions were served: the journal has one order and one history, and its histories give
-/// the wires' bytes.
+/// the texts of their replies.
 pub fn served()
     ensures { InputsServed }
 {}
@@ -81,7 +83,7 @@ pub fn with_stage()
     ensures { WithStage }
 {}
 
-/// A session's end, with its seat given back and its wire.
+/// A session's end, with its seat given back.
 pub fn session_ran()
     ensures { SessionRan }
 {}
@@ -114,6 +116,11 @@ pub fn cuts_agree()
 /// The demand of some commands, as worked by hand.
 pub fn worked_rows()
     ensures { AreRows }
+{}
+
+/// Writes that need large buffers and writes that need small ones don't miss the same one.
+pub fn not_mixed()
+    ensures { (given : List ℕ) (taken : ℕ) → MixedIsNone given taken }
 {}
 
 /// A worked run meets all that the layers hand up, so the laws are about something.

@@ -1,5 +1,5 @@
 //! One session in a resources that is opened and closed by hand.
-ghost use Rattle.std.specs.Prelude.{◌≡◌, ◌+◌};
+ghost use Rattle.std.specs.Prelude.{◌≡◌, ◌+◌, []};
 ghost use Rattle.run_resources.specs.Opened.{HasRunSizes, IsPool, IsBook};
 
 use super::common::{Watched, flush, put, source, tell, wires_of};
@@ -61,6 +61,7 @@ fn serve_named<R: Threads + Wait + Sync, N: BookName, P: PoolName + Send + Sync>
     wire: Watched,
 ) -> Result<(String, u64), Fail>
     requires sized { HasRunSizes 1 sizes.now }
+    requires unread { source.given ≡ [] }
     requires pool { (P.table ≡ pool.table) × (P.sizes ≡ pool.sizes) × IsPool 1 sizes.now P.sizes }
     requires book { (N.table ≡ book.table) × (N.sizes ≡ book.sizes) × IsBook 1 sizes.now N.sizes }
 {

@@ -1,4 +1,6 @@
 //! Sources of requests, wires that are watched, and what is left of sessions as text.
+ghost use Rattle.std.specs.Prelude.{◌≡◌, [], IfOk};
+
 use flake_base::{Bytes, End, Fails, Journal, MemorySource, MemoryWire, SessionEnd, Wire};
 use pinned_pool::Held;
 use std::alloc::Global;
@@ -6,12 +8,9 @@ use std::fmt::Write;
 use std::test::Fail;
 
 /// A request for each line, of the words between its blanks, and then these bytes. A read gives at most `step`.
-pub fn source(
-    alloc: Global,
-    lines: &str,
-    behind: &[u8],
-    step: usize,
-) -> Result<MemorySource, Fail> {
+pub fn source(alloc: Global, lines: &str, behind: &[u8], step: usize) -> Result<MemorySource, Fail>
+    ensures { IfOk result (λ s. s.given ≡ []) }
+{
     let mut text = Bytes::new(alloc);
     for line in lines.lines() {
         let count = line.split_whitespace().count();

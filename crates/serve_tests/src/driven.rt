@@ -1,4 +1,6 @@
 //! Sources that are driven by a schedule, and lines of a transcript.
+ghost use Rattle.std.specs.Prelude.{◌≡◌, []};
+
 use super::common::{Watched, flush, put, source, tell, wires_of};
 use drive_inputs::drive_inputs;
 use drive_script::LineRoom;
@@ -11,15 +13,21 @@ use std::alloc::Global;
 use std::sync::Wait;
 use std::test::Fail;
 
-// The only call of `drive_inputs`. It has no clauses, so that nothing else carries those of the call.
+// The only call of `drive_inputs`. It has no other clauses, so that nothing else carries those of the call.
 fn driven<R: Wait>(
     rt: &R,
     alloc: Global,
     schedule: &str,
-    sources: Vec<MemorySource>,
+    first: MemorySource,
+    second: MemorySource,
     wires: Vec<Watched>,
     host: &mut MemoryHost,
-) -> Result<(String, bool), Fail> {
+) -> Result<(String, bool), Fail>
+    requires unread { (first.given ≡ []) × (second.given ≡ []) }
+{
+    let mut sources = Vec::new(alloc);
+    sources.push(first)?;
+    sources.push(second)?;
     let count = sources.len();
     if count == 0 || count > 4 || wires.len() < count {
         return Err(Fail::from("too few or too many"));
@@ -65,12 +73,10 @@ clean taken 20 replies 1 whole flushed $1\r\nx\r\n\n\
 fn two_sources_by_a_schedule(rt: HostRuntime) -> Result<(), Fail> {
     let alloc = rt.alloc();
     let mut host = MemoryHost::new(alloc, Files::new(alloc), 4096, Fails::new(alloc))?;
-    let mut sources = Vec::new(alloc);
-    for lines in ["SET a x\nPING\n", "GET a\n"] {
-        sources.push(source(alloc, lines, b"", 4096)?)?;
-    }
+    let first = source(alloc, "SET a x\nPING\n", b"", 4096)?;
+    let second = source(alloc, "GET a\n", b"", 4096)?;
     let wires = wires_of(alloc, 3, None)?;
-    let (told, failed) = driven(&rt, alloc, SCHEDULE, sources, wires, &mut host)?;
+    let (told, failed) = driven(&rt, alloc, SCHEDULE, first, second, wires, &mut host)?;
     assert_eq!(rt; str::from_utf8(host.said())?, LINES);
     assert_eq!(rt; told.as_str(), LEFT);
     assert!(rt; !failed);

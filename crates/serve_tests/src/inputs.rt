@@ -1,4 +1,6 @@
 //! Several sources, from nothing to nothing.
+ghost use Rattle.std.specs.Prelude.{◌≡◌, []};
+
 use super::common::{Watched, flush, put, source, tell, wires_of};
 use flake_base::MemorySource;
 use serve_inputs::{Sizes, serve_inputs};
@@ -8,14 +10,20 @@ use std::sync::Wait;
 use std::test::Fail;
 use std::thread::Threads;
 
-// The only call of `serve_inputs`. It has no clauses, so that nothing else carries those of the call.
+// The only call of `serve_inputs`. It has no other clauses, so that nothing else carries those of the call.
 fn served<R: Threads + Wait + Sync>(
     rt: &R,
     alloc: Global,
     workers: u16,
-    sources: Vec<MemorySource>,
+    first: MemorySource,
+    second: MemorySource,
     wires: Vec<Watched>,
-) -> Result<(String, Vec<u64>), Fail> {
+) -> Result<(String, Vec<u64>), Fail>
+    requires unread { (first.given ≡ []) × (second.given ≡ []) }
+{
+    let mut sources = Vec::new(alloc);
+    sources.push(first)?;
+    sources.push(second)?;
     let count = sources.len();
     if count == 0 || count > 4 || wires.len() < count || workers == 0 || workers > 16 {
         return Err(Fail::from("too few or too many"));
@@ -51,10 +59,10 @@ truncated at 85 taken 95 replies 4 whole flushed +PONG\r\n$-1\r\n+OK\r\n$5\r\nwo
 fn two_sources_of_which_one_is_cut(rt: HostRuntime) -> Result<(), Fail> {
     let alloc = rt.alloc();
     for (workers, step) in [(1, 4096), (2, 5), (16, 1)] {
-        let mut sources = Vec::new(alloc);
-        sources.push(source(alloc, FIRST, b"", step)?)?;
-        sources.push(source(alloc, SECOND, b"*2\r\n$3\r\nGE", step)?)?;
-        let (told, sent) = served(&rt, alloc, workers, sources, wires_of(alloc, 3, None)?)?;
+        let first = source(alloc, FIRST, b"", step)?;
+        let second = source(alloc, SECOND, b"*2\r\n$3\r\nGE", step)?;
+        let wires = wires_of(alloc, 3, None)?;
+        let (told, sent) = served(&rt, alloc, workers, first, second, wires)?;
         assert_eq!(rt; told.as_str(), BOTH, "{workers}");
         assert_eq!(rt; sent.as_slice(), [42, 28].as_slice());
     }

@@ -1,4 +1,4 @@
--- The command lines of `serve`, `drive` and `check`, as commands of the kit's `clap`.
+-- The command lines of `serve`, `drive`, `check` and `join`, as commands of the kit's `clap`.
 use Rattle.std.specs.Prelude.{ℕ, List, Option, Some, None, codes, if◌then◌else◌, true}
 use Rattle.clap.specs.Walk.{Row, Rule, is_empty}
 use Rattle.clap.specs.Simple.{App, matches_of, new_app, new_rule, on_top, with_rule}
@@ -40,6 +40,10 @@ drive_command = with_rule (sized_command (codes "drive")) file_rule
 -- `check`: files alone
 abbrev pub check_command : App
 check_command = with_rule (bare_command (codes "check")) file_rule
+
+-- `join`: two numbers and a file, which are told apart by their places
+abbrev pub join_command : App
+join_command = with_rule (bare_command (codes "join")) file_rule
 
 -- what stands behind each name, where the words fit the command
 abbrev pub rows_by : App → List (List ℕ) → Option (List Row)

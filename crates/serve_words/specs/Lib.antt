@@ -4,3 +4,4 @@ pub mod Named
 pub mod Sizes
 pub mod Task
 pub mod Drive
+pub mod Join

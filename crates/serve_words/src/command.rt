@@ -5,7 +5,7 @@ ghost use Rattle.clap.specs.Matches.{found_of};
 ghost use Rattle.clap.specs.Simple.{app_of, is_simple};
 ghost use Rattle.clap.specs.Walk.{rows_of, rule_of};
 ghost use Rattle.serve_words.specs.Command.{bare_command, check_command, drive_command, file_rule, flag_rule};
-ghost use Rattle.serve_words.specs.Command.{option_rule, rows_by, serve_command, sized_command};
+ghost use Rattle.serve_words.specs.Command.{join_command, option_rule, rows_by, serve_command, sized_command};
 ghost use Rattle.serve_words.specs.Task.{word_texts};
 
 use clap::error::ErrorKind;
@@ -44,6 +44,17 @@ pub(crate) fn drive_matches<'a>(
         ≡ rows_by drive_command (word_texts words.entry.now)) }
 {
     matches_by(drive_command(alloc)?, words)
+}
+
+/// What the words say to `join`; none where they don't fit the command.
+pub(crate) fn join_matches<'a>(
+    alloc: Global,
+    words: &'a [String],
+) -> Result<Option<ArgMatches<'a>>, Memory>
+    ensures { IfOk result (λ matches. option_map (λ m. rows_of (found_of m)) matches
+        ≡ rows_by join_command (word_texts words.entry.now)) }
+{
+    matches_by(join_command(alloc)?, words)
 }
 
 // What the words say to a command of plain options and files.
@@ -86,6 +97,12 @@ fn check_command<'a>(alloc: Global) -> Result<Command<'a>, AllocError>
     ensures { IfOk result (λ command. app_of command ≡ check_command) }
 {
     bare_command(alloc, "check").arg(files(alloc))
+}
+
+fn join_command<'a>(alloc: Global) -> Result<Command<'a>, AllocError>
+    ensures { IfOk result (λ command. app_of command ≡ join_command) }
+{
+    bare_command(alloc, "join").arg(files(alloc))
 }
 
 // The sizes of a run.

@@ -10,6 +10,7 @@ pub enum CommandName {
     Check,
     Gen,
     Drive,
+    Join,
 }
 
 /// The command that the words behind the program's name ask for.
@@ -20,6 +21,7 @@ pub fn command_name(words: &[String]) -> CommandName
         [command, ..] if command.as_str() == "check" => CommandName::Check,
         [command, ..] if command.as_str() == "gen" => CommandName::Gen,
         [command, ..] if command.as_str() == "drive" => CommandName::Drive,
+        [command, ..] if command.as_str() == "join" => CommandName::Join,
         _ => CommandName::Serve,
     }
 }

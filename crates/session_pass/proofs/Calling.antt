@@ -73,6 +73,7 @@ module _ {z : Sizes} {shards : ℕ} {command : Command} where
           told = moved.running.told;
           sought = sought_earlier z _ _ old.pass.seat mid.pass.seat new.pass.seat keeps.claims keeps.looks
               moved.running.sought;
+          free = λ none. let before = moved.running.free none in (before.0 ∙ keeps.claims, before.1 ∙ keeps.looks);
         };
         whole = moved.whole;
         text_is = moved.text_is;

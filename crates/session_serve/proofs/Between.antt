@@ -1,7 +1,6 @@
 -- What both sides do to a device's side that lies between them.
 use Rattle.std.proofs.Common.{◌≡◌, ℕ, Bool, true, false, List, [], ◌∷◌, refl}
 use Rattle.std.specs.Borrow.{Bor}
-use Rattle.flake_base.specs.Told.{raised}
 use Rattle.any_wire.specs.Sends.{WireStep, puts, flushes, Chain, Flushes}
 use Rattle.tx_descriptor.specs.declared.framed.Framed.{Ghosts}
 use Rattle.tx_ring.specs.Shown.{completed}
@@ -11,7 +10,7 @@ use Rattle.device_model.specs.Devices.{Forwards, PutsTexts, IsFound, IfTaken, If
 use Rattle.device_model.specs.declared.gathered.Gathered.{Gathered}
 use Rattle.device_model.specs.declared.gathered.Gathered.TheVariants as found
 use Rattle.device_model.proofs.Forwarding.{forwards-on}
-use Rattle.session_serve.specs.Whole.{whole_bytes_of}
+use Rattle.session_serve.specs.Whole.{raised, whole_bytes_of}
 use Rattle.session_serve.specs.Beside.{ForwardsMore, ForwardsOut}
 use Rattle.session_serve.proofs.Serving.{forwards-nothing}
 use Rattle.session_serve.proofs.Whole.{gathered-more, keeps-on}

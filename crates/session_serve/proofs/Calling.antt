@@ -1,5 +1,5 @@
 -- A session that is served goes on, and ends.
-use Rattle.std.proofs.Common.{◌≡◌, ℕ, ◌+◌, ◌<◌, ◌≤◌, ◌⊎◌, List, [], ◌∷◌, ◌++◌, Option, length, refl, ap, sym, ◌∙◌}
+use Rattle.std.proofs.Common.{◌≡◌, ℕ, ◌+◌, ◌<◌, ◌≤◌, ◌⊎◌, List, [], ◌∷◌, ◌++◌, length, refl, ap, sym, ◌∙◌}
 use Rattle.std.proofs.Common.{subst, append_assoc, append-nil, arith, length-append}
 use Rattle.std.proofs.lemmas.List.{map-append}
 use Rattle.view_sums.proofs.Sums.{total-append}
@@ -11,10 +11,9 @@ use Rattle.flake_model.specs.Command.{Command, parts}
 use Rattle.flake_model.specs.Journal.{next_parts}
 use Rattle.flake_model.specs.Resp.{judged_bytes}
 use Rattle.flake_model.specs.Session.{IsSession}
-use Rattle.command_pump.specs.Pump.{PumpState, IsPump, HasEnded, ended_at, session_at}
+use Rattle.command_pump.specs.Pump.{Origin, PumpState, IsPump, HasEnded, ended_at, session_at}
 use Rattle.command_pump.proofs.Pumped.{meant, stopped_at, bounded}
-use Rattle.reply_planner.specs.Parcels.{Sent}
-use Rattle.drive_model.specs.Matches.{texts_in}
+use Rattle.reply_planner.specs.Parcels.{Sent, texts_in}
 use Rattle.call_model.specs.Outcomes.{Outcomes, SessionDeeds}
 use Rattle.call_model.specs.Calls.{IsExecuted, IsCutShort}
 use Rattle.serve_model.specs.Going as model
@@ -32,7 +31,7 @@ next_is (first ∷ given) command more = next_is given command more
 
 -- before the first call
 pub work-starts : (z : Sizes) (shards : ℕ) (first : SessionView) (pump : PumpState) → IsFresh z first pump
-    → IsWorking z shards first pump.left pump.faults [] [] first pump
+    → IsWorking z shards first pump.origin pump.faults [] [] first pump
 work-starts z shards first pump fresh =
     let n = first.pass.list.number in
     let seat = first.pass.seat in
@@ -48,12 +47,12 @@ work-starts z shards first pump fresh =
     }
 
 -- what the session knows of its device doesn't matter
-pub work-told : (z : Sizes) (shards : ℕ) (first : SessionView) (input : Option (List ℕ)) (before : ℕ)
+pub work-told : (z : Sizes) (shards : ℕ) (first : SessionView) (origin : Origin) (before : ℕ)
     (given : List Command)
     (calls : List Outcomes) (session : SessionView) (told : ℕ) (pump : PumpState)
-    → IsWorking z shards first input before given calls session pump
-    → IsWorking z shards first input before given calls (record session { told = told }) pump
-work-told z shards first input before given calls session told pump w = record {
+    → IsWorking z shards first origin before given calls session pump
+    → IsWorking z shards first origin before given calls (record session { told = told }) pump
+work-told z shards first origin before given calls session told pump w = record {
   pump_is = w.pump_is;
   count = w.count;
   going = w.going;
@@ -61,12 +60,13 @@ work-told z shards first input before given calls session told pump w = record {
 }
 
 -- no command more was given
-pub work-ends : (z : Sizes) (shards : ℕ) (first : SessionView) (input : Option (List ℕ)) (before : ℕ)
+pub work-ends : (z : Sizes) (shards : ℕ) (first : SessionView) (origin : Origin) (before : ℕ)
     (given : List Command)
     (calls : List Outcomes) (how : End) (session : SessionView) (old new : PumpState)
-    → IsWorking z shards first input before given calls session old → HasEnded input before given how new
-    → HasStopped z shards first input before how session new
-work-ends z shards first input before given calls how session old new w e = record {
+    → IsWorking z shards first origin before given calls session old → HasEnded origin before given how new
+    → HasStopped z shards first origin before how session new
+work-ends z shards first origin before given calls how session old new w e = record {
+  origin_is = e.origin_is;
   faults_are = e.faults_are;
   to_the_end = e.to_the_end;
   commands = given ++ e.more;
@@ -77,21 +77,21 @@ work-ends z shards first input before given calls how session old new w e = reco
       session.pass.list.told first.pass.seat session.pass.seat session.pass.list.looks
       (ended_at how new.taken (length session.posted) failed) w.going w.count;
   is_session = λ failed. subst
-      (λ (n : ℕ). IsSession (session_at input new.left (given ++ e.more) (ended_at how new.taken n failed) 0))
+      (λ (n : ℕ). IsSession (session_at new.given new.ended (given ++ e.more) (ended_at how new.taken n failed) 0))
       (sym w.count) (e.session failed);
   same = w.same;
 }
 
 -- memory was wanting in a call
-pub work-breaks : (z : Sizes) (shards : ℕ) (first : SessionView) (input : Option (List ℕ)) (before : ℕ)
+pub work-breaks : (z : Sizes) (shards : ℕ) (first : SessionView) (origin : Origin) (before : ℕ)
     (given : List Command)
     (calls : List Outcomes) (command : Command) (old new : SessionView) (pump after : PumpState)
-    → IsWorking z shards first input before given calls old pump → IsPump input before (given ++ command ∷ []) after
+    → IsWorking z shards first origin before given calls old pump → IsPump origin before (given ++ command ∷ []) after
     × (after.faults ≡ before)
-    → CallRefused z shards command old new → HasStopped z shards first input before Memory new after
-work-breaks z shards first input before given calls command old new pump after w p r =
+    → CallRefused z shards command old new → HasStopped z shards first origin before Memory new after
+work-breaks z shards first origin before given calls command old new pump after w p r =
     let n = first.pass.list.number in
-    let m = meant input before (given ++ command ∷ []) after p.0 in
+    let m = meant origin before (given ++ command ∷ []) after p.0 in
     let split : (given ++ command ∷ []) ++ m.more ≡ given ++ command ∷ m.more =
     append_assoc given (command ∷ []) m.more in
     let next : next_parts (length given) ((given ++ command ∷ []) ++ m.more) ≡ parts command =
@@ -104,6 +104,7 @@ work-breaks z shards first input before given calls command old new pump after w
     (subst (λ (k : ℕ). IsCutShort z shards old.pass.list.number k command r.outcomes old.pass.list.told
     new.pass.list.told old.pass.seat new.pass.seat) w.count r.cut) in
     record {
+      origin_is = p.0.origin_is;
       faults_are = p.1;
       to_the_end = λ is. cc is;
       commands = given ++ command ∷ m.more;
@@ -120,13 +121,14 @@ work-breaks z shards first input before given calls command old new pump after w
           w.going cut w.count refl);
       is_session = λ failed. subst
           (λ (cs : List Command). IsSession
-          (session_at input after.left cs (ended_at Memory after.taken (length new.posted) failed) (length r.outcomes)))
+          (session_at after.given after.ended cs (ended_at Memory after.taken (length new.posted) failed)
+          (length r.outcomes)))
           split
           (subst (λ (k : ℕ). IsSession
-          (session_at input after.left ((given ++ command ∷ []) ++ m.more) (ended_at Memory after.taken k failed)
+          (session_at after.given after.ended ((given ++ command ∷ []) ++ m.more) (ended_at Memory after.taken k failed)
           (length r.outcomes))) (sym posted)
-          (stopped_at input after.left (given ++ command ∷ []) after.taken (length given) (length r.outcomes) failed m
-          (omega (arith, length-append given (command ∷ [])))
+          (stopped_at after.given after.ended (given ++ command ∷ []) after.taken (length given) (length r.outcomes)
+          failed m (omega (arith, length-append given (command ∷ [])))
           (subst (λ ps. (length r.outcomes ≡ 0) ⊎ (length r.outcomes < length ps)) (sym next) r.cut.short)));
       same = record {
         number = r.rest.number ∙ w.same.number;
@@ -143,14 +145,14 @@ paid-more : (posted : List Sent) (reply : Sent) → holds_paid (posted ++ reply 
 paid-more posted reply = omega (arith, total-append (λ (p : Sent). p.paid) posted (reply ∷ []))
 
 -- a call more
-pub work-goes-on : (z : Sizes) (shards : ℕ) (first : SessionView) (input : Option (List ℕ)) (before : ℕ)
+pub work-goes-on : (z : Sizes) (shards : ℕ) (first : SessionView) (origin : Origin) (before : ℕ)
     (given : List Command)
     (calls : List Outcomes) (command : Command) (old new : SessionView) (pump after : PumpState) (call freed : ℕ)
     (sent stored : List Seg)
-    → IsWorking z shards first input before given calls old pump → IsPump input before (given ++ command ∷ []) after
+    → IsWorking z shards first origin before given calls old pump → IsPump origin before (given ++ command ∷ []) after
     → CallPosts z shards command old new call freed sent stored
-    → CallsMore z shards first input before given calls new after
-work-goes-on z shards first input before given calls command old new pump after call freed sent stored w p posts =
+    → CallsMore z shards first origin before given calls new after
+work-goes-on z shards first origin before given calls command old new pump after call freed sent stored w p posts =
     let n = first.pass.list.number in
     let reply = posts.parcel in
     let executed : IsExecuted z shards n (length given) command posts.outcomes reply.text reply.paid old.pass.list.told
@@ -196,39 +198,39 @@ work-goes-on z shards first input before given calls command old new pump after 
     }
 
 -- what the session knows of its device doesn't matter
-pub more-told : (z : Sizes) (shards : ℕ) (first : SessionView) (input : Option (List ℕ)) (before : ℕ)
+pub more-told : (z : Sizes) (shards : ℕ) (first : SessionView) (origin : Origin) (before : ℕ)
     (given : List Command)
     (calls : List Outcomes) (old new : SessionView) (told : ℕ) (pump after : PumpState)
     → new ≡ record old { told = told } → after ≡ pump
-    → CallsMore z shards first input before given calls old pump
-    → CallsMore z shards first input before given calls new after
-more-told z shards first input before given calls old new told pump after is same c = record {
+    → CallsMore z shards first origin before given calls old pump
+    → CallsMore z shards first origin before given calls new after
+more-told z shards first origin before given calls old new told pump after is same c = record {
   command = c.command;
   outcomes = c.outcomes;
-  working = subst (IsWorking z shards first input before (given ++ c.command ∷ []) (calls ++ c.outcomes ∷ []) new)
+  working = subst (IsWorking z shards first origin before (given ++ c.command ∷ []) (calls ++ c.outcomes ∷ []) new)
       (sym same)
-      (subst (λ (s : SessionView). IsWorking z shards first input before (given ++ c.command ∷ [])
+      (subst (λ (s : SessionView). IsWorking z shards first origin before (given ++ c.command ∷ [])
       (calls ++ c.outcomes ∷ []) s pump) (sym is)
-      (work-told z shards first input before (given ++ c.command ∷ []) (calls ++ c.outcomes ∷ []) old told pump
+      (work-told z shards first origin before (given ++ c.command ∷ []) (calls ++ c.outcomes ∷ []) old told pump
       c.working));
 }
 
 -- there are no more calls than bytes that are judged, and one for an error
-pub work-bounded : (z : Sizes) (shards : ℕ) (first : SessionView) (input : Option (List ℕ)) (before : ℕ)
+pub work-bounded : (z : Sizes) (shards : ℕ) (first : SessionView) (origin : Origin) (before : ℕ)
     (given : List Command)
     (calls : List Outcomes) (session : SessionView) (pump : PumpState)
-    → IsWorking z shards first input before given calls session pump
+    → IsWorking z shards first origin before given calls session pump
     → length session.posted ≤ judged_bytes + 1
-work-bounded z shards first input before given calls session pump w =
-    omega (arith, w.count, bounded input before given pump w.pump_is)
+work-bounded z shards first origin before given calls session pump w =
+    omega (arith, w.count, bounded origin before given pump w.pump_is)
 
-pub work-longer : (z : Sizes) (shards : ℕ) (first : SessionView) (input : Option (List ℕ)) (before : ℕ)
+pub work-longer : (z : Sizes) (shards : ℕ) (first : SessionView) (origin : Origin) (before : ℕ)
     (given : List Command)
     (calls : List Outcomes) (old new : SessionView) (pump after : PumpState)
-    → IsWorking z shards first input before given calls old pump
-    → CallsMore z shards first input before given calls new after → (length new.posted ≡ length old.posted + 1)
+    → IsWorking z shards first origin before given calls old pump
+    → CallsMore z shards first origin before given calls new after → (length new.posted ≡ length old.posted + 1)
     × (length new.posted ≤ judged_bytes + 1)
-work-longer z shards first input before given calls old new pump after w c = (
+work-longer z shards first origin before given calls old new pump after w c = (
   omega (arith, w.count, c.working.count, length-append given (c.command ∷ [])),
-  work-bounded z shards first input before (given ++ c.command ∷ []) (calls ++ c.outcomes ∷ []) new after c.working,
+  work-bounded z shards first origin before (given ++ c.command ∷ []) (calls ++ c.outcomes ∷ []) new after c.working,
 )

@@ -1,5 +1,5 @@
 -- What a served session hands up.
-use Rattle.std.proofs.Common.{◌≡◌, ℕ, Bool, true, false, List, [], ◌∷◌, ◌++◌, Option, length, refl, ap, sym, ◌∙◌, subst}
+use Rattle.std.proofs.Common.{◌≡◌, ℕ, Bool, true, false, List, [], ◌∷◌, ◌++◌, length, refl, ap, sym, ◌∙◌, subst}
 use Rattle.std.proofs.Common.{append-nil, arith}
 use Rattle.std.specs.Borrow.{Bor}
 use Rattle.std.proofs.lemmas.List.Folds.{flat_map-map}
@@ -14,10 +14,9 @@ use Rattle.order_book.specs.Pages.{SessionList}
 use Rattle.any_wire.specs.Sends.{Sends, Flushes}
 use Rattle.any_wire.proofs.Sending.{sends-none, sends-on, sends-same, sends-flush}
 use Rattle.reply_planner.specs.Owned.{bare_all, fresh_all}
-use Rattle.reply_planner.specs.Parcels.{Sent}
+use Rattle.reply_planner.specs.Parcels.{Sent, texts_in}
 use Rattle.device_model.specs.Devices.{sent_texts, Forwards}
-use Rattle.transcript_model.specs.Sessions.{joined}
-use Rattle.drive_model.specs.Matches.{texts_in}
+use Rattle.any_wire.specs.Texts.{joined}
 use Rattle.call_model.specs.Outcomes.{SessionDeeds}
 use Rattle.serve_model.specs.Going.{CallsNoMore}
 use Rattle.serve_model.specs.Handed.{SessionHasRun}
@@ -50,8 +49,8 @@ holds-none z first session pump seat mine fresh stage opened left =
 -- so it ran
 ran-so : (z : Sizes) (shards : ℕ) (first session : SessionView) (unread pump : PumpState) (how : End) (failed : Bool)
     (seat : View) (mine : SessionList) → IsFresh z first unread
-    → HasStopped z shards first unread.left unread.faults how session pump → IsLeft session seat mine
-    → SessionHasRun z shards first.pass.list.number unread.left pump.left
+    → HasStopped z shards first unread.origin unread.faults how session pump → IsLeft session seat mine
+    → SessionHasRun z shards first.pass.list.number pump.given pump.ended
     (ended_at how pump.taken (length session.posted) failed) mine seat (texts_in session.posted)
 ran-so z shards first session unread pump how failed seat mine fresh s left =
     let n = first.pass.list.number in
@@ -65,8 +64,8 @@ ran-so z shards first session unread pump how failed seat mine fresh s left =
     let told : session.pass.list.told ≡ mine.told = ap (λ (l : SessionList). l.told) (sym left.list) in
     let list : record { number = n; told = mine.told; looks = run.looks } ≡ mine =
     λ i. record { number = sym number i; told = mine.told; looks = sym looks i } in
-    subst (λ (l : SessionList). SessionHasRun z shards n unread.left pump.left run.end l seat texts) list
-    (session_ran z shards n unread.left pump.left run texts pins mine.told first.opened last seat fresh.claimed
+    subst (λ (l : SessionList). SessionHasRun z shards n pump.given pump.ended run.end l seat texts) list
+    (session_ran z shards n pump.given pump.ended run texts pins mine.told first.opened last seat fresh.claimed
     (subst (λ (v : View). CallsNoMore z shards n run texts pins mine.told v last) (sym fresh.opened)
     (subst (λ (t : SessionDeeds). CallsNoMore z shards n run texts pins t first.pass.seat last) told (s.ended failed)))
     (record {
@@ -127,23 +126,25 @@ module _ {W : Type 0} (put_may : W → Bor (List ℕ) → (W × Bool) → Type 0
 
   pub served-so : (z : Sizes) (shards : ℕ) (first session : SessionView) (unread pump : PumpState) (how : End)
       (end : SessionEnd) (bytes : ℕ) (between : Bool)
-      (seat : View) (mine : SessionList) (left : Option (List ℕ)) (old middle new : W) → IsFresh z first unread
-      → HasStopped z shards first unread.left unread.faults how session pump → IsLeft session seat mine
-      → end ≡ ended_at how pump.taken (length session.posted) end.failed → left ≡ pump.left
+      (seat : View) (mine : SessionList) (given : List ℕ) (ended : Bool) (old middle new : W) → IsFresh z first unread
+      → HasStopped z shards first unread.origin unread.faults how session pump → IsLeft session seat mine
+      → end ≡ ended_at how pump.taken (length session.posted) end.failed → given ≡ pump.given → ended ≡ pump.ended
       → Forwards put_may flush_may false between [] session.posted old middle
       → Flushes flush_may between end.failed middle new
       → SentWhole put_may flush_may end.failed (texts_in session.posted) bytes old new
-      → IsServed put_may flush_may z shards first unread.left left end bytes mine seat old new
-  served-so z shards first session unread pump how end bytes between seat mine left old middle new fresh stopped is_left
-      end_is left_is forwards flushed whole =
+      → IsServed put_may flush_may z shards first given ended end bytes mine seat old new
+  served-so z shards first session unread pump how end bytes between seat mine given ended old middle new fresh stopped
+      is_left end_is given_is ended_is forwards flushed whole =
       let n = first.pass.list.number in
       let texts = texts_in session.posted in
       record {
         texts = texts;
-        ran = subst (λ (e : SessionEnd). SessionHasRun z shards n unread.left left e mine seat texts) (sym end_is)
-            (subst (λ (l : Option (List ℕ)). SessionHasRun z shards n unread.left l
-            (ended_at how pump.taken (length session.posted) end.failed) mine seat texts) (sym left_is)
-            (ran-so z shards first session unread pump how end.failed seat mine fresh stopped is_left));
+        ran = subst (λ (e : SessionEnd). SessionHasRun z shards n given ended e mine seat texts) (sym end_is)
+            (subst (λ (l : List ℕ). SessionHasRun z shards n l ended
+            (ended_at how pump.taken (length session.posted) end.failed) mine seat texts) (sym given_is)
+            (subst (λ (b : Bool). SessionHasRun z shards n pump.given b
+            (ended_at how pump.taken (length session.posted) end.failed) mine seat texts) (sym ended_is)
+            (ran-so z shards first session unread pump how end.failed seat mine fresh stopped is_left)));
         sends = record {
           between = between;
           middle = middle;

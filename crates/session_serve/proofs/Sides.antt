@@ -1,5 +1,5 @@
 -- A session and its device that run beside each other.
-use Rattle.std.proofs.Common.{◌≡◌, ℕ, ◌+◌, ◌≤◌, Bool, false, List, [], ◌∷◌, ◌++◌, Option, length, refl, ap, sym, ◌∙◌}
+use Rattle.std.proofs.Common.{◌≡◌, ℕ, ◌+◌, ◌≤◌, Bool, false, List, [], ◌∷◌, ◌++◌, length, refl, ap, sym, ◌∙◌}
 use Rattle.std.proofs.Common.{subst, append_assoc, append-nil, arith}
 use Rattle.std.specs.Borrow.{Bor}
 use Rattle.view_sums.specs.Total.{total}
@@ -10,14 +10,13 @@ use Rattle.flake_base.specs.declared.session.End.{End}
 use Rattle.flake_base.specs.declared.session.End.TheVariants.{Memory}
 use Rattle.flake_base.specs.declared.session.SessionEnd.{SessionEnd}
 use Rattle.flake_model.specs.Command.{Command}
-use Rattle.command_pump.specs.Pump.{PumpState, IsPump, EndFaults, ended_at}
+use Rattle.command_pump.specs.Pump.{Origin, PumpState, IsPump, EndFaults, ended_at}
 use Rattle.any_wire.specs.Sends.{Flushes}
 use Rattle.tx_ring.specs.Shown.{closed_view}
 use Rattle.tx_ring.specs.declared.closed.ClosedDriver.{ClosedDriver}
 use Rattle.reply_planner.specs.Owned.{bare_all, fresh_all}
-use Rattle.reply_planner.specs.Parcels.{Sent}
+use Rattle.reply_planner.specs.Parcels.{Sent, texts_in}
 use Rattle.device_model.specs.Devices.{Forwards}
-use Rattle.drive_model.specs.Matches.{texts_in}
 use Rattle.call_model.specs.Outcomes.{Outcomes}
 use Rattle.serve_model.specs.Going as model
 use Rattle.serve_model.proofs.Going.{going_rests}
@@ -79,12 +78,12 @@ waits-on old middle new w c = record {
 }
 
 -- replies that were given back don't matter
-pub work-rests : (z : Sizes) (shards : ℕ) (first : SessionView) (input : Option (List ℕ)) (before : ℕ)
+pub work-rests : (z : Sizes) (shards : ℕ) (first : SessionView) (origin : Origin) (before : ℕ)
     (given : List Command)
     (calls : List Outcomes) (old new : SessionView) (pump : PumpState) → HasWaited old new
-    → IsWorking z shards first input before given calls old pump
-    → IsWorking z shards first input before given calls new pump
-work-rests z shards first input before given calls old new pump waited w =
+    → IsWorking z shards first origin before given calls old pump
+    → IsWorking z shards first origin before given calls new pump
+work-rests z shards first origin before given calls old new pump waited w =
     let k = waited.keeps in
     let n = first.pass.list.number in
     record {
@@ -104,24 +103,24 @@ work-rests z shards first input before given calls old new pump waited w =
       };
     }
 
-pub calls-on : (z : Sizes) (shards : ℕ) (first : SessionView) (input : Option (List ℕ)) (before : ℕ)
+pub calls-on : (z : Sizes) (shards : ℕ) (first : SessionView) (origin : Origin) (before : ℕ)
     (given : List Command)
     (calls : List Outcomes) (command : Command) (old new : SessionView) (pump after : PumpState)
-    → IsWorking z shards first input before given calls old pump → IsPump input before (given ++ command ∷ []) after
-    → CallsAtLast z shards command old new → CallsMore z shards first input before given calls new after
-calls-on z shards first input before given calls command old new pump after w p c =
-    work-goes-on z shards first input before given calls command c.rested new pump after c.call c.freed c.sent c.stored
-    (work-rests z shards first input before given calls old c.rested pump c.waited w) p c.posts
+    → IsWorking z shards first origin before given calls old pump → IsPump origin before (given ++ command ∷ []) after
+    → CallsAtLast z shards command old new → CallsMore z shards first origin before given calls new after
+calls-on z shards first origin before given calls command old new pump after w p c =
+    work-goes-on z shards first origin before given calls command c.rested new pump after c.call c.freed c.sent c.stored
+    (work-rests z shards first origin before given calls old c.rested pump c.waited w) p c.posts
 
-pub breaks-off : (z : Sizes) (shards : ℕ) (first : SessionView) (input : Option (List ℕ)) (before : ℕ)
+pub breaks-off : (z : Sizes) (shards : ℕ) (first : SessionView) (origin : Origin) (before : ℕ)
     (given : List Command)
     (calls : List Outcomes) (command : Command) (old new : SessionView) (pump after : PumpState)
-    → IsWorking z shards first input before given calls old pump → IsPump input before (given ++ command ∷ []) after
+    → IsWorking z shards first origin before given calls old pump → IsPump origin before (given ++ command ∷ []) after
     × (after.faults ≡ before)
-    → BreaksAtLast z shards command old new → HasStopped z shards first input before Memory new after
-breaks-off z shards first input before given calls command old new pump after w p b =
-    work-breaks z shards first input before given calls command b.rested new pump after
-    (work-rests z shards first input before given calls old b.rested pump b.waited w) p b.refused
+    → BreaksAtLast z shards command old new → HasStopped z shards first origin before Memory new after
+breaks-off z shards first origin before given calls command old new pump after w p b =
+    work-breaks z shards first origin before given calls command b.rested new pump after
+    (work-rests z shards first origin before given calls old b.rested pump b.waited w) p b.refused
 
 -- what the session knows of its device doesn't matter
 pub fresh-told : (z : Sizes) (first : SessionView) (told : ℕ) (pump : PumpState) → IsFresh z first pump
@@ -133,6 +132,7 @@ fresh-told z first told pump f = record {
   claimed = f.claimed;
   stage = f.stage;
   unstopped = f.unstopped;
+  none_given = f.none_given;
   unread = f.unread;
 }
 
@@ -173,6 +173,7 @@ module _ {W : Type 0} (put_may : W → Bor (List ℕ) → (W × Bool) → Type 0
       → HasServed put_may flush_may z shards first pump old end bytes mine seat left new
   told-or-not z shards first told pump old end bytes mine seat left new h = record {
     served = record { texts = h.served.texts; ran = h.served.ran; sends = h.served.sends; whole = h.served.whole };
+    origin = h.origin;
     reads = h.reads;
     to_the_end = h.to_the_end;
     credits = h.credits;
@@ -218,19 +219,20 @@ module _ {W : Type 0} (put_may : W → Bor (List ℕ) → (W × Bool) → Type 0
       (subst (λ (xs : List Sent). SentWhole put_may flush_may failed (texts_in xs) bytes old new) whole
       (subst (λ n. SentWhole put_may flush_may failed (texts_in after) n old new) (sym bytes_is) (out.whole old start)))
       in
-      let served : IsServed put_may flush_may z shards first unread.left left.left end bytes list over old new =
-      served-so put_may flush_may z shards first r.session unread left how end bytes out.between over list left.left old
-      out.middle new fresh r.stopped r.left same refl forwards
+      let served : IsServed put_may flush_may z shards first left.given left.ended end bytes list over old new =
+      served-so put_may flush_may z shards first r.session unread left how end bytes out.between over list left.given
+      left.ended old out.middle new fresh r.stopped r.left same refl refl forwards
       (subst (λ b. Flushes flush_may out.between b out.middle new) failed_is out.flushed) sent in
       record {
-        served = subst (λ p. IsServed put_may flush_may z shards first unread.left p.left end bytes mine seat old last)
+        served = subst (λ p. IsServed put_may flush_may z shards first p.given p.ended end bytes mine seat old last)
             (sym pump_is)
-            (subst (λ m. IsServed put_may flush_may z shards first unread.left left.left end bytes m seat old last)
+            (subst (λ m. IsServed put_may flush_may z shards first left.given left.ended end bytes m seat old last)
             (sym mine_is)
-            (subst (λ v. IsServed put_may flush_may z shards first unread.left left.left end bytes list v old last)
+            (subst (λ v. IsServed put_may flush_may z shards first left.given left.ended end bytes list v old last)
             (sym seat_is)
-            (subst (λ w. IsServed put_may flush_may z shards first unread.left left.left end bytes list over old w)
+            (subst (λ w. IsServed put_may flush_may z shards first left.given left.ended end bytes list over old w)
             (sym last_is) served)));
+        origin = ap (λ p. p.origin) pump_is ∙ r.stopped.origin_is;
         reads = subst (λ (e : SessionEnd). EndFaults e.end unread.faults pump.faults) (sym end_is)
             (subst (λ p. EndFaults how unread.faults p.faults) (sym pump_is) r.stopped.faults_are);
         to_the_end = λ is. r.stopped.to_the_end (ap (λ (e : SessionEnd). e.end) (sym end_is) ∙ is);

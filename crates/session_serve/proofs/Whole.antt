@@ -6,23 +6,20 @@ use Rattle.std.proofs.Math.Seq.{take-append-add, take-length}
 use Rattle.std.proofs.lemmas.List.{map-append, take-append-le, append_cancel_left}
 use Rattle.std.proofs.lemmas.Grind.{flat_map-append}
 use Rattle.view_sums.specs.Total.{Each}
-use Rattle.flake_base.specs.Told.{raised}
 use Rattle.any_wire.specs.Sends.{WireStep, puts, flushes, steps_bytes as steps_joined, IsShortPut, Chain, Sends}
 use Rattle.any_wire.specs.Sends.{Flushes}
 use Rattle.any_wire.proofs.Sending.{sends-none, sends-on, sends-same, sends-flush}
 use Rattle.tx_descriptor.specs.declared.framed.Framed.{Ghosts}
 use Rattle.tx_ring.specs.Shown.{completed}
 use Rattle.tx_ring.specs.declared.device.DeviceEnd.{DeviceEnd}
-use Rattle.reply_planner.specs.Parcels.{Sent}
+use Rattle.reply_planner.specs.Parcels.{Sent, texts_in}
 use Rattle.device_model.specs.Devices.{sent_texts, PutsTexts, IsFound, IfTaken, IfIdle}
 use Rattle.device_model.specs.declared.gathered.Gathered.{Gathered}
 use Rattle.device_model.specs.declared.gathered.Gathered.TheVariants as found
 use Rattle.device_model.proofs.Puts.{sends-loosened}
-use Rattle.transcript_model.specs.Sessions.{Sending, joined}
-use Rattle.drive_model.specs.Matches.{texts_in}
-use Rattle.drive_model.specs.Wires.{IsSending}
-use Rattle.drive_model.proofs.Wires.{wire_fresh, wire_longer, wire_sent, wire_cut, wire_idle}
-use Rattle.session_serve.specs.Whole.{SentWhole, KeepsWhole, SendsMore, whole_bytes_of}
+use Rattle.any_wire.specs.Texts.{Sending, joined, IsSending}
+use Rattle.any_wire.proofs.Texts.{wire_fresh, wire_longer, wire_sent, wire_cut, wire_idle}
+use Rattle.session_serve.specs.Whole.{SentWhole, KeepsWhole, SendsMore, raised, whole_bytes_of}
 
 -- a put for each byte
 bytewise : List ℕ → List WireStep

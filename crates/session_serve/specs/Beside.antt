@@ -45,7 +45,7 @@ pub record RanToTheEnd (z : Sizes) (shards : ℕ) (first : SessionView) (unread 
     (seat : View) (mine : SessionList) (pump : PumpState) (closed : ClosedDriver Sent) : Type 0 where
   -- as it stood behind its last call
   pub session : SessionView
-  pub stopped : HasStopped z shards first unread.left unread.faults how session pump
+  pub stopped : HasStopped z shards first unread.origin unread.faults how session pump
   pub left : IsLeft session seat mine
   pub replies_are : replies ≡ length session.posted
   pub ring : closed_ring closed ≡ first.ring

@@ -1,5 +1,5 @@
 -- What serving a session gives.
-use Rattle.std.specs.Prelude.{◌≡◌, ◌≢◌, ℕ, Bool, false, List, Option}
+use Rattle.std.specs.Prelude.{◌≡◌, ◌≢◌, ℕ, Bool, false, List}
 use Rattle.std.specs.Borrow.{Bor}
 use Rattle.flake_base.specs.declared.session.End.TheVariants.{Left}
 use Rattle.flake_base.specs.declared.session.SessionEnd.{SessionEnd}
@@ -8,24 +8,26 @@ use Rattle.pin_core.specs.declared.sizes.Sizes.{Sizes}
 use Rattle.pinned_pool.specs.declared.view.View.{View}
 use Rattle.order_book.specs.Pages.{SessionList}
 use Rattle.serve_model.specs.Handed.{SessionHasRun}
-use Rattle.transcript_model.specs.Sessions.{joined}
+use Rattle.any_wire.specs.Texts.{joined}
 use Rattle.session_serve.specs.Whole.{SentWhole}
 use Rattle.session_serve.specs.Wires.{SendsOut}
 use Rattle.session_pass.specs.Views.{SessionView}
 
 module _ {W : Type 0} (put_may : W → Bor (List ℕ) → (W × Bool) → Type 0) (flush_may : W → (W × Bool) → Type 0) where
-  -- The session ran, and the texts of its replies were put on its wire, so many bytes of them in whole replies.
-  pub record IsServed (z : Sizes) (shards : ℕ) (session : SessionView) (input left : Option (List ℕ)) (end : SessionEnd)
-      (bytes : ℕ) (list : SessionList) (last : View) (old new : W) : Type 0 where
+  -- The session ran on what its source gave, and the texts of its replies were put on its wire, so many bytes of them
+  -- in whole replies.
+  pub record IsServed (z : Sizes) (shards : ℕ) (session : SessionView) (given : List ℕ) (ended : Bool)
+      (end : SessionEnd) (bytes : ℕ) (list : SessionList) (last : View) (old new : W) : Type 0 where
     pub texts : List (List ℕ)
-    pub ran : SessionHasRun z shards session.pass.list.number input left end list last texts
+    pub ran : SessionHasRun z shards session.pass.list.number given ended end list last texts
     pub sends : SendsOut put_may flush_may false end.failed (joined texts) old new
     pub whole : SentWhole put_may flush_may end.failed texts bytes old new
 
   -- and this is true of what it leaves
   pub record HasServed (z : Sizes) (shards : ℕ) (session : SessionView) (pump : PumpState) (old : W) (end : SessionEnd)
       (bytes : ℕ) (mine : SessionList) (seat : View) (left : PumpState) (new : W) : Type 0 where
-    pub served : IsServed z shards session pump.left left.left end bytes mine seat old new
+    pub served : IsServed z shards session left.given left.ended end bytes mine seat old new
+    pub origin : left.origin ≡ pump.origin
     pub reads : EndFaults end.end pump.faults left.faults
     pub to_the_end : end.end ≢ Left
     pub credits : seat.credits ≡ session.opened.credits

@@ -1,13 +1,15 @@
 -- How many of a session's replies its wire was sent whole, and their bytes.
-use Rattle.std.specs.Prelude.{◌≡◌, ℕ, Bool, false, List, length, take}
+use Rattle.std.specs.Prelude.{◌≡◌, ℕ, ◌+◌, ◌-◌, ◌^◌, min, Bool, false, List, length, take}
 use Rattle.std.specs.Borrow.{Bor}
-use Rattle.flake_base.specs.Told.{raised}
 use Rattle.any_wire.specs.Sends.{Sends}
-use Rattle.reply_planner.specs.Parcels.{Sent}
+use Rattle.reply_planner.specs.Parcels.{Sent, texts_in}
 use Rattle.device_model.specs.declared.gathered.Gathered.{Gathered}
 use Rattle.device_model.specs.declared.gathered.Gathered.TheVariants as found
-use Rattle.transcript_model.specs.Sessions.{AreWhole, WireGrew, joined}
-use Rattle.drive_model.specs.Matches.{texts_in}
+use Rattle.any_wire.specs.Texts.{AreWhole, WireGrew, joined}
+
+-- a count of bytes once so many more were counted: it stands still at the last value of a `u64`
+abbrev pub raised : ℕ → ℕ → ℕ
+raised count n = min (count + n) (2 ^ 64 - 1)
 
 -- how many bytes were put in a whole reply by a call of a device that gives this
 abbrev pub whole_bytes_of : Gathered → ℕ

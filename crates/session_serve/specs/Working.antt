@@ -1,5 +1,5 @@
 -- A session that is served: before its first call, between its calls, and behind its last.
-use Rattle.std.specs.Prelude.{◌≡◌, ◌≢◌, ℕ, ◌+◌, ◌≤◌, Bool, false, List, [], ◌∷◌, ◌++◌, Option, length}
+use Rattle.std.specs.Prelude.{◌≡◌, ◌≢◌, ℕ, ◌+◌, ◌≤◌, Bool, false, List, [], ◌∷◌, ◌++◌, length}
 use Rattle.view_sums.specs.Total.{total}
 use Rattle.pin_core.specs.Holding.{Holding}
 use Rattle.pin_core.specs.declared.sizes.Sizes.{Sizes}
@@ -13,13 +13,12 @@ use Rattle.flake_model.specs.Command.{Command}
 use Rattle.flake_model.specs.Deed.{Deed}
 use Rattle.flake_model.specs.Resp.{judged_bytes}
 use Rattle.flake_model.specs.Session.{IsSession}
-use Rattle.command_pump.specs.Pump.{PumpState, IsPump, EndFaults, ended_at}
+use Rattle.command_pump.specs.Pump.{Origin, PumpState, IsPump, EndFaults, ended_at}
 use Rattle.tx_descriptor.specs.declared.framed.Framed.{Ghosts}
 use Rattle.tx_ring.specs.Shown.{device_ring, completed}
 use Rattle.tx_ring.specs.declared.device.DeviceEnd.{DeviceEnd}
 use Rattle.reply_planner.specs.Owned.{bare_all, fresh_all}
-use Rattle.reply_planner.specs.Parcels.{Sent}
-use Rattle.drive_model.specs.Matches.{texts_in}
+use Rattle.reply_planner.specs.Parcels.{Sent, texts_in}
 use Rattle.call_model.specs.Outcomes.{Outcomes}
 use Rattle.serve_model.specs.Demand.{stage_row}
 use Rattle.serve_model.specs.Going as model
@@ -27,7 +26,7 @@ use Rattle.serve_model.specs.Runs.{Run, session_of}
 use Rattle.session_pass.specs.Kept.{holds_paid}
 use Rattle.session_pass.specs.Views.{SessionView}
 
--- The session has made no call, its seat claimed and holds its stage alone, and its source wasn't read.
+-- The session has made no call, its seat claimed and holds its stage alone, and its source gave nothing.
 pub record IsFresh (z : Sizes) (session : SessionView) (pump : PumpState) : Type 0 where
   pub none_posted : session.posted ≡ []
   pub none_told : session.pass.list.told ≡ []
@@ -36,7 +35,8 @@ pub record IsFresh (z : Sizes) (session : SessionView) (pump : PumpState) : Type
   pub stage : (weight : Holding → ℕ)
       → total weight (bare_all session.opened.holds) ≡ total weight (fresh_all session.pass.stage)
   pub unstopped : session.stopped ≡ false
-  pub unread : IsPump pump.left pump.faults [] pump
+  pub none_given : pump.given ≡ []
+  pub unread : IsPump pump.origin pump.faults [] pump
 
 module _ {g : Ghosts Sent} where
   -- all replies that the session posted are gathered, which it knows
@@ -63,21 +63,22 @@ pub record IsSame (first session : SessionView) : Type 0 where
   pub stage : session.pass.stage ≡ first.pass.stage
   pub opened : session.opened ≡ first.opened
 
--- Of an input, and from a count of faults on, these commands were given and called, with these outcomes.
-pub record IsWorking (z : Sizes) (shards : ℕ) (first : SessionView) (input : Option (List ℕ)) (before : ℕ)
+-- Of a source with this origin, and from a count of faults on, these commands were given and called, with these
+-- outcomes.
+pub record IsWorking (z : Sizes) (shards : ℕ) (first : SessionView) (origin : Origin) (before : ℕ)
     (given : List Command) (calls : List Outcomes) (session : SessionView) (pump : PumpState) : Type 0 where
-  pub pump_is : IsPump input before given pump
+  pub pump_is : IsPump origin before given pump
   pub count : length session.posted ≡ length given
   pub going : model.IsGoing z shards first.pass.list.number given calls (texts_in session.posted)
       (holds_paid session.posted) session.pass.list.told first.pass.seat session.pass.seat
   pub same : IsSame first session
 
 -- one command more
-pub record CallsMore (z : Sizes) (shards : ℕ) (first : SessionView) (input : Option (List ℕ)) (before : ℕ)
+pub record CallsMore (z : Sizes) (shards : ℕ) (first : SessionView) (origin : Origin) (before : ℕ)
     (given : List Command) (calls : List Outcomes) (session : SessionView) (pump : PumpState) : Type 0 where
   pub command : Command
   pub outcomes : Outcomes
-  pub working : IsWorking z shards first input before (given ++ command ∷ []) (calls ++ outcomes ∷ []) session pump
+  pub working : IsWorking z shards first origin before (given ++ command ∷ []) (calls ++ outcomes ∷ []) session pump
 
 -- a run that ended so, after so many bytes and replies
 abbrev pub run_of : List Command → List Outcomes → Outcomes → List (ℕ × List Deed) → End → ℕ → ℕ → Bool → Run
@@ -90,8 +91,9 @@ run_of commands calls behind looks how taken replies failed = record {
 }
 
 -- It makes no more calls, and ends so; whether its wire failed isn't said here.
-pub record HasStopped (z : Sizes) (shards : ℕ) (first : SessionView) (input : Option (List ℕ)) (before : ℕ) (how : End)
+pub record HasStopped (z : Sizes) (shards : ℕ) (first : SessionView) (origin : Origin) (before : ℕ) (how : End)
     (session : SessionView) (pump : PumpState) : Type 0 where
+  pub origin_is : pump.origin ≡ origin
   pub faults_are : EndFaults how before pump.faults
   pub to_the_end : how ≢ Left
   pub commands : List Command
@@ -100,7 +102,7 @@ pub record HasStopped (z : Sizes) (shards : ℕ) (first : SessionView) (input : 
   pub ended : (failed : Bool) → model.CallsNoMore z shards first.pass.list.number
       (run_of commands calls behind session.pass.list.looks how pump.taken (length session.posted) failed)
       (texts_in session.posted) (holds_paid session.posted) session.pass.list.told first.pass.seat session.pass.seat
-  pub is_session : (failed : Bool) → IsSession (session_of input pump.left
+  pub is_session : (failed : Bool) → IsSession (session_of pump.given pump.ended
       (run_of commands calls behind session.pass.list.looks how pump.taken (length session.posted) failed))
   pub same : IsSame first session
 

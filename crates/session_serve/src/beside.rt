@@ -55,8 +55,9 @@ pub fn serve_beside<
     requires ring { device_ring line.device.end ≡ line.session.ring }
     requires unfailed { line.device.failed ≡ false }
     ensures served { IsServed (λ w p r. PUT.post put.now w p r) (λ w r. FLUSH.post flush.now w r) P.sizes
-        N.sizes.shards line.session line.pump.left result.1.pump.left result.1.end result.1.sent result.1.mine
-        result.1.seat wire result.0 }
+        N.sizes.shards line.session result.1.pump.given result.1.pump.ended result.1.end result.1.sent
+        result.1.mine result.1.seat wire result.0 }
+    ensures origin { result.1.pump.origin ≡ line.pump.origin }
     ensures reads { EndFaults result.1.end.end line.pump.faults result.1.pump.faults }
     ensures to_the_end { result.1.end.end ≢ End.Left }
     ensures credits { result.1.seat.credits ≡ line.session.opened.credits }

@@ -1,7 +1,6 @@
 // Bytes of whole replies.
 ghost use Rattle.std.specs.Prelude.{◌≡◌};
-ghost use Rattle.flake_base.specs.Told.{raised};
-ghost use Rattle.session_serve.specs.Whole.{whole_bytes_of};
+ghost use Rattle.session_serve.specs.Whole.{raised, whole_bytes_of};
 
 use device_model::Gathered;
 

@@ -27,6 +27,6 @@ pub struct Account<N: BookName, P: PoolName, S: Source> {
     pub mine: SessionSeat<N>,
     /// So many bytes were put in whole replies; a full count stands still.
     pub sent: u64,
-    /// With its source, and what that has left.
+    /// With its source, and what that gave.
     pub pump: Pump<S>,
 }

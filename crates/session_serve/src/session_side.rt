@@ -1,8 +1,9 @@
 // A session with its source.
-ghost use Rattle.std.specs.Prelude.{◌≡◌, ◌+◌, ◌≤◌, ℕ, List, Option, length, OnOk, IfOk, IfErr};
+ghost use Rattle.std.specs.Prelude.{◌≡◌, ◌+◌, ◌≤◌, ℕ, List, length, OnOk, IfOk, IfErr};
 ghost use Rattle.flake_model.specs.Command.{Command as Meaning};
 ghost use Rattle.flake_model.specs.Resp.{judged_bytes};
 ghost use Rattle.call_model.specs.Outcomes.{Outcomes};
+ghost use Rattle.command_pump.specs.Pump.{Origin};
 ghost use Rattle.session_pass.specs.Views.{SessionView};
 ghost use Rattle.session_serve.specs.Beside.{RanToTheEnd};
 ghost use Rattle.session_serve.specs.Working.{IsFresh, IsWorking, CallsMore, HasStopped};
@@ -59,14 +60,14 @@ impl<N: BookName, P: PoolName + Send, S: Source> SessionSide<N, P, S> {
         requires ready { Q.ready wiring.now }
         requires same { place.now.wiring ≡ wiring.now }
         ensures ring { self.new.session.ring ≡ self.old.session.ring }
-        ensures call { OnOk result ((first : SessionView) (input : Option (List ℕ)) (before : ℕ)
+        ensures call { OnOk result ((first : SessionView) (origin : Origin) (before : ℕ)
             (given : List Meaning) (calls : List Outcomes)
-            → IsWorking P.sizes N.sizes.shards first input before given calls self.old.session self.old.pump
-            → CallsMore P.sizes N.sizes.shards first input before given calls self.new.session self.new.pump) }
-        ensures end { IfErr result (λ end. (first : SessionView) (input : Option (List ℕ)) (before : ℕ)
+            → IsWorking P.sizes N.sizes.shards first origin before given calls self.old.session self.old.pump
+            → CallsMore P.sizes N.sizes.shards first origin before given calls self.new.session self.new.pump) }
+        ensures end { IfErr result (λ end. (first : SessionView) (origin : Origin) (before : ℕ)
             (given : List Meaning) (calls : List Outcomes)
-            → IsWorking P.sizes N.sizes.shards first input before given calls self.old.session self.old.pump
-            → HasStopped P.sizes N.sizes.shards first input before end self.new.session self.new.pump) }
+            → IsWorking P.sizes N.sizes.shards first origin before given calls self.old.session self.old.pump
+            → HasStopped P.sizes N.sizes.shards first origin before end self.new.session self.new.pump) }
     {
         let command = match self.pump.next() {
             Ok(command) => command,

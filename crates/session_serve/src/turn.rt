@@ -1,7 +1,8 @@
 // One command after another.
-ghost use Rattle.std.specs.Prelude.{◌≡◌, ℕ, List, Option, length, IfOk, IfErr, OnOk, OnErr};
+ghost use Rattle.std.specs.Prelude.{◌≡◌, ℕ, List, length, IfOk, IfErr, OnOk, OnErr};
 ghost use Rattle.flake_model.specs.Command.{Command as Meaning};
 ghost use Rattle.call_model.specs.Outcomes.{Outcomes};
+ghost use Rattle.command_pump.specs.Pump.{Origin};
 ghost use Rattle.tx_ring.specs.Shown.{completed};
 ghost use Rattle.device_model.specs.Devices.{Forwards};
 ghost use Rattle.session_pass.specs.Views.{SessionView};
@@ -51,14 +52,14 @@ impl<N: BookName, P: PoolName + Send, S: Source> Line<N, P, S> {
             (λ w r. FLUSH.post flush.now w r) self.old.device.failed self.new.device.failed self.old.session.posted
             self.new.session.posted 0 wire result.0) }
         ensures unstopped { OnOk result.1 (self.new.session.stopped ≡ self.old.session.stopped) }
-        ensures call { OnOk result.1 ((first : SessionView) (input : Option (List ℕ)) (before : ℕ)
+        ensures call { OnOk result.1 ((first : SessionView) (origin : Origin) (before : ℕ)
             (given : List Meaning) (calls : List Outcomes)
-            → IsWorking P.sizes N.sizes.shards first input before given calls self.old.session self.old.pump
-            → CallsMore P.sizes N.sizes.shards first input before given calls self.new.session self.new.pump) }
-        ensures end { IfErr result.1 (λ end. (first : SessionView) (input : Option (List ℕ)) (before : ℕ)
+            → IsWorking P.sizes N.sizes.shards first origin before given calls self.old.session self.old.pump
+            → CallsMore P.sizes N.sizes.shards first origin before given calls self.new.session self.new.pump) }
+        ensures end { IfErr result.1 (λ end. (first : SessionView) (origin : Origin) (before : ℕ)
             (given : List Meaning) (calls : List Outcomes)
-            → IsWorking P.sizes N.sizes.shards first input before given calls self.old.session self.old.pump
-            → HasStopped P.sizes N.sizes.shards first input before end self.new.session self.new.pump) }
+            → IsWorking P.sizes N.sizes.shards first origin before given calls self.old.session self.old.pump
+            → HasStopped P.sizes N.sizes.shards first origin before end self.new.session self.new.pump) }
     {
         let command = match self.pump.next() {
             Ok(command) => command,

@@ -27,7 +27,8 @@ module _ {W : Type 0} (put_may : W → Bor (List ℕ) → (W × Bool) → Type 0
   -- what became of a session
   pub record IsDone (z : Sizes) (shards : ℕ) (session : SessionView) (pump : PumpState) (old : W) (end : SessionEnd)
       (bytes : ℕ) (mine : SessionList) (seat : View) (left : PumpState) (new : W) : Type 0 where
-    pub served : IsServed put_may flush_may z shards session pump.left left.left end bytes mine seat old new
+    pub served : IsServed put_may flush_may z shards session left.given left.ended end bytes mine seat old new
+    pub origin : left.origin ≡ pump.origin
     pub reads : EndFaults end.end pump.faults left.faults
     pub to_the_end : end.end ≢ Left
     pub credits : seat.credits ≡ session.opened.credits

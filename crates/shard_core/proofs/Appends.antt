@@ -20,8 +20,8 @@ use Rattle.flake_base.specs.declared.segment.Seg.{Seg}
 use Rattle.flake_model.specs.Store.{Store, Keyed, append, Change, keeps, puts, length_is, too_long, answer}
 use Rattle.flake_base.specs.Limits.{value_limit}
 use Rattle.flake_model.specs.Store.{change_by, changed, bytes_of}
-use Rattle.flake_model.specs.Deed.{Places, places_at, places_with, AreStored}
-use Rattle.flake_model.specs.Fragments.{full_fragments}
+use Rattle.flake_model.specs.Deed.{Places, places_at, places_with, kept_fragments, AreStored}
+use Rattle.flake_model.specs.Fragments.{fragments_of, full_fragments}
 use Rattle.frag_value.specs.Fragments.{stored_fragments, fragments_in}
 use Rattle.frag_value.specs.Values.{IsValue, IsCut, keys_of, value_bytes, size_of, whole_fragments, partial_of}
 use Rattle.frag_value.specs.Changes.{WhyUnplaced, found_none, without_buffer}
@@ -91,6 +91,19 @@ pub on_err : {A E : Type 0} (r : Result A E) (P : Type 0) → P → OnErr r P
 on_err (Ok a) P p = tt
 on_err (Err e) P p = p
 
+-- an append keeps the full fragments, and all of them where it has no bytes
+kept_as : (key old bytes stored were : List ℕ) → (bytes ≡ [] → stored ≡ were)
+    → take (full_fragments old) stored ≡ take (full_fragments old) were
+    → (let k : ℕ = kept_fragments old (append key bytes) in take k stored ≡ take k were)
+kept_as key old [] stored were same full = ap (take (length (fragments_of old))) (same refl)
+kept_as key old (byte ∷ bytes) stored were same full = full
+
+-- of a missing key it keeps none
+pub none_kept : (key bytes stored were : List ℕ)
+    → (let k : ℕ = kept_fragments [] (append key bytes) in take k stored ≡ take k were)
+none_kept key [] stored were = refl
+none_kept key (byte ∷ bytes) stored were = refl
+
 -- how many requests of an append that was refused found none
 pub none_told : (e : AppendError) → without_buffer e ≡ found_none (outcome_of e)
 none_told (unadded.TooLong n) = refl
@@ -102,7 +115,8 @@ module _ (z : Sizes) (key bytes : List ℕ) (s : Store) (p : Places) (now : Entr
   -- an append that is done
   pub add_done : (n : ℕ) (v : Frags) → n ≡ length (bytes_of o ++ bytes) → length (bytes_of o ++ bytes) ≤ value_limit
       → IsCut (length (bytes_of o ++ bytes)) v
-      → take (full_fragments (bytes_of o)) (value_addresses z v) ≡ take (full_fragments (bytes_of o)) (places_at p key)
+      → take (kept_fragments (bytes_of o) (append key bytes)) (value_addresses z v)
+      ≡ take (kept_fragments (bytes_of o) (append key bytes)) (places_at p key)
       → segs1 ≡ segs0 ++ segs_of z v
       → Agrees z now holds (finite.insert s key (bytes_of o ++ bytes)) (finite.insert p key (value_addresses z v))
       → IsDone z (append key bytes) s p now holds (say.Length n) segs0 segs1 t t
@@ -122,8 +136,9 @@ module _ (z : Sizes) (key bytes : List ℕ) (s : Store) (p : Places) (now : Entr
         says = ap (λ (m : ℕ). say.Length m) size ∙ ap answer_shown (sym answer_is);
         agrees = subst (λ what. Agrees z now holds (changed s key what) (places_with p key what stored))
             (sym change_is) agrees;
-        stored_is = subst (λ (y : Option (List ℕ) × Change). AreStored y.1 (full_fragments (bytes_of y.0))
-            (places_at p key) stored) (λ i. (sym there i, sym change_is i)) (count-addresses z whole v cut, kept);
+        stored_is = subst (λ (y : Option (List ℕ) × Change). AreStored y.1
+            (kept_fragments (bytes_of y.0) (append key bytes)) (places_at p key) stored)
+            (λ i. (sym there i, sym change_is i)) (count-addresses z whole v cut, kept);
         segs_are = segs ∙ ap (λ l. segs0 ++ l)
             (segs-cut z (length whole) v cut ∙ ap (λ a. segs_at stored (size_stored (append key bytes) a))
             (sym answer_is));
@@ -284,7 +299,9 @@ module _ (z : Sizes) (key : List ℕ) (es es1 now : Entries) (own new : View) (v
       ∙ ap (λ o. value_addresses z (frags_of o)) there in
       add_done z key bytes s p now new.holds segs0 segs1 t (Some old) (old_bytes s p a) n w (size ∙ long)
       (omega (arith, longer.few, old_size, length-append old bytes)) (subst (λ m. IsCut m w) long carried.value.cut)
+      (kept_as key old bytes (value_addresses z w) (places_at p key)
+      (λ none. ap (value_addresses z) (longer.same none) ∙ sym places)
       (take_front (full_fragments old) (whole_fragments v) longer.added w longer.parts count
       ∙ sym (ap (take (full_fragments old)) places ∙ take_front (full_fragments old) (whole_fragments v)
-      (partial_of v) v ps.whole count)) segs
+      (partial_of v) v ps.whole count))) segs
       (restored_agrees whole longer.bytes_are s p a)

@@ -110,7 +110,7 @@ total-by : {A : Type 0} (f : A → ℕ) (xs : List A) → total f xs ≡ sum_by 
 total-by f [] = refl
 total-by f (x ∷ xs) = ap (λ n. f x + n) (total-by f xs) ∙ sym (sum_by-cons f x xs)
 
-total-permutation : {A : Type 0} (f : A → ℕ) (xs ys : List A) → IsPermutation xs ys → total f ys ≡ total f xs
+pub total-permutation : {A : Type 0} (f : A → ℕ) (xs ys : List A) → IsPermutation xs ys → total f ys ≡ total f xs
 total-permutation f xs ys moved = total-by f ys ∙ sum_by-IsPermutation f xs ys moved ∙ sym (total-by f xs)
 
 each_all : {A : Type 0} (P : A → Type 0) (xs : List A) → Each P xs → AllByRecursion P xs
@@ -121,7 +121,7 @@ all_each : {A : Type 0} (P : A → Type 0) (xs : List A) → AllByRecursion P xs
 all_each P [] all = tt
 all_each P (x ∷ xs) all = (all.0, all_each P xs all.1)
 
-each-permutation : {A : Type 0} (P : A → Type 0) (xs ys : List A) → IsPermutation xs ys → Each P xs → Each P ys
+pub each-permutation : {A : Type 0} (P : A → Type 0) (xs ys : List A) → IsPermutation xs ys → Each P xs → Each P ys
 each-permutation P xs ys moved all =
     all_each P ys (recursion_from_All P ys
     (All-permutation P xs ys moved (All-from_recursion P xs (each_all P xs all))))

@@ -17,6 +17,7 @@ use Rattle.pinned_pool.proofs.SoughtLaws.{sought_within, sought_still}
 use Rattle.pinned_pool.specs.Named.{IsSeat}
 use Rattle.pinned_pool.specs.declared.view.View.{View}
 use Rattle.flake_model.specs.Store.{append}
+use Rattle.flake_model.specs.Fragments.{full_fragments}
 use Rattle.frag_value.specs.Fragments.{pieces, stored_fragments, class_for, fragments_in}
 use Rattle.frag_value.specs.Values.{IsValue, IsFilled, keys_of, value_bytes, HasValue, whole_fragments, partial_of}
 use Rattle.frag_value.specs.Values.{size_of}
@@ -28,8 +29,9 @@ use Rattle.frag_value.proofs.Cuts.{parts, size-append, length-bytes-value}
 use Rattle.frag_value.specs.Values.{Frags}
 use Rattle.shard_core.specs.Moved.{IsLonger}
 use Rattle.shard_core.specs.Demand.{part_row}
-use Rattle.shard_core.specs.Paid.{IsPaid, WhyUnadded}
+use Rattle.shard_core.specs.Paid.{IsPaid, LacksBehind, WhyUnadded}
 use Rattle.shard_core.proofs.Carried.{back-again, back-longer}
+use Rattle.shard_core.proofs.Needs.{behind_full}
 
 none_or_some : (bytes : List ℕ) → (bytes ≡ []) ⊎ (0 < length bytes)
 none_or_some [] = inl refl
@@ -130,12 +132,14 @@ module _ (z : Sizes) (v : Frags) (bytes : List ℕ) (hs : List Holding) (payer p
           few = appended.few;
           added = partial_of v;
           parts = (empty none).0 ∙ (parts (size_of v) v is.cut).whole;
+          same = λ none. (empty none).0;
         }
         by (inr some) = let m = appended.moved some in record {
           bytes_are = text;
           few = appended.few;
           added = m.added;
           parts = m.parts;
+          same = λ none. (empty none).0;
         }
 
   -- what was claimed and looked at
@@ -185,6 +189,23 @@ module _ (z : Sizes) (v : Frags) (bytes : List ℕ) (hs : List Holding) (payer p
             looks = λ b near. omega (arith, outer.looks b near, ap (λ (x : View). looked_at b x.looks) came);
           };
         }
+
+    pub lacks : (e : AppendError) → (bytes ≡ [] → ⊥) → WhyUnappended z v bytes e payer1 payer2 → (text : List ℕ)
+        → value_bytes payer1.holds v ≡ text → LacksBehind z text bytes e payer payer3
+    lacks (error.TooLong n) some reason text same = tt
+    lacks (error.NoBuffer none) some reason text same = (
+      ⊎_elim (λ e. absurd (some e)) (λ more. more) (none_or_some bytes),
+      omega (
+        arith,
+        reason.1.fewer,
+        ap (λ (x : View). buffers_in z none.class x.claims) left,
+        ap (λ (x : View). buffers_in z none.class x.claims) came,
+        ap (λ (l : List ℕ). fragments_in none.class (stored_fragments (l ++ bytes)))
+            (behind_full z payer1.holds v is has1.filled
+            ∙ ap (λ (l : List ℕ). drop (4096 * full_fragments l) l) same),
+      ),
+    )
+    lacks error.Memory some reason text same = tt
 
     pub why : (e : AppendError) → (bytes ≡ [] → ⊥) → WhyUnappended z v bytes e payer1 payer2
         → WhyUnadded z v bytes e payer payer3

@@ -4,7 +4,9 @@ pub mod Holds
 pub mod Runs
 pub mod Carried
 pub mod Brought
+pub mod Needs
 pub mod Extended
 pub mod Deeds
 pub mod Appends
 pub mod Free
+pub mod PinnedAll

@@ -7,3 +7,4 @@ pub mod Paid
 pub mod Moved
 pub mod Done
 pub mod ShardMaps
+pub mod Rooms

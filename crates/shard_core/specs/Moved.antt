@@ -1,5 +1,5 @@
 -- Values that come to a shard, and those that go and come back.
-use Rattle.std.specs.Prelude.{◌≡◌, ℕ, ◌+◌, ◌≤◌, List, ◌++◌, length, map, Option, Some}
+use Rattle.std.specs.Prelude.{◌≡◌, ℕ, ◌+◌, ◌≤◌, List, [], ◌++◌, length, map, Option, Some}
 use Rattle.std.specs.FinMap as finite
 use Rattle.view_sums.specs.Total.{Each}
 use Rattle.pin_core.specs.Holding.{Holding}
@@ -47,9 +47,10 @@ pub record IsCarried (z : Sizes) (v w : Frags) (own new : View) : Type 0 where
   pub value : IsValue z w
   pub poor : IsPoor own → IsPoor new
 
--- a value with bytes behind it: the full fragments stay
+-- a value with bytes behind it: the full fragments stay, and where there are no bytes all do
 pub record IsLonger (v w : Frags) (bytes : List ℕ) (own new : List Holding) : Type 0 where
   pub bytes_are : value_bytes new w ≡ value_bytes own v ++ bytes
   pub few : size_of v + length bytes ≤ value_limit
   pub added : Frags
   pub parts : w ≡ whole_fragments v ++ added
+  pub same : bytes ≡ [] → w ≡ v

@@ -1,5 +1,7 @@
 -- What a part costs the seat that pays.
-use Rattle.std.specs.Prelude.{◌≡◌, ℕ, ◌+◌, ◌<◌, ◌≤◌, true, List, [], ◌++◌, length, None, Result, is_ok}
+use Rattle.std.specs.Prelude.{◌≡◌, ℕ, ◌+◌, ◌*◌, ◌<◌, ◌≤◌, true, List, [], ◌++◌, length, drop, Option, Some}
+use Rattle.std.specs.Prelude.{None, Result, is_ok}
+use Rattle.std.specs.FinMap as finite
 use Rattle.pin_core.specs.Holding.{Holding}
 use Rattle.pin_core.specs.Buffers.{buffers}
 use Rattle.pin_core.specs.declared.sizes.Sizes.{Sizes}
@@ -10,9 +12,11 @@ use Rattle.pinned_pool.specs.Sought.{Sought}
 use Rattle.pinned_pool.specs.Views.{looked_at}
 use Rattle.pinned_pool.specs.declared.pool.NoBuffer.{NoBuffer}
 use Rattle.pinned_pool.specs.declared.view.View.{View}
-use Rattle.flake_model.specs.Store.{Store, Operation, append, stored_value}
-use Rattle.flake_model.specs.Deed.{Places}
+use Rattle.flake_model.specs.Store.{Store, Operation, append, stored_value, change_on, bytes_put, bytes_of, key_of}
+use Rattle.flake_model.specs.Deed.{Places, kept_fragments}
+use Rattle.flake_model.specs.Fragments.{fragment_limit, full_fragments}
 use Rattle.flake_base.specs.Limits.{value_limit}
+use Rattle.frag_value.specs.Fragments.{stored_fragments, fragments_in}
 use Rattle.frag_value.specs.Values.{size_of}
 use Rattle.frag_value.specs.declared.error.AppendError.{AppendError}
 use Rattle.frag_value.specs.declared.error.AppendError.TheVariants as unadded
@@ -57,6 +61,35 @@ abbrev pub PaysToStore : Sizes → Operation → Entries → List Holding → Re
 PaysToStore z operation es hs result old new =
     (store : Store) (places : Places) → Agrees z es hs store places
     → stored_value store operation ≡ None → IsFree result old new
+
+-- the fragments that an operation puts into new buffers: those behind the ones that it leaves where they are
+abbrev pub fragments_put : List ℕ → Operation → List ℕ → List (List ℕ)
+fragments_put old operation bytes = drop (kept_fragments old operation) (stored_fragments bytes)
+
+-- On what its key had, the part stores bytes, and fewer buffers of the class were claimed than the fragments that it
+-- puts need.
+pub record LacksBuffers (z : Sizes) (had : Option (List ℕ)) (operation : Operation) (none : NoBuffer) (old new : View)
+    : Type 0 where
+  pub bytes : List ℕ
+  pub stores : bytes_put (change_on had operation) ≡ Some bytes
+  pub less : buffers_in z none.class new.claims < buffers_in z none.class old.claims
+      + fragments_in none.class (fragments_put (bytes_of had) operation bytes)
+
+-- so it is where a part finds no buffer, on any store that agreed
+abbrev pub NeedsBuffers : Sizes → Operation → Entries → List Holding → PlaceError → View → View → Type 0
+NeedsBuffers z operation es hs (unplaced.NoBuffer none) old new =
+    (store : Store) (places : Places) → Agrees z es hs store places
+    → LacksBuffers z (finite.get store (key_of operation)) operation none old new
+NeedsBuffers z operation es hs unplaced.Memory old new = Unit {0}
+
+-- where an append finds no buffer, fewer of the class were claimed than the bytes behind the full fragments need
+abbrev pub LacksBehind : Sizes → List ℕ → List ℕ → AppendError → View → View → Type 0
+LacksBehind z text bytes (unadded.TooLong n) old new = Unit {0}
+LacksBehind z text bytes (unadded.NoBuffer none) old new =
+    (0 < length bytes)
+    × (buffers_in z none.class new.claims < buffers_in z none.class old.claims
+    + fragments_in none.class (stored_fragments (drop (fragment_limit * full_fragments text) text ++ bytes)))
+LacksBehind z text bytes unadded.Memory old new = Unit {0}
 
 -- Why bytes are not appended. For too many nothing is claimed or looked at, and only those that fit may find no buffer
 -- or no memory.

@@ -12,7 +12,7 @@ ghost use Rattle.shard_core.specs.Done.{Does, StandsAsBefore};
 ghost use Rattle.shard_core.specs.Keys.{is_key};
 ghost use Rattle.shard_core.specs.Kept.{IsKept, value_at};
 ghost use Rattle.shard_core.specs.Answers.{outcome_of};
-ghost use Rattle.shard_core.specs.Paid.{IsPaid, PaysToStore, WhyPartRefused};
+ghost use Rattle.shard_core.specs.Paid.{IsPaid, NeedsBuffers, PaysToStore, WhyPartRefused};
 
 use crate::answer::PartAnswer;
 use crate::carrying::extend;
@@ -48,6 +48,8 @@ fn add_first<P: PoolName>(
     ensures untold { OnErr result (stored.new.items ≡ stored.old.items) }
     ensures spare { stored.old.spare + length stored.old.items ≤ stored.new.spare + length stored.new.items }
     ensures cause { IfErr result (λ e. WhyPartRefused P.sizes (append_op key.now bytes.now) e payer.old payer.new) }
+    ensures needs { IfErr result (λ e. NeedsBuffers P.sizes (append_op key.now bytes.now)
+        kept.old.values.entries kept.old.own.holds e payer.old payer.new) }
     ensures paid { IsPaid P.sizes (λ (class : Class). part_row class (append_op key.now bytes.now)) (found_none result)
         payer.old payer.new }
     ensures pays { PaysToStore P.sizes (append_op key.now bytes.now)
@@ -97,6 +99,8 @@ fn add_more<P: PoolName>(
     ensures untold { OnErr result (stored.new.items ≡ stored.old.items) }
     ensures spare { stored.old.spare + length stored.old.items ≤ stored.new.spare + length stored.new.items }
     ensures cause { IfErr result (λ e. WhyPartRefused P.sizes (append_op key.now bytes.now) e payer.old payer.new) }
+    ensures needs { IfErr result (λ e. NeedsBuffers P.sizes (append_op key.now bytes.now)
+        kept.old.values.entries kept.old.own.holds e payer.old payer.new) }
     ensures paid { IsPaid P.sizes (λ (class : Class). part_row class (append_op key.now bytes.now)) (found_none result)
         payer.old payer.new }
     ensures pays { PaysToStore P.sizes (append_op key.now bytes.now)
@@ -142,6 +146,8 @@ pub(crate) fn add<P: PoolName>(
     ensures untold { OnErr result (stored.new.items ≡ stored.old.items) }
     ensures spare { stored.old.spare + length stored.old.items ≤ stored.new.spare + length stored.new.items }
     ensures cause { IfErr result (λ e. WhyPartRefused P.sizes (append_op key.now bytes.now) e payer.old payer.new) }
+    ensures needs { IfErr result (λ e. NeedsBuffers P.sizes (append_op key.now bytes.now)
+        kept.old.values.entries kept.old.own.holds e payer.old payer.new) }
     ensures paid { IsPaid P.sizes (λ (class : Class). part_row class (append_op key.now bytes.now)) (found_none result)
         payer.old payer.new }
     ensures pays { PaysToStore P.sizes (append_op key.now bytes.now)

@@ -7,7 +7,7 @@ ghost use Rattle.pin_core.specs.declared.class.Class.{Class};
 ghost use Rattle.shard_core.specs.Demand.{part_row};
 ghost use Rattle.shard_core.specs.Done.{Does, StandsAsBefore, is_taking, is_ranged};
 ghost use Rattle.shard_core.specs.Kept.{IsKept};
-ghost use Rattle.shard_core.specs.Paid.{IsPaid, PaysToStore, WhyPartRefused};
+ghost use Rattle.shard_core.specs.Paid.{IsPaid, NeedsBuffers, PaysToStore, WhyPartRefused};
 ghost use Rattle.shard_part.specs.Parts.{operation_of};
 ghost use Rattle.shard_part.specs.Settings.{setting_of};
 
@@ -50,6 +50,8 @@ fn apply_other<P: PoolName, T: Taker<P>>(
     ensures spare { stored.old.spare + length stored.old.items ≤ stored.new.spare + length stored.new.items }
     ensures untaken { OnErr result (T.taken taker.new ≡ T.taken taker.old) }
     ensures cause { IfErr result (λ e. WhyPartRefused P.sizes (operation_of part.now) e payer.old payer.new) }
+    ensures needs { IfErr result (λ e. NeedsBuffers P.sizes (operation_of part.now)
+        kept.old.values.entries kept.old.own.holds e payer.old payer.new) }
     ensures paid { IsPaid P.sizes (λ (class : Class). part_row class (operation_of part.now)) (found_none result)
         payer.old payer.new }
     ensures pays { PaysToStore P.sizes (operation_of part.now)
@@ -102,6 +104,8 @@ pub(crate) fn apply<P: PoolName, T: Taker<P>>(
     ensures spare { stored.old.spare + length stored.old.items ≤ stored.new.spare + length stored.new.items }
     ensures untaken { OnErr result (T.taken taker.new ≡ T.taken taker.old) }
     ensures cause { IfErr result (λ e. WhyPartRefused P.sizes (operation_of part.now) e payer.old payer.new) }
+    ensures needs { IfErr result (λ e. NeedsBuffers P.sizes (operation_of part.now)
+        kept.old.values.entries kept.old.own.holds e payer.old payer.new) }
     ensures paid { IsPaid P.sizes (λ (class : Class). part_row class (operation_of part.now)) (found_none result)
         payer.old payer.new }
     ensures pays { PaysToStore P.sizes (operation_of part.now)

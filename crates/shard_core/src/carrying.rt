@@ -8,7 +8,7 @@ ghost use Rattle.flake_model.specs.Store.{append as append_op};
 ghost use Rattle.pin_core.specs.declared.class.Class.{Class};
 ghost use Rattle.shard_core.specs.Demand.{part_row};
 ghost use Rattle.shard_core.specs.Moved.{IsCarried, IsLonger};
-ghost use Rattle.shard_core.specs.Paid.{IsPaid, WhyUnadded};
+ghost use Rattle.shard_core.specs.Paid.{IsPaid, LacksBehind, WhyUnadded};
 
 use frag_value::{AppendError, Value, append};
 use pinned_pool::{Pool, PoolName, PoolSeat};
@@ -70,6 +70,8 @@ pub(crate) fn extend<P: PoolName>(
     ensures returned { IfErr result (λ e. (e.1 ≡ old) × IsCarried P.sizes old old own.old own.new) }
     ensures same { IfErr result (λ e. value_bytes own.new.holds old ≡ value_bytes own.old.holds old) }
     ensures cause { IfErr result (λ e. WhyUnadded P.sizes old bytes.now e.0 payer.old payer.new) }
+    ensures lacks { IfErr result
+        (λ e. LacksBehind P.sizes (value_bytes own.old.holds old) bytes.now e.0 payer.old payer.new) }
     ensures paid { IsPaid P.sizes (λ (class : Class). part_row class (append_op [] bytes.now))
         (found_none_behind result) payer.old payer.new }
 {

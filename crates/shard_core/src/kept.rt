@@ -1,5 +1,5 @@
 //! A map of values, and the seat that holds their fragments.
-ghost use Rattle.std.specs.Prelude.{◌≡◌, ◌<◌, List, ℕ, Some, if◌then◌else◌};
+ghost use Rattle.std.specs.Prelude.{◌≡◌, ◌<◌, List, ℕ, Some, if◌then◌else◌, length, slice_get};
 ghost use Rattle.indexmap.specs.IndexMap.{keys, spare, index_of_by, set_value_at, insert_entry};
 ghost use Rattle.shard_core.specs.Keys.{same_bytes, key_eq, is_key};
 ghost use Rattle.shard_core.specs.Kept.{value_at};
@@ -32,6 +32,17 @@ pub(crate) fn value_in<'a, P: PoolName>(
         unreachable!()
     };
     value
+}
+
+/// The key and the value at this index.
+pub(crate) fn entry_at<P: PoolName>(values: &Values<P>, index: usize) -> (&Vec<u8>, &Value<P>)
+    requires { index < length values.now.entries }
+    ensures { slice_get values.now.entries index ≡ Some (result.0.now, result.1.now) }
+{
+    let Some(entry) = values.get_index(index) else {
+        unreachable!()
+    };
+    entry
 }
 
 /// Puts a value in the place of the one that the key has at this index.

@@ -8,6 +8,7 @@ mod applying;
 mod carrying;
 mod giving;
 mod kept;
+mod pinning;
 mod placing;
 mod reading;
 mod setting;

@@ -11,7 +11,7 @@ ghost use Rattle.pin_core.specs.declared.class.Class.{Class};
 ghost use Rattle.shard_core.specs.Done.{Does};
 ghost use Rattle.shard_core.specs.Keys.{is_key};
 ghost use Rattle.shard_core.specs.Kept.{IsKept, Agrees, IsAsBefore, bytes_kept};
-ghost use Rattle.shard_core.specs.Paid.{IsPaid, PaysToStore};
+ghost use Rattle.shard_core.specs.Paid.{IsPaid, NeedsBuffers, PaysToStore};
 ghost use Rattle.shard_part.specs.Settings.{when_of, set_by};
 
 use crate::answer::PartAnswer;
@@ -121,6 +121,8 @@ pub(crate) fn set<P: PoolName, T: Taker<P>>(
     ensures paid { IsPaid P.sizes (λ (class : Class). fragments_in class (stored_fragments bytes.now))
         (found_none result)
         payer.old payer.new }
+    ensures needs { IfErr result (λ e. NeedsBuffers P.sizes (set_by setting key.now bytes.now)
+        kept.old.values.entries kept.old.own.holds e payer.old payer.new) }
     ensures pays { PaysToStore P.sizes (set_by setting key.now bytes.now)
         kept.old.values.entries kept.old.own.holds result payer.old payer.new }
 {

@@ -5,6 +5,7 @@ use Rattle.std.proofs.lemmas.List.{map-append, drop_at, take_all, length-drop}
 use Rattle.std.specs.Ordering.{nat_cmp}
 use Rattle.std.specs.Cmp.Lexicographic.{slice_cmp}
 use Rattle.std.specs.FinMap as finite
+use Rattle.pin_core.specs.Holding.{Holding}
 use Rattle.pin_core.specs.declared.sizes.Sizes.{Sizes}
 use Rattle.pin_core.specs.declared.class.Class.{Class}
 use Rattle.pin_core.specs.declared.class.Class.TheVariants.{Small, Large}
@@ -25,11 +26,11 @@ use Rattle.frag_value.specs.declared.error.PlaceError.{PlaceError}
 use Rattle.frag_value.specs.declared.error.PlaceError.TheVariants as unplaced
 use Rattle.pinned_pool.specs.declared.pool.NoBuffer.{NoBuffer}
 use Rattle.order_book.specs.Pages.{ShardList, SessionList, shard_with, session_with, new_shard}
-use Rattle.shard_core.specs.Kept.{IsKept, Agrees}
+use Rattle.shard_core.specs.Kept.{Entries, IsKept, Agrees}
 use Rattle.shard_core.specs.ShardMaps.{ShardMapView}
 use Rattle.shard_core.specs.Demand.{part_row}
 use Rattle.shard_core.specs.Done.{IsDone}
-use Rattle.shard_core.specs.Paid.{IsPaid, HasNone, WhyPartRefused}
+use Rattle.shard_core.specs.Paid.{IsPaid, HasNone, LacksBuffers, NeedsBuffers, WhyPartRefused}
 use Rattle.shard_core.specs.Pieces.{answer_pieces, segs_at}
 use Rattle.shard_core.specs.declared.answer.PartAnswer.{PartAnswer}
 use Rattle.shard_core.proofs.Holds.{are_apart}
@@ -192,6 +193,12 @@ refused z operation e none u w is paid why = (
   subst (λ x. IsPaid z (λ (class : Class). part_row class operation) (found_none {A = PartAnswer} (Err x)) u w) is paid,
   subst (λ x. WhyPartRefused z operation x u w) is why,
 )
+
+pub needed : (z : Sizes) (operation : Operation) (es : Entries) (holds : List Holding) (e : PlaceError)
+    (none : NoBuffer) (u w : View) → e ≡ unplaced.NoBuffer none → NeedsBuffers z operation es holds e u w
+    → (store : Store) (places : Places) → Agrees z es holds store places
+    → LacksBuffers z (finite.get store (key_of operation)) operation none u w
+needed z operation es holds e none u w is needs = subst (λ x. NeedsBuffers z operation es holds x u w) is needs
 
 pub on_err : {A E : Type 0} (P : Type 0) (r : Result A E) → P → OnErr r P
 on_err P (Ok a) p = tt

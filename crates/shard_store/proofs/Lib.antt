@@ -5,3 +5,4 @@ mod Unstored
 mod Counted
 mod Stocked
 mod Gathering
+pub mod Imaged

@@ -1,9 +1,10 @@
 -- The fragments of all shard maps' values are those that the shards' deeds leave.
-use Rattle.std.proofs.Common.{◌≡◌, ℕ, zero, suc, ◌+◌, ◌-◌, ◌≤◌, List, [], ◌∷◌, ◌++◌, map, length, take, drop, zip, Some}
-use Rattle.std.proofs.Common.{refl, sym, ap, ◌∙◌, subst, arith}
+use Rattle.std.proofs.Common.{◌≡◌, ℕ, zero, suc, ◌+◌, ◌-◌, ◌≤◌, List, [], ◌∷◌, ◌++◌, map, length, take, drop, zip}
+use Rattle.std.proofs.Common.{Option, None, Some, refl, sym, ap, ◌∙◌, subst, arith}
 use Rattle.std.proofs.lemmas.List.{length-drop, length-take}
 use Rattle.std.specs.Global.{Vec}
 use Rattle.std.specs.List.{flat_map}
+use Rattle.std.specs.Option.{option_map}
 use Rattle.std.specs.FinMap as finite
 use Rattle.view_sums.specs.Total.{total, Each}
 use Rattle.view_sums.proofs.Sums.{total-append, total-map}
@@ -24,7 +25,7 @@ use Rattle.shard_core.specs.Kept.{Entries, value_at, frags_of, entries_weight, v
 use Rattle.frag_value.specs.Values.{Frags}
 use Rattle.shard_core.proofs.Entries.{every-found}
 use Rattle.shard_core.proofs.Holds.{places_of}
-use Rattle.call_model.specs.Stock.{fragments_by, fragments_left, AreParts}
+use Rattle.call_model.specs.Stock.{fragments_by, fragments_left, LiesIn, LieIn, AreParts}
 use Rattle.shard_store.specs.Gathered.{IsShardMap, AreInShardMaps, weighed_in, AreGathered}
 use Rattle.shard_store.proofs.Counted.{same_entries}
 
@@ -150,6 +151,31 @@ module _ (z : Sizes) (hs : List Holding) where
       ∙ total-append weight (spots z (frags_kept es)) (spots z (all_kept shard_maps))
       ∙ (λ i. (kept-spots weight es ∙ shard_map-spots weight l es are.0) i + all-spots weight lists shard_maps are.1 i)
       ∙ sym (total-append weight (fragments_by l.told) (fragments_left lists))
+
+-- the values that a shard's deeds leave are those of its map
+one_left : (z : Sizes) (hs : List Holding) (list : ShardList) (es : Entries) → IsShardMap z hs list es
+    → LieIn z hs list.told
+one_left z hs list es is key bytes there =
+    by (value_at key es) refl (is.agrees.bytes key ∙ there)
+  where
+    by : (o : Option Frags) → value_at key es ≡ o → option_map (value_bytes hs) o ≡ Some bytes
+        → LiesIn z hs (places_at (final_places list.told) key) bytes
+    by None found text = absurd (cc)
+    by (Some v) found text = record {
+      frags = v;
+      value = every-found (IsValue z) (is_key key) es v is.values found;
+      placed = sym (places_of z es hs (final_store list.told) (final_places list.told) key is.agrees
+          ∙ ap (λ o. value_addresses z (frags_of o)) found);
+      filled = every-found (λ (w : Frags). Each (IsFilled hs) w) (is_key key) es v is.filled found;
+      bytes_are = (let e : value_bytes hs v ≡ bytes = cc in e);
+    }
+
+pub values_left : (z : Sizes) (hs : List Holding) (lists : List ShardList) (shard_maps : List Entries)
+    → AreInShardMaps z hs lists shard_maps → Each (λ (shard : ShardList). LieIn z hs shard.told) lists
+values_left z hs [] shard_maps are = tt
+values_left z hs (l ∷ lists) [] are = absurd are
+values_left z hs (l ∷ lists) (es ∷ shard_maps) are =
+    (one_left z hs l es are.0, values_left z hs lists shard_maps are.1)
 
 pub are_parts : (z : Sizes) (count : ℕ) (lists : List ShardList) (journal : List (List Entry)) (seat : View)
     → AreGathered z count lists journal seat → AreParts z count lists journal seat

@@ -2,11 +2,13 @@
 #![tactic(auto)]
 
 mod done;
+mod image;
 mod locks;
 mod parts;
 mod shard;
 mod store;
 
+pub use image::ShardImage;
 pub use parts::Parts;
 pub use shard_core::PartAnswer;
 pub use shard_part::{Part, PartOp, shard_of};

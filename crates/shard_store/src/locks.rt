@@ -9,7 +9,10 @@ ghost use Rattle.shard_core.specs.Done.{is_taking, is_ranged};
 ghost use Rattle.shard_core.specs.ShardMaps.{IsBare};
 ghost use Rattle.shard_part.specs.Parts.{operation_of};
 ghost use Rattle.call_model.specs.Parts.{PartShows, IsUntold, KeepsSeat};
+ghost use Rattle.pin_core.specs.Buffers.{buffers};
+ghost use Rattle.shard_store.specs.Images.{IsImage};
 
+use crate::image::ShardImage;
 use crate::shard::Shard;
 use flake_base::{Entry, Memory, Segs};
 use frag_value::Taker;
@@ -86,4 +89,24 @@ pub(crate) fn run_in<R: Wait, N: BookName, P: PoolName, const I: u16, T: Taker<P
     let Some(lock) = lock else { unreachable!() };
     let mut guard = lock.lock(rt);
     guard.run(alloc, pool, book, seat, mine, at, part, taker, stored)
+}
+
+/// Pins all values of the shard behind the lock.
+pub(crate) fn pin_in<R: Wait, N: BookName, P: PoolName, const I: u16>(
+    rt: &R,
+    alloc: Global,
+    pool: &Pool<P>,
+    book: &Book<N>,
+    seat: &mut PoolSeat<P>,
+    mine: &mut SessionSeat<N>,
+    lock: &Option<Mutex<Shard<N, P, I>>>,
+) -> Result<ShardImage<P>, Memory>
+    requires open { is_some lock.now ≡ true }
+    requires credits { buffers P.sizes + 4 ≤ seat.old.credits }
+    ensures image { IfOk result (λ i. IsImage P.sizes I i.place i.pairs.items mine.old mine.new seat.old seat.new) }
+    ensures memory { OnErr result ((seat.new ≡ seat.old) × (mine.new ≡ mine.old)) }
+{
+    let Some(lock) = lock else { unreachable!() };
+    let mut guard = lock.lock(rt);
+    guard.pin(alloc, pool, book, seat, mine)
 }

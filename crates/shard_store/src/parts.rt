@@ -1,6 +1,6 @@
 //! What the shards come to, when they come out from behind their locks one by one.
 ghost use Rattle.std.specs.Prelude.{◌≡◌, ◌+◌, ◌<◌, ◌≤◌, nat_lt, is_some, []};
-ghost use Rattle.call_model.specs.Stock.{AreParts};
+ghost use Rattle.call_model.specs.Stock.{AreParts, HasValuesLeft};
 ghost use Rattle.shard_store.specs.Gathered.{AreTaken};
 ghost use Rattle.flake_base.specs.Histories.{histories};
 
@@ -96,8 +96,9 @@ pub(crate) fn take_lock<N: BookName, P: PoolName, const I: u16>(
 pub(crate) fn all_taken<N: BookName, P: PoolName>(shards: u16, parts: &Parts<N, P>)
     requires shards { (shards ≡ N.sizes.shards) × (shards ≤ 16) }
     requires parts { AreTaken P.sizes 16 shards parts.now.books parts.now.journal parts.now.seat }
-    ensures { AreParts P.sizes N.sizes.shards parts.now.books.items (histories parts.now.journal.items)
+    ensures parts { AreParts P.sizes N.sizes.shards parts.now.books.items (histories parts.now.journal.items)
         parts.now.seat }
+    ensures values { HasValuesLeft P.sizes parts.now.books.items parts.now.seat }
 {
     let _ = shards;
     let _ = parts;

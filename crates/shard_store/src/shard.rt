@@ -8,8 +8,12 @@ ghost use Rattle.shard_core.specs.Done.{is_taking, is_ranged};
 ghost use Rattle.shard_core.specs.ShardMaps.{IsBare};
 ghost use Rattle.shard_part.specs.Parts.{operation_of};
 ghost use Rattle.call_model.specs.Parts.{PartShows, IsUntold, KeepsSeat};
+ghost use Rattle.pin_core.specs.Buffers.{buffers};
+ghost use Rattle.shard_store.specs.Shards.{IsFreeAfter};
+ghost use Rattle.shard_store.specs.Images.{IsImage};
 
 use crate::done::DonePart;
+use crate::image::ShardImage;
 use flake_base::{Entry, Memory, Segs};
 use frag_value::{PlaceError, Taker};
 use order_book::{Book, BookName, SessionSeat, ShardSeat};
@@ -80,6 +84,7 @@ impl<N: BookName, P: PoolName, const I: u16> Shard<N, P, I> {
             mine.old mine.new payer.old payer.new stored.old.items stored.new.items
             (T.taken taker.old) (T.taken taker.new)) }
         ensures payer { KeepsSeat payer.old payer.new }
+        ensures free { IsFreeAfter self.old.told (operation_of part.now) result payer.old payer.new }
         ensures spare { stored.old.spare + length stored.old.items ≤ stored.new.spare + length stored.new.items }
         ensures none { T.begun taker.new ≡ None }
         ensures base { T.base taker.new ≡ T.base taker.old }
@@ -111,5 +116,26 @@ impl<N: BookName, P: PoolName, const I: u16> Shard<N, P, I> {
             Err(PlaceError::NoBuffer(none)) => Ok(PartAnswer::NoBuffer(none)),
             Err(PlaceError::Memory) => Err(Memory),
         }
+    }
+
+    /// Pins all values, and shows the session the list of the deeds that led to them. After want of memory nothing has
+    /// changed.
+    pub(crate) fn pin(
+        &mut self,
+        alloc: Global,
+        pool: &Pool<P>,
+        book: &Book<N>,
+        seat: &mut PoolSeat<P>,
+        mine: &mut SessionSeat<N>,
+    ) -> Result<ShardImage<P>, Memory>
+        requires credits { buffers P.sizes + 4 ≤ seat.old.credits }
+        ensures image { IfOk result (λ i. IsImage P.sizes I i.place i.pairs.items
+            mine.old mine.new seat.old seat.new) }
+        ensures memory { OnErr result ((seat.new ≡ seat.old) × (mine.new ≡ mine.old)) }
+    {
+        let pairs = self.shard_map.pin_all(alloc, pool, seat)?;
+        seat.is_seat();
+        let place = book.both_lists(&mut self.seat, mine);
+        Ok(ShardImage { place, pairs })
     }
 }

@@ -10,10 +10,13 @@ ghost use Rattle.shard_core.specs.Done.{is_taking, is_ranged};
 ghost use Rattle.shard_core.specs.ShardMaps.{IsBare};
 ghost use Rattle.shard_part.specs.Parts.{operation_of};
 ghost use Rattle.call_model.specs.Parts.{PartShows, IsUntold, KeepsSeat};
-ghost use Rattle.call_model.specs.Stock.{AreParts};
+ghost use Rattle.call_model.specs.Stock.{AreParts, HasValuesLeft};
 ghost use Rattle.flake_base.specs.Histories.{histories};
+ghost use Rattle.pin_core.specs.Buffers.{buffers};
+ghost use Rattle.shard_store.specs.Images.{IsImage};
 
-use crate::locks::{open_lock, run_in};
+use crate::image::ShardImage;
+use crate::locks::{open_lock, pin_in, run_in};
 use crate::parts::{Parts, Room, all_taken, first_lock, take_lock};
 use crate::shard::Shard;
 use flake_base::{Entry, Memory, Segs, Sequence};
@@ -387,10 +390,59 @@ impl<N: BookName, P: PoolName> Store<N, P> {
         }
     }
 
-    /// What the shards have come to: their histories, which are legal, and the seat that holds their final values and
-    /// nothing else.
+    /// How many shards there are.
+    pub fn shards(&self) -> u16
+        ensures number { result ≡ N.sizes.shards }
+        ensures few { result ≤ 16 }
+    {
+        self.shards
+    }
+
+    /// All values of a shard under pinned holds of the seat, at one point of the shard's history, which the session
+    /// sees. After want of memory nothing has changed.
+    pub fn pin_shard<R: Wait>(
+        &self,
+        rt: &R,
+        pool: &Pool<P>,
+        book: &Book<N>,
+        shard: u16,
+        seat: &mut PoolSeat<P>,
+        mine: &mut SessionSeat<N>,
+    ) -> Result<ShardImage<P>, Memory>
+        requires shard { shard < N.sizes.shards }
+        requires credits { buffers P.sizes + 4 ≤ seat.old.credits }
+        ensures image { IfOk result (λ i. IsImage P.sizes shard i.place i.pairs.items
+            mine.old mine.new seat.old seat.new) }
+        ensures memory { OnErr result ((seat.new ≡ seat.old) × (mine.new ≡ mine.old)) }
+    {
+        let _ = self.shards;
+        match shard {
+            0 => pin_in(rt, self.alloc, pool, book, seat, mine, &self.shard0),
+            1 => pin_in(rt, self.alloc, pool, book, seat, mine, &self.shard1),
+            2 => pin_in(rt, self.alloc, pool, book, seat, mine, &self.shard2),
+            3 => pin_in(rt, self.alloc, pool, book, seat, mine, &self.shard3),
+            4 => pin_in(rt, self.alloc, pool, book, seat, mine, &self.shard4),
+            5 => pin_in(rt, self.alloc, pool, book, seat, mine, &self.shard5),
+            6 => pin_in(rt, self.alloc, pool, book, seat, mine, &self.shard6),
+            7 => pin_in(rt, self.alloc, pool, book, seat, mine, &self.shard7),
+            8 => pin_in(rt, self.alloc, pool, book, seat, mine, &self.shard8),
+            9 => pin_in(rt, self.alloc, pool, book, seat, mine, &self.shard9),
+            10 => pin_in(rt, self.alloc, pool, book, seat, mine, &self.shard10),
+            11 => pin_in(rt, self.alloc, pool, book, seat, mine, &self.shard11),
+            12 => pin_in(rt, self.alloc, pool, book, seat, mine, &self.shard12),
+            13 => pin_in(rt, self.alloc, pool, book, seat, mine, &self.shard13),
+            14 => pin_in(rt, self.alloc, pool, book, seat, mine, &self.shard14),
+            15 => pin_in(rt, self.alloc, pool, book, seat, mine, &self.shard15),
+            _ => unreachable!(),
+        }
+    }
+
+    /// What the shards have come to: their histories, which are legal, and the seat that holds their final values, with
+    /// their bytes, and nothing else.
     pub fn into_parts(self, pool: &Pool<P>) -> Parts<N, P>
-        ensures { AreParts P.sizes N.sizes.shards result.books.items (histories result.journal.items) result.seat }
+        ensures parts { AreParts P.sizes N.sizes.shards result.books.items (histories result.journal.items)
+            result.seat }
+        ensures values { HasValuesLeft P.sizes result.books.items result.seat }
     {
         let Store {
             alloc: _,

@@ -1,5 +1,6 @@
 //! Commands from sources, and how often these are read.
-ghost use Rattle.std.specs.Prelude.{Some};
+ghost use Rattle.std.specs.Prelude.{Some, refl};
+ghost use Rattle.flake_base.specs.MemorySource.{whole_of, at_end, nothing_left};
 
 use command_pump::Pump;
 use flake_base::{Bytes, End, Failed, Fails, Memory, MemorySource, Source};
@@ -16,7 +17,13 @@ struct CountedSource {
 }
 
 impl Source for CountedSource {
-    ghost left = { λ s. Some s.source.left };
+    ghost name = { λ s. s.source.name };
+
+    ghost whole = { λ s. Some (whole_of s.source) };
+
+    ghost given = { λ s. s.source.given };
+
+    ghost ended = { λ s. at_end s.source };
 
     ghost read_faults = { λ s. s.source.faults };
 
@@ -25,6 +32,8 @@ impl Source for CountedSource {
         self.longest = self.longest.max(room.len());
         self.source.read(room)
     }
+
+    ghost front = { λ s. (s.source.left, refl, nothing_left s.source.ended s.source.left) };
 }
 
 fn counted(alloc: Global, input: &[u8]) -> Result<Pump<CountedSource>, Memory> {

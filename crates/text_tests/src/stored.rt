@@ -37,7 +37,7 @@ fn expect(rt: &impl Abort, answer: &PartAnswer, told: Told) {
 }
 
 fn check_all(rt: &impl Abort, alloc: Global, rows: &[Row]) -> Result<(), Fail> {
-    let mut store = Store::new(alloc)?;
+    let mut store = Store::new(alloc);
     for (op, key, value, told) in rows {
         let part = Part {
             op: *op,
@@ -68,7 +68,7 @@ static SETS: [Row; 14] = [
     (PartOp::Get, b"a", b"", Told::Bulk(b"9")),
 ];
 
-/// What reads a key, and what puts bytes behind its value; the key `b` belongs to another shard.
+/// What reads a key, and what puts bytes behind its value; the key `b` has none.
 static READS: [Row; 10] = [
     (PartOp::Append, b"a", b"abc", Told::Length(3)),
     (PartOp::Append, b"a", b"def", Told::Length(6)),

@@ -8,3 +8,4 @@ pub mod Sourced
 pub mod Stays
 pub mod Wants
 pub mod Whole
+pub mod Cut

@@ -6,7 +6,6 @@ use Rattle.std.specs.List.{AllByRecursion, flat_map}
 use Rattle.std.specs.FinMap as finite
 use Rattle.flake_base.specs.declared.journal.Entry.{Entry}
 use Rattle.flake_base.specs.declared.segment.Seg.{Seg}
-use Rattle.flake_base.specs.Growth.{Grew}
 use Rattle.flake_model.specs.Store as part
 use Rattle.flake_model.specs.Store.{Store, Operation, after, IsWrite}
 use Rattle.flake_model.specs.Command as asked
@@ -22,12 +21,14 @@ use Rattle.transcript_model.specs.Lines.{LineEvent, EventLine}
 use Rattle.transcript_model.specs.Terms.{Terms}
 use Rattle.transcript_model.specs.Standing.{at_first}
 use Rattle.transcript_model.specs.Frames.{deeds_of, fragments_stored, stored_of}
-use Rattle.transcript_model.specs.Sessions.{events_of, texts_from, WireGrew, IsRightSession}
+use Rattle.any_wire.specs.Texts.{WireGrew}
+use Rattle.transcript_model.specs.Sessions.{events_of, texts_from, IsRightSession}
 use Rattle.transcript_model.specs.Transcript.{DrivenRun, shown_by, deeds_in, transcript_places, AreAllApart, terms_of}
 use Rattle.transcript_model.specs.Transcript.{Wires, SessionsAreRight, IsToldBy, IsTranscript}
 use Rattle.transcript_model.specs.Sources.{IsOwnDeed, AreSources}
 use Rattle.flake_model.specs.Replay.{IsShownAt}
 use Rattle.flake_model.proofs.Replays.{replay-legal}
+use Rattle.wire_told.specs.Sent.{WasSentByPuts}
 use Rattle.transcript_model.proofs.Stays.{all_stay}
 use Rattle.transcript_model.proofs.Shown.{shown_by_events, posted_shows, fragments_at}
 
@@ -185,7 +186,7 @@ told_alike terms deeds events alike told =
 
 -- right by the sessions' deeds is right by the journal
 pub sourced : (run : DrivenRun) (olds news : Wires) (schedule : List Line) (lines : List EventLine)
-    (shards : List (List Deed)) (own : ℕ → List Deed) (by_own : IsToldBy Grew run olds news own schedule lines)
+    (shards : List (List Deed)) (own : ℕ → List Deed) (by_own : IsToldBy WasSentByPuts run olds news own schedule lines)
     → AreSources run shards own by_own.stages → AreAllApart (transcript_places run lines)
     → IsTranscript run olds news schedule lines
 sourced run olds news schedule lines shards own by_own sources apart =
@@ -207,7 +208,7 @@ sourced run olds news schedule lines shards own by_own sources apart =
             (alike session) (by_own.told session end stage end_is stage_is);
         wires = by_own.wires;
         sent = λ session end old new end_is old_is new_is.
-            subst (λ texts. WireGrew Grew end.failed (slice_index by_own.wholes session) texts old new)
+            subst (λ texts. WireGrew WasSentByPuts end.failed (slice_index by_own.wholes session) texts old new)
             (sym (texts_alike (terms_of run (own session) session end [] (slice_index by_own.wholes session))
             (flat_map (λ d. d) (deeds_in run lines)) (alike session) 0 _))
             (by_own.sent session end old new end_is old_is new_is);

@@ -1,6 +1,6 @@
 -- The transcript of two sessions is whole.
 use Rattle.std.proofs.Common.{◌≡◌, ℕ, zero, suc, ◌+◌, ◌*◌, ◌<◌, ◌≤◌, Bool, true, false, cond, List, [], ◌∷◌, slice_get}
-use Rattle.std.proofs.Common.{Option, None, Some, refl, ap, sym, ◌∙◌, subst, arith, lit≤}
+use Rattle.std.proofs.Common.{Some, refl, ap, sym, ◌∙◌, subst, arith, lit≤}
 use Rattle.std.specs.Prelude.{codes, unwrap_or, slice_index}
 use Rattle.std.specs.Fmt.{digits}
 use Rattle.std.specs.Ordering.{nat_cmp, eq_by_cmp}
@@ -15,20 +15,23 @@ use Rattle.flake_model.specs.Store.{always, done, value}
 use Rattle.flake_model.specs.Deed.{Deed, Places, places_at, AreApart, IsLegal}
 use Rattle.transcript_model.specs.Lines.{transcript_text}
 use Rattle.view_sums.specs.Total.{Each}
-use Rattle.flake_base.specs.Growth.{Grew}
+use Rattle.flake_base.specs.Told.{WireTold}
+use Rattle.wire_told.specs.Sent.{WasSentByPuts}
 use Rattle.reply_planner.specs.Stages.{IsAbove, IsRising}
 use Rattle.transcript_model.specs.Terms.{Terms}
 use Rattle.transcript_model.specs.Standing.{at_first}
 use Rattle.transcript_model.specs.Worked.{default_sizes}
-use Rattle.transcript_model.specs.Sessions.{events_of, IsRightSession, WireGrew}
-use Rattle.transcript_model.specs.Transcript.{deeds_in, transcript_places, AreAllApart, terms_of, IsTranscript}
-use Rattle.transcript_model.specs.Whole.{two_sessions, wires_of_two, schedule_of_two, lines_of_two, stage_from}
-use Rattle.transcript_model.specs.Whole.{left_after, entry_of}
+use Rattle.any_wire.specs.Texts.{WireGrew}
+use Rattle.transcript_model.specs.Sessions.{events_of, texts_of, IsRightSession}
+use Rattle.transcript_model.specs.Transcript.{deeds_in, transcript_places, AreAllApart, terms_of, AreSent}
+use Rattle.transcript_model.specs.Transcript.{IsTranscript}
+use Rattle.transcript_model.specs.Whole.{two_sessions, no_bytes_of_two, replies_of_two, schedule_of_two}
+use Rattle.transcript_model.specs.Whole.{lines_of_two, stage_from, left_after, entry_of, wire_of}
 use Rattle.transcript_model.proofs.Judge.{all_ok, last_of, all_right, ok, after, post_ok, post_after, fits, none_fits}
 use Rattle.transcript_model.proofs.Judge.{are_segs, is_seg, all_buffers, is_buffer, is_small, is_large}
 
 -- no key has a place
-abbrev nothing : Places
+abbrev pub nothing : Places
 nothing = finite.empty
 
 -- the places of one key's one fragment
@@ -70,7 +73,7 @@ one_apart key address some other number number' found at at' =
     let there = lies_at key other address number' found at' in
     (here.0 ∙ sym there.0, here.1 ∙ sym there.1)
 
-not_there : (places : Places) (key : List ℕ) (number found : ℕ) {A : Type 0} → Some nothing ≡ Some places
+pub not_there : (places : Places) (key : List ℕ) (number found : ℕ) {A : Type 0} → Some nothing ≡ Some places
     → slice_get (places_at places key) number ≡ Some found → A
 not_there places key number found is at =
     let same : nothing ≡ places = cc in
@@ -151,11 +154,12 @@ rises : (low first n : ℕ) → low < first → IsAbove low (range_with_len firs
 rises low first zero below = tt
 rises low first (suc n) below = (omega arith, rises first (first + 1) n (omega arith))
 
-stage_rises : (first n : ℕ) → IsRising (range_with_len first n)
+pub stage_rises : (first n : ℕ) → IsRising (range_with_len first n)
 stage_rises first zero = tt
 stage_rises first (suc n) = rises first (first + 1) n (omega arith)
 
-stage_small : (first n : ℕ) → first + n ≤ 4096 → Each (λ buffer. buffer < default_sizes.small) (range_with_len first n)
+pub stage_small : (first n : ℕ) → first + n ≤ 4096
+    → Each (λ buffer. buffer < default_sizes.small) (range_with_len first n)
 stage_small first zero fits = tt
 stage_small first (suc n) fits = (omega arith, stage_small (first + 1) n (omega arith))
 
@@ -218,33 +222,41 @@ second_told = record {
   sent = refl;
 }
 
-sent_of_two : (session : ℕ) (end : SessionEnd) (old new : Option (List ℕ)) (texts : List (List ℕ))
-    → slice_get (left_after 1 ∷ left_after 1 ∷ []) session ≡ Some end → slice_get wires_of_two session ≡ Some old
-    → slice_get wires_of_two session ≡ Some new → WireGrew Grew end.failed (slice_index (1 ∷ 1 ∷ []) session) texts old
-    new
-sent_of_two session end old new texts end_is old_is new_is =
-    let at_old : None ≡ old = none_is session old old_is in
-    let at_new : None ≡ new = none_is session new new_is in
-    let failed : false ≡ end.failed = not_failed session end end_is in
-    subst (λ b. WireGrew Grew b (slice_index (1 ∷ 1 ∷ []) session) texts old new) failed
-    (subst (λ o. WireGrew Grew false (slice_index (1 ∷ 1 ∷ []) session) texts o new) at_old
-    (subst (λ n. WireGrew Grew false (slice_index (1 ∷ 1 ∷ []) session) texts None n) at_new
-    (record { middle = None; before = refl; behind = refl })))
-  where
-    none_is : (session : ℕ) (wire : Option (List ℕ)) → slice_get wires_of_two session ≡ Some wire → None ≡ wire
-    none_is zero wire is = cc
-    none_is (suc zero) wire is = cc
-    none_is (suc (suc session)) wire is = absurd (past session is) where
-      past : (n : ℕ) → slice_get [] n ≡ Some wire → ⊥
-      past n is = cc
+-- each wire was sent its one reply
+first_grew : WireGrew WasSentByPuts false 1 (texts_of (terms_of two_sessions deeds_of_two 0 (left_after 1) [] 1))
+    (wire_of [] 0) (wire_of (codes "+OK\r\n") 0)
+unfolding digits
+first_grew = record {
+  middle = wire_of (codes "+OK\r\n") 0;
+  before = record { sent = record { put = (_, refl, refl); faults = refl }; spares = λ none. refl };
+  behind = record { sent = record { put = (_, refl, refl); faults = refl }; spares = λ none. refl };
+}
 
-    not_failed : (session : ℕ) (end : SessionEnd) → slice_get (left_after 1 ∷ left_after 1 ∷ []) session ≡ Some end
-        → false ≡ end.failed
-    not_failed zero end is = let same : left_after 1 ≡ end = cc in ap (λ (e : SessionEnd). e.failed) same
-    not_failed (suc zero) end is = let same : left_after 1 ≡ end = cc in ap (λ (e : SessionEnd). e.failed) same
-    not_failed (suc (suc session)) end is = absurd (past session is) where
-      past : (n : ℕ) → slice_get [] n ≡ Some end → ⊥
-      past n is = cc
+second_grew : WireGrew WasSentByPuts false 1 (texts_of (terms_of two_sessions deeds_of_two 1 (left_after 1) [] 1))
+    (wire_of [] 0) (wire_of (codes "$1\r\nx\r\n") 0)
+unfolding digits
+second_grew = record {
+  middle = wire_of (codes "$1\r\nx\r\n") 0;
+  before = record { sent = record { put = (_, refl, refl); faults = refl }; spares = λ none. refl };
+  behind = record { sent = record { put = (_, refl, refl); faults = refl }; spares = λ none. refl };
+}
+
+sent_of_two : AreSent WasSentByPuts two_sessions (λ session. deeds_of_two) (1 ∷ 1 ∷ []) no_bytes_of_two replies_of_two
+sent_of_two zero end old new end_is old_is new_is =
+    let same : left_after 1 ≡ end = cc in
+    let at_old : wire_of [] 0 ≡ old = cc in
+    let at_new : wire_of (codes "+OK\r\n") 0 ≡ new = cc in
+    subst (λ (p : SessionEnd × WireTold × WireTold). WireGrew WasSentByPuts p.0.failed 1
+    (texts_of (terms_of two_sessions deeds_of_two 0 p.0 [] 1)) p.1 p.2) (λ i. (same i, at_old i, at_new i)) first_grew
+sent_of_two (suc zero) end old new end_is old_is new_is =
+    let same : left_after 1 ≡ end = cc in
+    let at_old : wire_of [] 0 ≡ old = cc in
+    let at_new : wire_of (codes "$1\r\nx\r\n") 0 ≡ new = cc in
+    subst (λ (p : SessionEnd × WireTold × WireTold). WireGrew WasSentByPuts p.0.failed 1
+    (texts_of (terms_of two_sessions deeds_of_two 1 p.0 [] 1)) p.1 p.2) (λ i. (same i, at_old i, at_new i)) second_grew
+sent_of_two (suc (suc session)) end old new end_is old_is new_is = absurd (past session end_is) where
+  past : (n : ℕ) → slice_get [] n ≡ Some end → ⊥
+  past n is = cc
 
 told_of_two : (session : ℕ) (end : SessionEnd) (stage : List ℕ) → slice_get (left_after 1 ∷ left_after 1 ∷ []) session
     ≡ Some end → slice_get stages_of_two session ≡ Some stage
@@ -266,7 +278,7 @@ told_of_two (suc (suc session)) end stage end_is stage_is = absurd (past session
   past : (n : ℕ) → slice_get [] n ≡ Some end → ⊥
   past n is = cc
 
-pub whole_of_two : IsTranscript two_sessions wires_of_two wires_of_two schedule_of_two lines_of_two
+pub whole_of_two : IsTranscript two_sessions no_bytes_of_two replies_of_two schedule_of_two lines_of_two
 whole_of_two = record {
   told_by = record {
     answers = refl;
@@ -297,7 +309,9 @@ whole_of_two = record {
         (events_of session lines_of_two))
         (sym replayed_two) (told_of_two session end stage end_is stage_is);
     wires = (lit≤ tt, refl);
-    sent = λ session end old new end_is old_is new_is. sent_of_two session end old new _ end_is old_is new_is;
+    sent = subst
+        (λ deeds. AreSent WasSentByPuts two_sessions (λ session. deeds) (1 ∷ 1 ∷ []) no_bytes_of_two replies_of_two)
+        (sym replayed_two) sent_of_two;
   };
   legal = legal_of_two;
   apart = all_apart;

@@ -1,7 +1,7 @@
 -- The lines of one session, from its first to its last.
-use Rattle.std.specs.Prelude.{◌≡◌, ℕ, suc, ◌≤◌, Bool, true, false, ◌==◌, if◌then◌else◌, List, [], ◌∷◌, length, map}
-use Rattle.std.specs.Prelude.{take, slice_get, unwrap_or}
-use Rattle.std.specs.List.{flat_map, filter}
+use Rattle.std.specs.Prelude.{◌≡◌, ℕ, suc, ◌==◌, List, [], ◌∷◌, length, map, take}
+use Rattle.std.specs.List.{filter}
+use Rattle.any_wire.specs.Texts.{AreWhole}
 use Rattle.flake_model.specs.Command.{Command}
 use Rattle.flake_model.specs.Reply.{reply_text}
 use Rattle.reply_layout.specs.Pieces.{reply_from}
@@ -26,15 +26,6 @@ texts_from terms call (command ∷ commands) =
 abbrev pub texts_of : Terms → List (List ℕ)
 texts_of terms = texts_from terms 0 (take terms.end.replies terms.commands)
 
--- All frames were sent, where nothing failed. Else those before some frame were; it is the place behind the last frame
--- where all of them were sent and a flush failed then.
-abbrev pub AreWhole : Bool → ℕ → ℕ → Type 0
-AreWhole false whole posted = whole ≡ posted
-AreWhole true whole posted = whole ≤ posted
-
-abbrev pub joined : List (List ℕ) → List ℕ
-joined texts = flat_map (λ text. text) texts
-
 -- what was said of a session is right from its first line to its last
 pub record IsRightSession (terms : Terms) (events : List LineEvent) : Type 0 where
   pub last : Standing
@@ -42,14 +33,3 @@ pub record IsRightSession (terms : Terms) (events : List LineEvent) : Type 0 whe
   pub served : length last.frames ≡ terms.end.replies
   pub ended : last.ended ≡ is_known terms.end.end
   pub sent : AreWhole terms.end.failed terms.whole terms.end.replies
-
--- What it is that a wire of some type was sent a text, or, after a failure, a front of it.
-abbrev pub Sending : Type 0 → Type 1
-Sending W = Bool → List ℕ → W → W → Type 0
-
--- the wire was sent the first texts whole, and where something failed a front of the next one, if there is one
-pub record WireGrew {W : Type 0} (sends : Sending W) (failed : Bool) (whole : ℕ) (texts : List (List ℕ)) (old new : W)
-    : Type 0 where
-  pub middle : W
-  pub before : sends false (joined (take whole texts)) old middle
-  pub behind : sends failed (if failed then unwrap_or (slice_get texts whole) [] else []) middle new

@@ -1,5 +1,5 @@
 -- A whole transcript of a schedule and a run.
-use Rattle.std.specs.Prelude.{◌≡◌, ℕ, ◌<◌, ◌≤◌, ◌==◌, Bool, if◌then◌else◌, List, [], ◌∷◌, length, map}
+use Rattle.std.specs.Prelude.{◌≡◌, ◌≢◌, ℕ, ◌<◌, ◌≤◌, ◌==◌, Bool, if◌then◌else◌, List, [], ◌∷◌, length, map}
 use Rattle.std.specs.Prelude.{slice_get, slice_index, unwrap_or, Option, Some, None}
 use Rattle.std.specs.List.{AllByRecursion, flat_map}
 use Rattle.std.specs.FinMap as map
@@ -8,6 +8,7 @@ use Rattle.flake_base.specs.declared.journal.Entry.{Entry}
 use Rattle.flake_base.specs.declared.segment.Seg.{Seg}
 use Rattle.flake_base.specs.declared.session.SessionEnd.{SessionEnd}
 use Rattle.flake_base.specs.Growth.{Grew}
+use Rattle.flake_base.specs.Told.{WireTold}
 use Rattle.flake_model.specs.Command.{Command}
 use Rattle.flake_model.specs.Journal.{Step, step_of, commands_of}
 use Rattle.flake_model.specs.Deed.{Deed, Places, places_at, IsLegal}
@@ -18,7 +19,9 @@ use Rattle.reply_planner.specs.Stages.{stage_size, IsRising}
 use Rattle.schedule_text.specs.declared.line.Line.{Line}
 use Rattle.transcript_model.specs.Lines.{LineEvent, posted, EventLine, line_of, transcript_text}
 use Rattle.transcript_model.specs.Terms.{Terms}
-use Rattle.transcript_model.specs.Sessions.{events_of, texts_of, IsRightSession, Sending, WireGrew}
+use Rattle.any_wire.specs.Texts.{Sending, WireGrew}
+use Rattle.transcript_model.specs.Sessions.{events_of, texts_of, IsRightSession}
+use Rattle.wire_told.specs.Sent.{WasSentByPuts}
 
 -- the words of the run, what its inputs ask for, and what it answered
 pub record DrivenRun : Type 0 where
@@ -113,19 +116,28 @@ pub record IsToldBy {W : Type 0} (sends : Sending W) (run : DrivenRun) (olds new
   pub wires : (length run.ends ≤ length olds) × (length news ≡ length olds)
   pub sent : AreSent sends run deeds wholes olds news
 
--- the bytes that each wire had before and after, where that is told
+-- what is known of each wire: the bytes that were put on it, and how often a put of them failed, or a flush
 abbrev pub Wires : Type 0
-Wires = List (Option (List ℕ))
+Wires = List WireTold
 
 -- by the journal: its histories, storing where the lines show it, are legal, and at the end no two fragments lie in one
 -- buffer
 pub record IsTranscript (run : DrivenRun) (olds news : Wires) (schedule : List Line) (lines : List EventLine) : Type 0
   where
-    pub told_by : IsToldBy Grew run olds news (λ session. flat_map (λ deeds. deeds) (deeds_in run lines)) schedule lines
+    pub told_by : IsToldBy WasSentByPuts run olds news (λ session. flat_map (λ deeds. deeds) (deeds_in run lines))
+        schedule lines
     pub legal : AllByRecursion IsLegal (deeds_in run lines)
     pub apart : AreAllApart (transcript_places run lines)
 
+-- Where the count of failed puts of a session's wire isn't as before, not all of its replies were sent: one at least is
+-- said to be dropped.
+abbrev pub CutReplyIsDropped : Type 0
+CutReplyIsDropped = (run : DrivenRun) (olds news : Wires) (schedule : List Line) (lines : List EventLine)
+    (transcript : IsTranscript run olds news schedule lines) (session : ℕ) (end : SessionEnd) (old new : WireTold)
+    → slice_get run.ends session ≡ Some end → slice_get olds session ≡ Some old → slice_get news session ≡ Some new
+    → new.put_faults ≢ old.put_faults → slice_index transcript.told_by.wholes session < end.replies
+
 -- what was said is a whole transcript with the held buffers behind it, or a front of one where a `say` failed
-abbrev pub IsSaid : DrivenRun → Wires → Wires → List Line → Bool → Option (List ℕ) → Option (List ℕ) → Type 0
+abbrev pub IsSaid : DrivenRun → Wires → Wires → List Line → Bool → List ℕ → List ℕ → Type 0
 IsSaid run olds news schedule failed old new = (lines : List EventLine) × IsTranscript run olds news schedule lines
     × Grew failed (transcript_text lines run.small_held run.large_held) old new

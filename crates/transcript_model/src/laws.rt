@@ -3,7 +3,6 @@ ghost use Rattle.std.specs.Prelude.{◌≡◌, ◌+◌, ◌*◌, ◌≤◌, ◌+
 ghost use Rattle.std.specs.List.{AllByRecursion};
 ghost use Rattle.flake_base.specs.declared.segment.Seg.{Seg};
 ghost use Rattle.flake_base.specs.declared.session.SessionEnd.{SessionEnd};
-ghost use Rattle.flake_base.specs.Growth.{Grew};
 ghost use Rattle.flake_model.specs.Command.{Command};
 ghost use Rattle.flake_model.specs.Deed.{Deed};
 ghost use Rattle.schedule_text.specs.declared.line.Line.{Line};
@@ -13,11 +12,13 @@ ghost use Rattle.transcript_model.specs.Terms.{Terms};
 ghost use Rattle.transcript_model.specs.Standing.{Standing, at_first};
 ghost use Rattle.transcript_model.specs.Right.{AreRight};
 ghost use Rattle.transcript_model.specs.Transcript.{DrivenRun, Wires, AreAllApart, transcript_places, IsToldBy};
-ghost use Rattle.transcript_model.specs.Transcript.{IsTranscript};
+ghost use Rattle.transcript_model.specs.Transcript.{IsTranscript, CutReplyIsDropped};
+ghost use Rattle.wire_told.specs.Sent.{WasSentByPuts};
 ghost use Rattle.transcript_model.specs.News.{with_news, LeavesSaid};
 ghost use Rattle.transcript_model.specs.Sources.{AreSources};
 ghost use Rattle.transcript_model.specs.Worked.{worked, wrong, wants_memory};
-ghost use Rattle.transcript_model.specs.Whole.{two_sessions, wires_of_two, schedule_of_two, lines_of_two};
+ghost use Rattle.transcript_model.specs.Whole.{two_sessions, no_bytes_of_two, replies_of_two};
+ghost use Rattle.transcript_model.specs.Whole.{schedule_of_two, lines_of_two, CutIsDropped};
 
 /// The lines of the worked transcripts are right.
 pub fn worked_transcripts()
@@ -39,7 +40,13 @@ pub fn either_was_reaped()
 
 /// Two sessions over one store have this transcript.
 pub fn whole_transcript()
-    ensures { IsTranscript two_sessions wires_of_two wires_of_two schedule_of_two lines_of_two }
+    ensures { IsTranscript two_sessions no_bytes_of_two replies_of_two schedule_of_two lines_of_two }
+{}
+
+/// Where a put failed a reply was dropped, also where the wire kept all bytes of it.
+pub fn cut_reply_is_dropped()
+    ensures law { CutReplyIsDropped }
+    ensures worked { CutIsDropped }
 {}
 
 /// Its text.
@@ -59,7 +66,7 @@ pub fn right_lines_stay()
 pub fn journal_tells()
     ensures { (run : DrivenRun) (olds news : Wires) (schedule : List Line) (lines : List EventLine)
         (shards : List (List Deed))
-        (own : ℕ → List Deed) (by_own : IsToldBy Grew run olds news own schedule lines)
+        (own : ℕ → List Deed) (by_own : IsToldBy WasSentByPuts run olds news own schedule lines)
         → AreSources run shards own by_own.stages → AreAllApart (transcript_places run lines)
         → IsTranscript run olds news schedule lines }
 {}

@@ -1,62 +1,65 @@
 -- Puts and flushes, one after another.
-use Rattle.std.proofs.Common.{◌<◌, ℕ, Bool, true, false, List, [], ◌∷◌, ◌++◌, length, arith, refl, sym, subst}
-use Rattle.std.proofs.Common.{append_assoc, append-nil}
+use Rattle.std.proofs.Common.{◌<◌, ℕ, Bool, true, false, List, [], ◌∷◌, ◌++◌, length, refl, sym, subst, append_assoc}
+use Rattle.std.proofs.Common.{append-nil, inl, inr, ◌≡◌, ◌∙◌, ap, arith}
 use Rattle.std.specs.Borrow.{Bor}
-use Rattle.std.proofs.lemmas.List.{length-append}
 use Rattle.view_sums.specs.Total.{Each}
 use Rattle.any_wire.specs.Sends.{WireStep, puts, flushes, step_bytes, steps_bytes, IsShortPut, Chain, Sends, Flushes}
 use Rattle.flake_base.specs.Growth.{Grew}
 use Rattle.flake_base.specs.Told.{WireTold}
-use Rattle.flake_model.specs.Wire.{FaultIs, KeptIs}
-use Rattle.wire_told.specs.Sent.{WasSent, PutIs, FlushIs, AreTold}
-use Rattle.wire_told.proofs.Growing.{grew_whole, grew_front, grew_no_more, grew_so, nothing_grew}
+use Rattle.flake_model.specs.Wire.{FaultIs, WireFaultIs, faults_told, KeptIs}
+use Rattle.wire_told.specs.Sent.{WasSent, WasSentByPuts, PutIs, FlushIs, AreTold}
+use Rattle.wire_told.proofs.Growing.{grew_more, grew_no_more, grew_so, nothing_grew}
 
 nothing_sent : (wire : WireTold) → WasSent false [] wire wire
-nothing_sent wire = record { sent = nothing_grew wire.sent; bytes = omega arith; faults = refl }
+nothing_sent wire = record { put = nothing_grew wire.put; faults = refl }
 
 -- nothing is put behind a failure
 no_more : (front text : List ℕ) (old new : WireTold) → WasSent true front old new → WasSent true (front ++ text) old new
 no_more front text old new was = record {
-  sent = grew_no_more old.sent new.sent front text was.sent;
-  bytes = (was.bytes.0, omega (arith, was.bytes.1, length-append front text));
+  put = grew_no_more old.put new.put front text was.put;
   faults = was.faults;
 }
+
+-- from counts of faults as they were before, a put or a flush after which one of them may have risen
+from_same : (now : Bool) (old mid new : WireTold) → WireFaultIs false (faults_told old) (faults_told mid)
+    → WireFaultIs now (faults_told mid) (faults_told new) → WireFaultIs now (faults_told old) (faults_told new)
+from_same now old mid new same = subst (λ faults. WireFaultIs now faults (faults_told new)) same
+
+put_faults : (now : Bool) (mid new : WireTold) → FaultIs now mid.put_faults new.put_faults
+    → new.flush_faults ≡ mid.flush_faults → WireFaultIs now (faults_told mid) (faults_told new)
+put_faults false mid new same other = λ i. (same i, other i)
+put_faults true mid new rose other = inl (rose, other)
+
+flush_faults : (now : Bool) (mid new : WireTold) → FaultIs now mid.flush_faults new.flush_faults
+    → new.put_faults ≡ mid.put_faults → WireFaultIs now (faults_told mid) (faults_told new)
+flush_faults false mid new same other = λ i. (other i, same i)
+flush_faults true mid new rose other = inr (other, rose)
 
 -- one piece more
 put_more : (now : Bool) (front text : List ℕ) (old mid new : WireTold) → WasSent false front old mid
     → PutIs now text mid new → WasSent now (front ++ text) old new
-put_more false front text old mid new was put = record {
-  sent = grew_whole old.sent mid.sent new.sent front text was.sent put.took.sent;
-  bytes = omega (arith, was.bytes, put.took.bytes, length-append front text);
-  faults = subst (λ n. FaultIs false n new.faults) was.faults put.faults;
-}
-put_more true front text old mid new was put = record {
-  sent = grew_front old.sent mid.sent new.sent front text was.sent put.took.sent;
-  bytes = (
-    omega (arith, was.bytes, put.took.bytes.0),
-    omega (arith, was.bytes, put.took.bytes.1, length-append front text),
-  );
-  faults = subst (λ n. FaultIs true n new.faults) was.faults put.faults;
+put_more now front text old mid new was put = record {
+  put = grew_more now old.put mid.put new.put front text was.put put.took.put;
+  faults = from_same now old mid new was.faults (put_faults now mid new put.faults put.took.flush_faults);
 }
 
 -- a flush puts nothing
 flush_more : (now : Bool) (text : List ℕ) (old mid new : WireTold) → WasSent false text old mid → FlushIs now mid new
     → WasSent now text old new
-flush_more false text old mid new was flush = record {
-  sent = subst (Grew false text old.sent) (sym flush.flushed.sent) was.sent;
-  bytes = let same = flush.flushed.bytes in omega (arith, same, was.bytes);
-  faults = subst (λ n. FaultIs false n new.faults) was.faults flush.faults;
-}
-flush_more true text old mid new was flush = record {
-  sent = grew_so old.sent new.sent text (subst (Grew false text old.sent) (sym flush.flushed.sent) was.sent);
-  bytes = let same = flush.flushed.bytes in (omega (arith, same, was.bytes), omega (arith, same, was.bytes));
-  faults = subst (λ n. FaultIs true n new.faults) was.faults flush.faults;
+flush_more now text old mid new was flush = record {
+  put = grew_so now old.put new.put text (subst (Grew false text old.put) (sym flush.flushed.put) was.put);
+  faults = from_same now old mid new was.faults (flush_faults now mid new flush.faults flush.flushed.put_faults);
 }
 
 behind : (front piece rest : List ℕ) (failed : Bool) (old new : WireTold)
     → WasSent failed ((front ++ piece) ++ rest) old new
     → WasSent failed (front ++ (piece ++ rest)) old new
 behind front piece rest failed old new = subst (λ t. WasSent failed t old new) (append_assoc front piece rest)
+
+-- a piece of some bytes isn't empty, whatever is behind it
+not_empty : (piece rest : List ℕ) → 0 < length piece → piece ++ rest ≡ [] → ⊥
+not_empty [] rest some none = omega (arith, some)
+not_empty (x ∷ piece) rest some none = cc
 
 module _
     {W : Type 0}
@@ -91,6 +94,23 @@ module _
   sends_told failed text w end sends =
       subst (λ t. WasSent failed t (tells w) (tells end)) (sym sends.whole)
       (chain_told sends.steps sends.short false failed [] w w end (nothing_sent (tells w)) sends.chain)
+
+  -- no put was made of no bytes
+  only_flushed : (steps : List WireStep) → Each IsShortPut steps → steps_bytes steps ≡ [] → (failed now : Bool)
+      (w end : W) → Chain put_may flush_may steps failed now w end → (tells end).put_faults ≡ (tells w).put_faults
+  only_flushed [] short none failed now w end h = ap (λ v. (tells v).put_faults) h.0
+  only_flushed (puts piece ∷ steps) short none failed now w end h =
+      absurd (not_empty piece (steps_bytes steps) short.0.0 none)
+  only_flushed (flushes ∷ steps) short none true now w end h = only_flushed steps short.1 none true now w end h
+  only_flushed (flushes ∷ steps) short none false now w end h =
+      only_flushed steps short.1 none h.0.1 now h.0.0 end h.2 ∙ (says.flush w h.0 h.1).flushed.put_faults
+
+  pub sent_by_puts : (failed : Bool) (text : List ℕ) (w end : W) → Sends put_may flush_may false failed text w end
+      → WasSentByPuts failed text (tells w) (tells end)
+  sent_by_puts failed text w end sends = record {
+    sent = sends_told failed text w end sends;
+    spares = λ none. only_flushed sends.steps sends.short (sym sends.whole ∙ none) false failed w end sends.chain;
+  }
 
   pub flush_told : (failed now : Bool) (text : List ℕ) (w mid end : W) → WasSent failed text (tells w) (tells mid)
       → Flushes flush_may failed now mid end → WasSent now text (tells w) (tells end)

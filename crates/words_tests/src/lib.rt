@@ -4,6 +4,8 @@
 #[cfg(test)]
 mod generated;
 #[cfg(test)]
+mod joins;
+#[cfg(test)]
 mod numbers;
 #[cfg(test)]
 mod tasks;

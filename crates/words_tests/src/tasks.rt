@@ -262,10 +262,12 @@ fn bad_words_of_a_check(rt: HostRuntime) -> Result<(), Fail> {
 }
 
 /// First words, and the commands that they name.
-static NAMES: [(&str, CommandName); 6] = [
+static NAMES: [(&str, CommandName); 8] = [
     ("check|j", CommandName::Check),
     ("serve|check", CommandName::Serve),
     ("gen|7", CommandName::Gen),
+    ("join|64", CommandName::Join),
+    ("drive|s", CommandName::Drive),
     ("Gen", CommandName::Serve),
     ("Check", CommandName::Serve),
     ("checks", CommandName::Serve),

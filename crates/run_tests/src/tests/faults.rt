@@ -1,11 +1,9 @@
 //! Inputs that end badly, and reads, puts, flushes and opens that fail.
-ghost use Rattle.std.specs.Prelude.{None};
-
 use super::{
     BAD_WORDS, CANNOT_OPEN, PAIR, Row, SERVED, add_word, check, check_all, check_in_steps, expect,
     memory_host, one_wire, ran, set_letter,
 };
-use flake_base::{Bytes, Failed, Wire};
+use flake_base::{Bytes, Failed, Past, Wire};
 use std::alloc::Global;
 use std::process::Abort;
 use std::sync::Wait;
@@ -217,17 +215,22 @@ fn no_wire(rt: HostRuntime) -> Result<(), Fail> {
 /// Keeps all back that is put, until it is flushed; its flushes fail if they are to.
 #[derive(Drop)]
 struct KeepingWire {
-    bytes: u64,
+    put: Past,
     kept: u64,
     faults: u64,
     flush_fails: bool,
 }
 
 impl Wire for KeepingWire {
-    ghost wire_told = { λ w. record { sent = None; bytes = w.bytes; kept = w.kept; faults = w.faults } };
+    ghost wire_told = { λ w. record {
+      put = w.put.bytes;
+      kept = w.kept;
+      put_faults = 0;
+      flush_faults = w.faults;
+    } };
 
     fn put(&mut self, piece: &[u8]) -> Result<(), Failed> {
-        self.bytes = self.bytes.saturating_add(piece.len() as u64);
+        self.put.add(piece);
         self.kept = self.kept.saturating_add(piece.len() as u64);
         Ok(())
     }
@@ -257,7 +260,7 @@ fn check_flush<R: Abort + Threads + Wait + Sync>(
     let mut host = memory_host(alloc, &SERVED, Bytes::from_slice(alloc, PAIR)?)?;
     let mut wires: Vec<Box<dyn Wire>> = Vec::with_capacity(alloc, 1)?;
     let wire = KeepingWire {
-        bytes: 0,
+        put: Past::new(),
         kept: 0,
         faults: 0,
         flush_fails,

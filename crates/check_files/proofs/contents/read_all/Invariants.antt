@@ -1,24 +1,25 @@
-use Rattle.std.proofs.Common.{◌≡◌, ◌+◌, ◌*◌, ◌<◌, ◌≤◌, ℕ, length, map, option_map, slice_get}
+use Rattle.std.proofs.Common.{◌≡◌, ◌+◌, ◌*◌, length, map, slice_get}
 use Rattle.replay_check.specs.Inputs.{contents}
-use Rattle.check_files.specs.File.{faults_in, is_there, left_in}
-use Rattle.check_files.specs.Files.{AreWithin}
-use Rattle.check_files.specs.Whole.{emptied}
+use Rattle.check_files.specs.File.{name_in, whole_in, given_in, ended_in, faults_in}
+use Rattle.check_files.specs.Files.{texts_since}
 use Rattle.check_files.proofs.Pairs.{ArePairs}
+use Rattle.check_files.proofs.ReadTo.{ReadTo}
 use Rattle.check_files.proofs.contents.read_all.Given as goal
 
--- the pairs so far were read to their ends, and the sources behind them weren't
+-- the pairs so far were read to their ends, and the files behind them weren't read
 abbrev pub invariant-loop-session : goal.invariant-loop-session
 invariant-loop-session g l = record {
-  pairs : ArePairs (map (λ f. left_in g.S.Source.left f) l.fn.files) (contents l.inputs.items)
-      (contents l.replies.items);
+  first : slice_get (map (λ f. given_in g.S.Source.given f) l.files) 0
+      ≡ slice_get (map (λ f. given_in g.S.Source.given f) l.initial.files) 0;
+  pairs : ArePairs (texts_since (map (λ f. given_in g.S.Source.given f) l.fn.files)
+      (map (λ f. given_in g.S.Source.given f) l.files)) (contents l.inputs.items) (contents l.replies.items);
   inputs : length l.inputs.items ≡ l.session;
   replies : length l.replies.items ≡ l.session;
-  within : AreWithin (map (λ f. left_in g.S.Source.left f) l.fn.files) (2 * l.session + 1);
-  front : (k : ℕ) → k < 2 * l.session + 1 → slice_get (map (λ f. left_in g.S.Source.left f) l.files) k
-      ≡ option_map emptied (slice_get (map (λ f. left_in g.S.Source.left f) l.fn.files) k);
-  behind : (k : ℕ) → 2 * l.session + 1 ≤ k → slice_get (map (λ f. left_in g.S.Source.left f) l.files) k
-      ≡ slice_get (map (λ f. left_in g.S.Source.left f) l.fn.files) k;
+  read : ReadTo (2 * l.session + 1) (map (λ f. given_in g.S.Source.given f) l.fn.files)
+      (map (λ f. given_in g.S.Source.given f) l.files) (map (λ f. ended_in g.S.Source.ended f) l.fn.files)
+      (map (λ f. ended_in g.S.Source.ended f) l.files);
   faults : map (λ f. faults_in g.S.Source.read_faults f) l.files
       ≡ map (λ f. faults_in g.S.Source.read_faults f) l.fn.files;
-  there : map (λ f. is_there f) l.files ≡ map (λ f. is_there f) l.fn.files;
+  names : map (λ f. name_in g.S.Source.name f) l.files ≡ map (λ f. name_in g.S.Source.name f) l.fn.files;
+  wholes : map (λ f. whole_in g.S.Source.whole f) l.files ≡ map (λ f. whole_in g.S.Source.whole f) l.fn.files;
 }

@@ -41,3 +41,10 @@ returns-in_default-clause-segs g c =
     c.in_ok-happened.field-0 c.args.pass.now c.run_part.new.pass c.args.stored.now.items c.run_part.new.stored.items
     c.args.plan.now c.run_part.new.plan
     (count_part c.args.command.now c.requires.kind c.args.at.part c.requires.part) c.in_ok-happened.ensures.ran
+
+pub returns-in-Did-clause-segs : goal.returns-in-Did-clause-segs
+returns-in-Did-clause-segs g c =
+    count_stays g.P.PoolName.sizes g.N.BookName.sizes.shards c.args.at (part_at c.args.command.now c.args.at.part)
+    c.in_ok-happened.field-0 c.args.pass.now c.run_part.new.pass c.args.stored.now.items c.run_part.new.stored.items
+    c.args.plan.now c.run_part.new.plan
+    (count_part c.args.command.now c.requires.kind c.args.at.part c.requires.part) c.in_ok-happened.ensures.ran

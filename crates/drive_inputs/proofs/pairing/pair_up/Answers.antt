@@ -1,6 +1,7 @@
-use Rattle.std.proofs.Common.{◌∷◌, ◌++◌, Some, map, length, refl, ap, sym, ◌∙◌, append-nil, arith}
+use Rattle.std.proofs.Common.{◌≡◌, [], ◌∷◌, ◌++◌, Some, map, length, refl, ap, sym, ◌∙◌, append-nil, arith}
 use Rattle.std.proofs.lemmas.List.{nil_from_length}
 use Rattle.std.specs.Vec.Iter.{into_iter_items}
+use Rattle.command_pump.specs.Pump.{origin_of}
 use Rattle.session_serve.specs.Working.{IsFresh}
 use Rattle.drive_script.specs.Driving.{driving_of, IsNew}
 use Rattle.run_resources.specs.Opened.{IsSessionSlot}
@@ -24,7 +25,8 @@ loop-slot-init g c =
           d.lane.device.failed d.lane.device.end d.asking.kept d.asking.end d.asking.pump d.wire)
           × IsFresh g.P.PoolName.sizes d.lane.session d.asking.pump) none;
       sessions = rw none refl;
-      lefts = rw none (ap (map (λ s. g.S.Source.left s)) sources);
+      origins = rw none (ap (map (λ s. origin_of (g.S.Source.name s) (g.S.Source.whole s))) sources);
+      unread = all_as _ c.args.sources.items (λ s. g.S.Source.given s ≡ []) sources c.requires.unread;
       faults = rw none (ap (map (λ s. g.S.Source.read_faults s)) sources);
       wires = rw none (ap (map Some) wires);
       rest = all_as _ c.args.slots.items
@@ -56,19 +58,20 @@ loop-slot-preserved g c =
           d.asking.end d.asking.pump d.wire) × IsFresh z d.lane.session d.asking.pump) items before.fresh
           (new_driving z slot.session slot.device.end slot.device.failed c.new-pump.result _ _
           c.in-Some-next-2.wire is
-          c.new-pump.ensures.pump own);
+          c.new-pump.ensures.pump own.0 own.2);
       sessions = both_more drivings _ _ c.loop-slot.yielded slot (λ d. d.lane.session)
           (λ d. d.session) items
           before.sessions refl;
-      lefts = moves_on drivings _ _ (λ d. d.asking.pump.left) _ _ _ items
-          (ap (map (λ s. g.S.Source.left s)) sources
-          ∙ ap (λ l. l ∷ map (λ s. g.S.Source.left s) (into_iter_items c.next-in-loop-slot.new.self))
-          (sym own.0))
-          before.lefts;
+      origins = moves_on drivings _ _ (λ d. d.asking.pump.origin) _ _ _ items
+          (ap (map (λ s. origin_of (g.S.Source.name s) (g.S.Source.whole s))) sources
+          ∙ ap (λ l. l ∷ map (λ s. origin_of (g.S.Source.name s) (g.S.Source.whole s))
+          (into_iter_items c.next-in-loop-slot.new.self)) (sym c.new-pump.ensures.pump.origin_is))
+          before.origins;
+      unread = all_rest _ _ c.in-Some-next.source (λ s. g.S.Source.given s ≡ []) sources before.unread;
       faults = moves_on drivings _ _ (λ d. d.asking.pump.faults) _ _ _ items
           (ap (map (λ s. g.S.Source.read_faults s)) sources
           ∙ ap (λ l. l ∷ map (λ s. g.S.Source.read_faults s) (into_iter_items c.next-in-loop-slot.new.self))
-          (sym own.1))
+          (sym own.2))
           before.faults;
       wires = moves_on drivings _ _ (λ d. d.wire) _ _ _ items (ap (map Some) wires) before.wires;
       rest = all_rest _ _ slot (λ d. IsSessionSlot z d.session d.device.end d.device.failed) steps.0
@@ -91,8 +94,12 @@ returns-clause-sessions g c =
     (all_given c.loop-slot.yielded _ c.args.slots.items _ before.all before.left
     c.in-None.ensures.steps.0)
 
-pub returns-clause-lefts : goal.returns-clause-lefts
-returns-clause-lefts g c =
+pub new-pump-requires : goal.new-pump-requires
+new-pump-requires g c = all_first _ _ c.in-Some-next.source (λ s. g.S.Source.given s ≡ []) c.in-Some-next.ensures.items
+    c.loop-slot.invariant.unread
+
+pub returns-clause-origins : goal.returns-clause-origins
+returns-clause-origins g c =
     let before = c.loop-slot.invariant in
     let none = nil_from_length (into_iter_items c.loop-slot.more_sources) (omega (
       arith,
@@ -101,9 +108,8 @@ returns-clause-lefts g c =
       c.in-None.ensures.steps.0,
     )) in
     sym (append-nil _)
-    ∙ ap (λ l. map (λ d. d.asking.pump.left) c.loop-slot.drivings.items ++ map (λ s. g.S.Source.left s) l)
-    (sym none)
-    ∙ before.lefts
+    ∙ ap (λ l. map (λ d. d.asking.pump.origin) c.loop-slot.drivings.items
+    ++ map (λ s. origin_of (g.S.Source.name s) (g.S.Source.whole s)) l) (sym none) ∙ before.origins
 
 pub returns-clause-faults : goal.returns-clause-faults
 returns-clause-faults g c =

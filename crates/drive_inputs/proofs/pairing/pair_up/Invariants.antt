@@ -1,5 +1,6 @@
-use Rattle.std.proofs.Common.{◌≡◌, ◌+◌, ◌≤◌, ◌++◌, All, Some, length, map, vec_len, vec_capacity}
+use Rattle.std.proofs.Common.{◌≡◌, ◌+◌, ◌≤◌, ◌++◌, [], All, Some, length, map, vec_len, vec_capacity}
 use Rattle.std.specs.Vec.Iter.{into_iter_items, into_iter_len}
+use Rattle.command_pump.specs.Pump.{origin_of}
 use Rattle.session_serve.specs.Working.{IsFresh}
 use Rattle.drive_script.specs.Driving.{driving_of, IsNew}
 use Rattle.run_resources.specs.Opened.{IsSessionSlot}
@@ -11,9 +12,10 @@ invariant-loop-slot g l = record {
       d.asking.kept d.asking.end d.asking.pump d.wire) × IsFresh g.P.PoolName.sizes d.lane.session d.asking.pump)
       l.drivings.items;
   sessions : map (λ d. d.lane.session) l.drivings.items ≡ map (λ d. d.session) l.yielded;
-  lefts : map (λ d. d.asking.pump.left) l.drivings.items
-      ++ map (λ s. g.S.Source.left s) (into_iter_items l.more_sources)
-      ≡ map (λ s. g.S.Source.left s) l.fn.sources.items;
+  origins : map (λ d. d.asking.pump.origin) l.drivings.items
+      ++ map (λ s. origin_of (g.S.Source.name s) (g.S.Source.whole s)) (into_iter_items l.more_sources)
+      ≡ map (λ s. origin_of (g.S.Source.name s) (g.S.Source.whole s)) l.fn.sources.items;
+  unread : All (λ s. g.S.Source.given s ≡ []) (into_iter_items l.more_sources);
   faults : map (λ d. d.asking.pump.faults) l.drivings.items
       ++ map (λ s. g.S.Source.read_faults s) (into_iter_items l.more_sources)
       ≡ map (λ s. g.S.Source.read_faults s) l.fn.sources.items;

@@ -1,5 +1,6 @@
 use Rattle.std.proofs.Common.{◌∷◌, [], map, length, refl, ap, sym, subst, arith}
 use Rattle.std.proofs.lemmas.List.{map-append}
+use Rattle.command_pump.specs.Pump.{origin_of}
 use Rattle.run_resources.specs.Joined.{HasJoined}
 use Rattle.run_resources.proofs.Joining.{joins_none, joins_more}
 use Rattle.run_resources.proofs.Lists.{all_given, given_on, both_more, items_more}
@@ -14,7 +15,9 @@ loop-account-init g c =
       left = omega (arith, gives.1, long, c.args.accounts.ok.0);
       ends = c.requires.ends.0;
       lists = c.requires.lists.0;
-      lefts = ap (map (λ s. g.S.Source.left s)) c.requires.sources.0;
+      origins = ap (map (λ s. origin_of (g.S.Source.name s) (g.S.Source.whole s))) c.requires.sources.0;
+      givens = ap (map (λ s. g.S.Source.given s)) c.requires.sources.0;
+      endeds = ap (map (λ s. g.S.Source.ended s)) c.requires.sources.0;
       faults = ap (map (λ s. g.S.Source.read_faults s)) c.requires.sources.0;
       wires = c.requires.wires.0;
       seats = joins_none c.args.main.now;
@@ -48,8 +51,14 @@ loop-account-preserved g c =
       left = omega (arith, before.left, steps.1, long);
       ends = items_more given account (λ a. a.end) _ _ _ c.in-Ok.ensures.ok before.ends refl;
       lists = items_more given account (λ a. a.mine) _ _ _ c.in-Ok-push.ensures.ok before.lists refl;
-      lefts = both_more c.loop-account.sources.items _ _ given account (λ s. g.S.Source.left s) (λ a. a.pump.left)
-          c.push_reserved.ensures.items before.lefts c.into_source.ensures.left;
+      origins = both_more c.loop-account.sources.items _ _ given account
+          (λ s. origin_of (g.S.Source.name s) (g.S.Source.whole s)) (λ a. a.pump.origin)
+          c.push_reserved.ensures.items before.origins
+          (λ i. origin_of (c.into_source.ensures.name i) (c.into_source.ensures.whole i));
+      givens = both_more c.loop-account.sources.items _ _ given account (λ s. g.S.Source.given s) (λ a. a.pump.given)
+          c.push_reserved.ensures.items before.givens c.into_source.ensures.given;
+      endeds = both_more c.loop-account.sources.items _ _ given account (λ s. g.S.Source.ended s) (λ a. a.pump.ended)
+          c.push_reserved.ensures.items before.endeds c.into_source.ensures.ended;
       faults = both_more c.loop-account.sources.items _ _ given account (λ s. g.S.Source.read_faults s)
           (λ a. a.pump.faults) c.push_reserved.ensures.items before.faults c.into_source.ensures.faults;
       wires = items_more given account (λ a. a.wire) _ _ _ c.push_reserved-in-loop-account.ensures.items before.wires

@@ -9,7 +9,8 @@ use Rattle.run_resources.specs.Opened.{IsSessionSlot}
 use Rattle.run_resources.proofs.SessionSlots.{HasCredits, slot_credits}
 use Rattle.run_resources.proofs.Lists.{count_of, same_count, count_as}
 use Rattle.drive_inputs.proofs.Each.{AreFit, all_fit}
-use Rattle.drive_inputs.proofs.Together.{as_many, wires_past, reads, credits, credits_of, drove_inputs}
+use Rattle.drive_inputs.proofs.Together.{as_many, wires_past, reads, origins, same_origins, credits}
+use Rattle.drive_inputs.proofs.Together.{credits_of, drove_inputs}
 use Rattle.drive_inputs.proofs.whole.drive_opened.Goals as goal
 
 pub returns-clause-drove : goal.returns-clause-drove
@@ -31,8 +32,8 @@ returns-clause-drove g c =
     _ _ _ _ _ c.drive-accounts.ensures.driven refl c.requires.pool
     (subst (AreFit z _ _ 0) (sym c.pair_up-drivings.ensures.sessions) fit) c.bring_in-ends.ensures.lists
     c.requires.main.0 c.bring_in-ends.ensures.seats (omega (arith, many, rows, left, lists, c.requires.book.1))
-    c.close_all-journal.ensures.closed c.driven_together.ensures c.pair_up-drivings.ensures.lefts
-    c.bring_in-ends.ensures.lefts c.bring_in-ends.ensures.ends c.pair_up-drivings.ensures.wires
+    c.close_all-journal.ensures.closed c.driven_together.ensures c.bring_in-ends.ensures.givens
+    c.bring_in-ends.ensures.endeds c.bring_in-ends.ensures.ends c.pair_up-drivings.ensures.wires
     c.bring_in-ends.ensures.wires
 
 pub returns-clause-reads : goal.returns-clause-reads
@@ -40,6 +41,20 @@ returns-clause-reads g c =
     reads _ _ g.P.PoolName.sizes _ _ _ _ _ c.pair_up-drivings.result.0.items c.drive-accounts.result.accounts.items _ _
     _ _ _ c.drive-accounts.ensures.driven c.pair_up-drivings.ensures.faults c.bring_in-ends.ensures.faults
     c.bring_in-ends.ensures.ends
+
+pub returns-clause-names : goal.returns-clause-names
+returns-clause-names g c =
+    (same_origins (λ s. g.S.Source.name s) (λ s. g.S.Source.whole s) c.bring_in-ends.result.sources.items
+    c.args.sources.items
+    (origins _ _ g.P.PoolName.sizes _ _ _ _ _ c.pair_up-drivings.result.0.items c.drive-accounts.result.accounts.items
+    _ _ _ _ c.drive-accounts.ensures.driven c.pair_up-drivings.ensures.origins c.bring_in-ends.ensures.origins)).0
+
+pub returns-clause-wholes : goal.returns-clause-wholes
+returns-clause-wholes g c =
+    (same_origins (λ s. g.S.Source.name s) (λ s. g.S.Source.whole s) c.bring_in-ends.result.sources.items
+    c.args.sources.items
+    (origins _ _ g.P.PoolName.sizes _ _ _ _ _ c.pair_up-drivings.result.0.items c.drive-accounts.result.accounts.items
+    _ _ _ _ c.drive-accounts.ensures.driven c.pair_up-drivings.ensures.origins c.bring_in-ends.ensures.origins)).1
 
 pub pair_up-drivings-requires-clause-sources : goal.pair_up-drivings-requires-clause-sources
 pair_up-drivings-requires-clause-sources g c = λ _ _.
@@ -128,7 +143,7 @@ close_all-journal-requires-clause-credits g c =
     omega (
       arith,
       all,
-      c.into_parts-parts.ensures.credits,
+      c.into_parts-parts.ensures.parts.credits,
       c.requires.main.1,
       c.requires.book.0,
       ap (λ (y : Sizes). y.credits) c.requires.pool,

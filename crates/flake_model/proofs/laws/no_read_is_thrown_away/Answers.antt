@@ -5,5 +5,5 @@ use Rattle.flake_model.proofs.Refused.{takes_all_given}
 use Rattle.flake_model.proofs.laws.no_read_is_thrown_away.Goals as goal
 
 pub returns : goal.returns
-returns c input left replies journal olds news less served =
-    omega (arith, less, takes_all_given input left (refused_end ReadFault 0 replies) journal olds news refl served)
+returns c given at_end replies journal some served =
+    omega (arith, some, takes_all_given given at_end (refused_end ReadFault 0 replies) journal refl served)

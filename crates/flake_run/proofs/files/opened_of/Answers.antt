@@ -3,6 +3,8 @@ use Rattle.std.proofs.lemmas.List.{length-append}
 use Rattle.flake_run.specs.Files.{opened_from}
 use Rattle.flake_run.proofs.CheckedFiles.{few_opened, opened_more}
 use Rattle.flake_run.proofs.Numbers.{all_given, none_left}
+use Rattle.flake_run.specs.Outcome.{GaveFront, source_told}
+use Rattle.flake_run.proofs.Unread.{all_opened_tell}
 use Rattle.flake_run.proofs.files.opened_of.Goals as goal
 
 pub put_opened-requires : goal.put_opened-requires
@@ -54,8 +56,13 @@ loop-file-preserved g c =
       len = omega (arith, c.in-Some.ensures.steps.1, ap length c.in-Some.ensures.steps.0, before.len);
     }
 
-pub returns : goal.returns
-returns g c =
+pub returns-clause-items : goal.returns-clause-items
+returns-clause-items g c =
     c.loop-file.invariant.items
     ∙ ap (opened_from 0) (all_given _ _ _ c.loop-file.invariant.all
     (none_left _ _ c.loop-file.invariant.len c.in-None.ensures.steps.0))
+
+pub returns-clause-fronts : goal.returns-clause-fronts
+returns-clause-fronts g c =
+    let tells = source_told g.S.Source.name g.S.Source.whole g.S.Source.given g.S.Source.ended g.S.Source.read_faults in
+    all_opened_tell GaveFront tells (λ s. g.met.S.Source.front s) c.loop-file.opened.items

@@ -1,11 +1,11 @@
 use Rattle.std.proofs.Common.{◌≡◌, inr, Some, IfSome, map, arith, refl, sym, ap, ◌∙◌, subst}
 use Rattle.std.proofs.lemmas.List.{length-map}
-use Rattle.flake_base.specs.Told.{raised}
+use Rattle.serve_inputs.specs.Whole.{raised}
 use Rattle.serve_words.specs.Task.{word_texts}
 use Rattle.gen_words.specs.Task.{IsAllowedGenerated, generated_task_of}
 use Rattle.flake_run.specs.declared.outcome.Detail.TheVariants.{Nothing}
 use Rattle.flake_run.specs.Generated.{Generated, IsUngenerated, sum_of}
-use Rattle.flake_run.specs.Outcome.{done, source_told}
+use Rattle.flake_run.specs.Outcome.{done, opened_told, source_told}
 use Rattle.flake_run.specs.Outside.{outside}
 use Rattle.flake_run.proofs.Requested.{Reported, answered_all, refused_all, refused_as, wanting_all}
 use Rattle.flake_run.proofs.generated.generate.Goals as goal
@@ -13,8 +13,11 @@ use Rattle.flake_run.proofs.generated.generate.Goals as goal
 pub returns-in-Err : goal.returns-in-Err
 returns-in-Err g c = wanting_all _ _ _ _ c.refuse-in-Err.ensures
 
-pub returns-in-Err-Memory-default : goal.returns-in-Err-Memory-default
-returns-in-Err-Memory-default g c =
+pub returns-in_default : goal.returns-in_default
+returns-in_default g c = wanting_all _ _ _ _ c.refuse-in_default.ensures
+
+pub returns : goal.returns
+returns g c =
     wanting_all _ _ _ _ (refused_as _ _ _ _ _ _ _ _ c.in-Err-Memory-default.ensures.back
     c.refuse-in-Err-Memory-default.ensures)
 
@@ -29,11 +32,11 @@ returns-in-Err-TooMuch-default g c =
     (subst (λ t. IsUngenerated t before) (sym task_is)
     (inr (c.in-Err-TooMuch-default.ensures.too_much c.in-Err-TooMuch-default.field-0-0-is)))
 
-pub returns-in-Ok : goal.returns-in-Ok
-returns-in-Ok g c =
+pub returns-in-Ok-serve_requests : goal.returns-in-Ok-serve_requests
+returns-in-Ok-serve_requests g c =
     let task = c.in-Ok-Some.task in
-    let ran = c.in-Ok.ran in
-    let said = c.in-Ok.ensures in
+    let ran = c.in-Ok-serve_requests.ran in
+    let said = c.in-Ok-serve_requests.ensures in
     let host = g.H.Host.host_told c.args.host.now in
     let now = g.H.Host.host_told c.report_total.new.host in
     let task_is : generated_task_of (word_texts c.args.words.now) ≡ Some task = sym c.in-Ok-Some.ensures.value
@@ -46,25 +49,26 @@ returns-in-Ok g c =
     c.held-held.result =
     subst (λ n. Reported host now c.report_total.result ran.ends.items n c.held-held.result) bytes
     (subst (λ ends. Reported host now c.report_total.result ends c.sum_of-bytes.result c.held-held.result)
-    c.as_slice-in-Ok.ensures (record {
+    c.as_slice-in-Ok-serve_requests.ensures (record {
       said = c.report_total.ensures.said;
       by_end = c.report_total.ensures.by_end;
       failed = c.report_total.ensures.failed;
       statuses = c.report_total.ensures.statuses;
     })) in
-    let sources = map (λ s. source_told s.file (g.H.In.Source.left s.source) (g.H.In.Source.read_faults s.source))
-    c.new.result.items in
+    let tells = source_told g.H.In.Source.name g.H.In.Source.whole g.H.In.Source.given g.H.In.Source.ended
+    g.H.In.Source.read_faults in
+    let sources = opened_told tells c.new.result.items in
     let all = answered_all task (λ w. (g.dyn-1.0.entry w.vtable).1.wire_told w.value) host now c.args.wires.items
     ran.wires.items
     (done c.report_total.result Nothing ran.ends.items ran.journal.items c.held-held.result (Some ran.pool) sources)
     (record {
       detail_is = refl;
-      sources = ap (map (λ s. source_told s.file (g.H.In.Source.left s.source) (g.H.In.Source.read_faults s.source)))
-          c.new.ensures.items;
+      sources = ap (opened_told tells) c.new.ensures.items;
       some = allowed.sessions.0;
       enough = omega (arith, c.if-len-from.false, c.len.ensures, c.from.ensures, c.args.wires.ok.0);
       fits = said.fits;
-      lefts = map Some ran.sources.items;
+      givens = map (λ s. s.given) ran.sources.items;
+      endeds = map (λ s. s.ended) ran.sources.items;
       shown = ran.sent.items;
       pool = ran.pool;
       pool_is = refl;

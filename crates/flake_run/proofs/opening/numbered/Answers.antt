@@ -3,6 +3,8 @@ use Rattle.std.specs.List.{range_with_len}
 use Rattle.std.proofs.lemmas.Grind.{common_steps}
 use Rattle.std.proofs.lemmas.List.{length-append, length-map, map-append}
 use Rattle.flake_run.proofs.Numbers.{one_number, all_given, none_left}
+use Rattle.flake_run.specs.Outcome.{GaveFront, source_told}
+use Rattle.flake_run.proofs.Unread.{all_opened_tell}
 use Rattle.flake_run.proofs.opening.numbered.Goals as goal
 
 pub loop-source-preserved : goal.loop-source-preserved
@@ -68,3 +70,8 @@ returns-clause-files g c = c.loop-source.invariant.files ∙ ap (λ ss. range_wi
 pub returns-clause-sources : goal.returns-clause-sources
 returns-clause-sources g c = c.loop-source.invariant.sources ∙ all_given _ _ _ c.loop-source.invariant.all
     (none_left _ _ c.loop-source.invariant.len c.in-None.ensures.steps.0)
+
+pub returns-clause-fronts : goal.returns-clause-fronts
+returns-clause-fronts g c =
+    let tells = source_told g.S.Source.name g.S.Source.whole g.S.Source.given g.S.Source.ended g.S.Source.read_faults in
+    all_opened_tell GaveFront tells (λ s. g.met.S.Source.front s) c.loop-source.opened.items

@@ -1,6 +1,6 @@
-use Rattle.std.proofs.Common.{of_calls, sym, ◌∙◌}
+use Rattle.std.proofs.Common.{of_calls, length, sym, ap, ◌∙◌}
 use Rattle.std.proofs.lemmas.List.{length-map}
-use Rattle.flake_run.proofs.Served.{served_to, lefts_count, ends_count}
+use Rattle.flake_run.proofs.Served.{served_to, ends_count}
 use Rattle.flake_run.proofs.source.serve_sources.Goals as goal
 
 pub returns-in-Ok-clause-run : goal.returns-in-Ok-clause-run
@@ -11,9 +11,9 @@ returns-in-Ok-clause-run g c =
 
 pub returns-in-Ok-clause-sources : goal.returns-in-Ok-clause-sources
 returns-in-Ok-clause-sources g c =
-    sym (length-map c.in-Ok.served.sources.items (λ s. g.S.Source.left s)) ∙ lefts_count _ _ _ _ _ _ _ _ _
-    (returns-in-Ok-clause-run g c) ∙ length-map c.args.sources.items (λ s. g.S.Source.left s)
+    sym (length-map c.in-Ok.served.sources.items (λ s. g.S.Source.name s)) ∙ ap length c.in-Ok.ensures.names
+    ∙ length-map c.args.sources.items (λ s. g.S.Source.name s)
 
 pub returns-in-Ok-clause-ends : goal.returns-in-Ok-clause-ends
 returns-in-Ok-clause-ends g c = ends_count _ _ _ _ _ _ _ _ _ (returns-in-Ok-clause-run g c)
-    ∙ length-map c.args.sources.items (λ s. g.S.Source.left s)
+    ∙ length-map c.in-Ok.served.sources.items (λ s. g.S.Source.given s) ∙ returns-in-Ok-clause-sources g c

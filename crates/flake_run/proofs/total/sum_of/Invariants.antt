@@ -1,5 +1,5 @@
 use Rattle.std.proofs.Common.{◌≡◌, take}
-use Rattle.flake_base.specs.Told.{raised}
+use Rattle.serve_inputs.specs.Whole.{raised}
 use Rattle.flake_run.specs.Generated.{sum_of}
 use Rattle.flake_run.proofs.total.sum_of.Given as goal
 

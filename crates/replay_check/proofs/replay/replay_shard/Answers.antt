@@ -28,7 +28,7 @@ loop-place-init c =
     record {
       noted = λ before were. subst (λ answers. AreNoted (told sessions) answers c.args.slots.now.items)
           (sym (append-nil before)) were;
-      held = c.in_ok-store.ensures;
+      held = c.new-store.ensures;
       at = λ shards placed. c.in_ok-cursors.ensures shards c.args.shard;
       in_order = λ shards placed k below. absurd (omega (arith, below));
       count = c.in_ok-cursors.cursors.ok.0 ∙ (c.in_ok-cursors.ensures 0 0).count

@@ -1,4 +1,4 @@
-use Rattle.std.proofs.Common.{◌≡◌, [], ◌∷◌, Some, All, ap, sym, subst, length, length-append, arith}
+use Rattle.std.proofs.Common.{[], ◌∷◌, Some, All, ap, sym, subst, length, length-append, arith}
 use Rattle.std.proofs.lemmas.List.Elements.{All-push, All-pop}
 use Rattle.run_resources.specs.Passing.{IsNewList}
 use Rattle.run_resources.proofs.Passes.{turned_on}

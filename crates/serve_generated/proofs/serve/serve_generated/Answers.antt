@@ -4,12 +4,18 @@ use Rattle.flake_base.specs.declared.session.End.TheVariants.{Left}
 use Rattle.flake_base.specs.declared.session.SessionEnd.{SessionEnd}
 use Rattle.flake_base.specs.Histories.{histories}
 use Rattle.run_resources.specs.Opened.{HasRunSizes}
+use Rattle.serve_generated.proofs.Inputs.{unread}
 use Rattle.serve_generated.proofs.Ran.{ran_generated}
 use Rattle.serve_generated.proofs.serve.serve_generated.Goals as goal
 
 pub serve_inputs-requires-clause-sized : goal.serve_inputs-requires-clause-sized
 serve_inputs-requires-clause-sized g c κs within = subst (λ n. HasRunSizes n c.in-Some.sizes) (sym c.in-Ok.ensures.many)
     c.in-Some.ensures.sized
+
+pub serve_inputs-requires-clause-unread : goal.serve_inputs-requires-clause-unread
+serve_inputs-requires-clause-unread g c κs within =
+    unread c.args.task.now.number c.args.task.now.requests c.args.task.now.sessions c.in-Ok.sources.items
+    c.in-Ok.ensures.inputs
 
 pub serve_inputs-requires-clause-wires : goal.serve_inputs-requires-clause-wires
 serve_inputs-requires-clause-wires g c κs within = omega (arith, c.in-Ok.ensures.many, c.requires.wires)
@@ -21,6 +27,6 @@ returns-in-Ok-serve_inputs-clause-ran g c =
     served.sent.items (histories served.journal.items) served.pool
     c.args.wires.items served.wires.items c.requires.task.sessions.1 c.requires.task.requests.1 c.in-Some.ensures.sizes
     c.in-Ok.ensures.inputs
-    c.in-Ok-serve_inputs.ensures.ran c.in-Ok-serve_inputs.ensures.reads
+    c.in-Ok-serve_inputs.ensures.ran c.in-Ok-serve_inputs.ensures.wholes c.in-Ok-serve_inputs.ensures.reads
     (recursion_from_All (λ (end : SessionEnd). end.end ≢ Left) served.ends.items
     c.in-Ok-serve_inputs.ensures.to_the_end)

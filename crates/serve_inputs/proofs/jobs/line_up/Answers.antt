@@ -1,4 +1,4 @@
-use Rattle.std.proofs.Common.{◌∷◌, ◌++◌, map, length, refl, ap, sym, ◌∙◌, append-nil, arith}
+use Rattle.std.proofs.Common.{◌≡◌, [], ◌∷◌, ◌++◌, map, length, refl, ap, sym, ◌∙◌, append-nil, arith}
 use Rattle.std.proofs.lemmas.List.{nil_from_length}
 use Rattle.std.specs.Vec.Iter.{into_iter_items}
 use Rattle.session_workers.specs.Jobs.{IsNewJob}
@@ -22,7 +22,9 @@ loop-slot-init g c =
       fresh = all_of_none c.args.jobs.items (λ job. IsNewJob g.P.PoolName.sizes job.line.session job.line.pump
           job.line.device.end job.line.device.failed) none;
       sessions = rw none refl;
-      lefts = rw none (ap (map (λ s. g.S.Source.left s)) sources);
+      names = rw none (ap (map (λ s. g.S.Source.name s)) sources);
+      wholes = rw none (ap (map (λ s. g.S.Source.whole s)) sources);
+      unread = all_as _ c.args.sources.items (λ s. g.S.Source.given s ≡ []) sources c.requires.unread;
       faults = rw none (ap (map (λ s. g.S.Source.read_faults s)) sources);
       wires = rw none wires;
       rest = all_as _ c.args.slots.items
@@ -44,6 +46,7 @@ loop-slot-preserved g c =
     let sources = c.in-Some-next.ensures.items in
     let wires = c.in-Some-next-2.ensures.items in
     let own = c.new-pump.ensures.source in
+    let origin = c.new-pump.ensures.pump.origin_is in
     let is = all_first _ _ slot (λ d. IsSessionSlot z d.session d.device.end d.device.failed) steps.0
     before.rest in
     record {
@@ -52,20 +55,25 @@ loop-slot-preserved g c =
       fresh = all_more jobs _ _ (λ job. IsNewJob z job.line.session job.line.pump job.line.device.end
           job.line.device.failed) items before.fresh
           (new_job z slot.session slot.device.end slot.device.failed c.new-pump.result _ _ is
-          c.new-pump.ensures.pump
-          own);
+          c.new-pump.ensures.pump own.0 own.2);
       sessions = both_more jobs _ _ c.loop-slot.yielded slot (λ job. job.line.session)
           (λ d. d.session) items
           before.sessions refl;
-      lefts = moves_on jobs _ _ (λ job. job.line.pump.left) _ _ _ items
-          (ap (map (λ s. g.S.Source.left s)) sources
-          ∙ ap (λ l. l ∷ map (λ s. g.S.Source.left s) (into_iter_items c.next-in-loop-slot.new.self))
-          (sym own.0))
-          before.lefts;
+      names = moves_on jobs _ _ (λ job. job.line.pump.origin.name) _ _ _ items
+          (ap (map (λ s. g.S.Source.name s)) sources
+          ∙ ap (λ l. l ∷ map (λ s. g.S.Source.name s) (into_iter_items c.next-in-loop-slot.new.self))
+          (ap (λ o. o.name) (sym origin)))
+          before.names;
+      wholes = moves_on jobs _ _ (λ job. job.line.pump.origin.whole) _ _ _ items
+          (ap (map (λ s. g.S.Source.whole s)) sources
+          ∙ ap (λ l. l ∷ map (λ s. g.S.Source.whole s) (into_iter_items c.next-in-loop-slot.new.self))
+          (ap (λ o. o.whole) (sym origin)))
+          before.wholes;
+      unread = all_rest _ _ _ (λ s. g.S.Source.given s ≡ []) sources before.unread;
       faults = moves_on jobs _ _ (λ job. job.line.pump.faults) _ _ _ items
           (ap (map (λ s. g.S.Source.read_faults s)) sources
           ∙ ap (λ l. l ∷ map (λ s. g.S.Source.read_faults s) (into_iter_items c.next-in-loop-slot.new.self))
-          (sym own.1))
+          (sym own.2))
           before.faults;
       wires = moves_on jobs _ _ (λ job. job.wire) _ _ _ items wires before.wires;
       rest = all_rest _ _ slot (λ d. IsSessionSlot z d.session d.device.end d.device.failed) steps.0
@@ -88,8 +96,8 @@ returns-clause-sessions g c =
     (all_given c.loop-slot.yielded _ c.args.slots.items _ before.all before.left
     c.in-None.ensures.steps.0)
 
-pub returns-clause-lefts : goal.returns-clause-lefts
-returns-clause-lefts g c =
+pub returns-clause-names : goal.returns-clause-names
+returns-clause-names g c =
     let before = c.loop-slot.invariant in
     let none = nil_from_length (into_iter_items c.loop-slot.more_sources) (omega (
       arith,
@@ -98,9 +106,28 @@ returns-clause-lefts g c =
       c.in-None.ensures.steps.0,
     )) in
     sym (append-nil _)
-    ∙ ap (λ l. map (λ job. job.line.pump.left) c.loop-slot.jobs.items ++ map (λ s. g.S.Source.left s) l)
+    ∙ ap (λ l. map (λ job. job.line.pump.origin.name) c.loop-slot.jobs.items ++ map (λ s. g.S.Source.name s) l)
     (sym none)
-    ∙ before.lefts
+    ∙ before.names
+
+pub returns-clause-wholes : goal.returns-clause-wholes
+returns-clause-wholes g c =
+    let before = c.loop-slot.invariant in
+    let none = nil_from_length (into_iter_items c.loop-slot.more_sources) (omega (
+      arith,
+      before.source_count,
+      before.left,
+      c.in-None.ensures.steps.0,
+    )) in
+    sym (append-nil _)
+    ∙ ap (λ l. map (λ job. job.line.pump.origin.whole) c.loop-slot.jobs.items ++ map (λ s. g.S.Source.whole s) l)
+    (sym none)
+    ∙ before.wholes
+
+pub new-pump-requires : goal.new-pump-requires
+new-pump-requires g c =
+    all_first _ _ c.in-Some-next.source (λ s. g.S.Source.given s ≡ []) c.in-Some-next.ensures.items
+    c.loop-slot.invariant.unread
 
 pub returns-clause-faults : goal.returns-clause-faults
 returns-clause-faults g c =

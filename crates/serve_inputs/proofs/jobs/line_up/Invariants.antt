@@ -1,4 +1,4 @@
-use Rattle.std.proofs.Common.{◌≡◌, ◌+◌, ◌≤◌, ◌++◌, All, length, map, vec_len, vec_capacity}
+use Rattle.std.proofs.Common.{◌≡◌, ◌+◌, ◌≤◌, ◌++◌, [], All, length, map, vec_len, vec_capacity}
 use Rattle.std.specs.Vec.Iter.{into_iter_items, into_iter_len}
 use Rattle.session_workers.specs.Jobs.{IsNewJob}
 use Rattle.run_resources.specs.Opened.{IsSessionSlot}
@@ -9,9 +9,13 @@ invariant-loop-slot g l = record {
   fresh : All (λ job. IsNewJob g.P.PoolName.sizes job.line.session job.line.pump job.line.device.end
       job.line.device.failed) l.jobs.items;
   sessions : map (λ job. job.line.session) l.jobs.items ≡ map (λ d. d.session) l.yielded;
-  lefts : map (λ job. job.line.pump.left) l.jobs.items
-      ++ map (λ s. g.S.Source.left s) (into_iter_items l.more_sources)
-      ≡ map (λ s. g.S.Source.left s) l.fn.sources.items;
+  names : map (λ job. job.line.pump.origin.name) l.jobs.items
+      ++ map (λ s. g.S.Source.name s) (into_iter_items l.more_sources)
+      ≡ map (λ s. g.S.Source.name s) l.fn.sources.items;
+  wholes : map (λ job. job.line.pump.origin.whole) l.jobs.items
+      ++ map (λ s. g.S.Source.whole s) (into_iter_items l.more_sources)
+      ≡ map (λ s. g.S.Source.whole s) l.fn.sources.items;
+  unread : All (λ s. g.S.Source.given s ≡ []) (into_iter_items l.more_sources);
   faults : map (λ job. job.line.pump.faults) l.jobs.items
       ++ map (λ s. g.S.Source.read_faults s) (into_iter_items l.more_sources)
       ≡ map (λ s. g.S.Source.read_faults s) l.fn.sources.items;

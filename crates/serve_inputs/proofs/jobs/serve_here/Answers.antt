@@ -29,6 +29,7 @@ loop-job-preserved g c =
       done = zip_more c.loop-job.yielded c.loop-job.dones.items _ c.in-Some.job _ _ c.push_reserved.ensures.items
           before.done (record {
             served = is.served;
+            origin = is.origin;
             reads = is.reads;
             to_the_end = is.to_the_end;
             credits = is.credits;

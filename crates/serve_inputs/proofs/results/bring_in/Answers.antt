@@ -15,7 +15,10 @@ loop-done-init g c =
       ends = c.requires.ends.0;
       sent = c.requires.sent.0;
       lists = c.requires.lists.0;
-      lefts = ap (map (λ s. g.S.Source.left s)) c.requires.sources.0;
+      names = ap (map (λ s. g.S.Source.name s)) c.requires.sources.0;
+      wholes = ap (map (λ s. g.S.Source.whole s)) c.requires.sources.0;
+      givens = ap (map (λ s. g.S.Source.given s)) c.requires.sources.0;
+      endeds = ap (map (λ s. g.S.Source.ended s)) c.requires.sources.0;
       faults = ap (map (λ s. g.S.Source.read_faults s)) c.requires.sources.0;
       wires = c.requires.wires.0;
       seats = joins_none c.args.main.now;
@@ -50,8 +53,14 @@ loop-done-preserved g c =
       left = omega (arith, before.left, steps.1, long);
       ends = items_more given done (λ d. d.account.end) _ _ _ c.in-Ok.ensures.ok before.ends refl;
       lists = items_more given done (λ d. d.account.mine) _ _ _ c.in-Ok-push.ensures.ok before.lists refl;
-      lefts = both_more c.loop-done.sources.items _ _ given done (λ s. g.S.Source.left s) (λ d. d.account.pump.left)
-          c.push_reserved.ensures.items before.lefts c.into_source.ensures.left;
+      names = both_more c.loop-done.sources.items _ _ given done (λ s. g.S.Source.name s)
+          (λ d. d.account.pump.origin.name) c.push_reserved.ensures.items before.names c.into_source.ensures.name;
+      wholes = both_more c.loop-done.sources.items _ _ given done (λ s. g.S.Source.whole s)
+          (λ d. d.account.pump.origin.whole) c.push_reserved.ensures.items before.wholes c.into_source.ensures.whole;
+      givens = both_more c.loop-done.sources.items _ _ given done (λ s. g.S.Source.given s) (λ d. d.account.pump.given)
+          c.push_reserved.ensures.items before.givens c.into_source.ensures.given;
+      endeds = both_more c.loop-done.sources.items _ _ given done (λ s. g.S.Source.ended s) (λ d. d.account.pump.ended)
+          c.push_reserved.ensures.items before.endeds c.into_source.ensures.ended;
       faults = both_more c.loop-done.sources.items _ _ given done (λ s. g.S.Source.read_faults s)
           (λ d. d.account.pump.faults) c.push_reserved.ensures.items before.faults c.into_source.ensures.faults;
       sent = items_more given done (λ d. d.account.sent) _ _ _ c.push_reserved-in-loop-done-2.ensures.items before.sent

@@ -10,7 +10,10 @@ invariant-loop-done g l = record {
   ends : l.ends.items ≡ map (λ d. d.account.end) l.yielded;
   sent : l.sent.items ≡ map (λ d. d.account.sent) l.yielded;
   lists : l.lists.items ≡ map (λ d. d.account.mine) l.yielded;
-  lefts : map (λ s. g.S.Source.left s) l.sources.items ≡ map (λ d. d.account.pump.left) l.yielded;
+  names : map (λ s. g.S.Source.name s) l.sources.items ≡ map (λ d. d.account.pump.origin.name) l.yielded;
+  wholes : map (λ s. g.S.Source.whole s) l.sources.items ≡ map (λ d. d.account.pump.origin.whole) l.yielded;
+  givens : map (λ s. g.S.Source.given s) l.sources.items ≡ map (λ d. d.account.pump.given) l.yielded;
+  endeds : map (λ s. g.S.Source.ended s) l.sources.items ≡ map (λ d. d.account.pump.ended) l.yielded;
   faults : map (λ s. g.S.Source.read_faults s) l.sources.items ≡ map (λ d. d.account.pump.faults) l.yielded;
   wires : l.wires.items ≡ map (λ d. d.wire) l.yielded;
   seats : HasJoined (map (λ d. d.account.seat) l.yielded) l.fn.main l.main;

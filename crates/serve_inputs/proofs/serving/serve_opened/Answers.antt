@@ -3,7 +3,8 @@ use Rattle.pin_core.specs.declared.sizes.Sizes.{Sizes}
 use Rattle.run_resources.proofs.Lists.{count_of, same_count, count_past, count_as}
 use Rattle.run_resources.specs.Opened.{IsSessionSlot}
 use Rattle.run_resources.proofs.SessionSlots.{slot_credits}
-use Rattle.serve_inputs.proofs.Whole.{ran_all, all_reads, all_ended, numbers_are, credits_are, as_many}
+use Rattle.serve_inputs.proofs.Whole.{ran_all, names_kept, wholes_kept, all_reads, all_ended, numbers_are}
+use Rattle.serve_inputs.proofs.Whole.{credits_are, as_many}
 use Rattle.serve_inputs.proofs.serving.serve_opened.Goals as goal
 
 pub returns-clause-ran : goal.returns-clause-ran
@@ -11,9 +12,19 @@ returns-clause-ran g c =
     ran_all _ _ _ _ g.P.PoolName.sizes _ g.N.BookName.sizes.shards _ _ _ _ _ _ _ _ _ _ _ _ _ _ _ _ _ _ _ _ _
     c.serve_jobs-dones.ensures c.requires.pool
     (numbers_are _ _ _ _ _ c.line_up-jobs.ensures.sessions c.requires.numbers) c.bring_in-ends.ensures.lists
-    c.requires.main.0 c.bring_in-ends.ensures.seats c.close_all-journal.ensures.shown c.line_up-jobs.ensures.lefts
-    c.bring_in-ends.ensures.lefts c.bring_in-ends.ensures.ends c.bring_in-ends.ensures.sent c.line_up-jobs.ensures.wires
-    c.bring_in-ends.ensures.wires
+    c.requires.main.0 c.bring_in-ends.ensures.seats c.close_all-journal.ensures.shown c.bring_in-ends.ensures.givens
+    c.bring_in-ends.ensures.endeds c.bring_in-ends.ensures.ends c.bring_in-ends.ensures.sent
+    c.line_up-jobs.ensures.wires c.bring_in-ends.ensures.wires
+
+pub returns-clause-names : goal.returns-clause-names
+returns-clause-names g c =
+    names_kept _ _ _ _ g.P.PoolName.sizes g.N.BookName.sizes.shards _ _ _ _ _ _ _ _ _ _ _
+    c.serve_jobs-dones.ensures c.line_up-jobs.ensures.names c.bring_in-ends.ensures.names
+
+pub returns-clause-wholes : goal.returns-clause-wholes
+returns-clause-wholes g c =
+    wholes_kept _ _ _ _ g.P.PoolName.sizes g.N.BookName.sizes.shards _ _ _ _ _ _ _ _ _ _ _
+    c.serve_jobs-dones.ensures c.line_up-jobs.ensures.wholes c.bring_in-ends.ensures.wholes
 
 pub returns-clause-reads : goal.returns-clause-reads
 returns-clause-reads g c =
@@ -113,7 +124,7 @@ close_all-journal-requires-clause-credits g c =
     omega (
       arith,
       credits,
-      c.into_parts-parts.ensures.credits,
+      c.into_parts-parts.ensures.parts.credits,
       c.requires.main.1,
       c.requires.book.0,
       ap (λ (y : Sizes). y.credits) c.requires.pool,

@@ -8,7 +8,7 @@ pub serve_beside-wire-requires-clause-fresh : goal.serve_beside-wire-requires-cl
 serve_beside-wire-requires-clause-fresh g c = λ _ _.
     let is = (All-pop (λ d. IsSessionSlot g.P.PoolName.sizes d.session d.device.end d.device.failed) _ _
     (Some c.in-Some.slot) c.in-Some.ensures.items c.in_ok-pool.ensures.slots).1 in
-    fresh _ _ _ _ _ _ _ is c.new.ensures.pump c.new.ensures.source
+    fresh _ _ _ _ _ _ _ is c.new.ensures.pump c.new.ensures.source.0 c.new.ensures.source.2
 
 pub serve_beside-wire-requires-clause-ring : goal.serve_beside-wire-requires-clause-ring
 serve_beside-wire-requires-clause-ring g c = λ _ _.

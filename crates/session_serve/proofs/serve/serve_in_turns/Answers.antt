@@ -3,9 +3,7 @@ use Rattle.device_model.proofs.Forwarding.{forwards-on}
 use Rattle.session_serve.proofs.Gathering.{gathered-starts}
 use Rattle.session_serve.proofs.Calling.{work-starts, work-told, work-bounded, work-longer}
 use Rattle.session_serve.proofs.Serving.{forwards-nothing, forwards-as, served-so}
-use Rattle.drive_model.specs.Matches.{texts_in}
 use Rattle.session_serve.proofs.Whole.{whole-start, whole-more, whole-closed}
-use Rattle.session_serve.specs.Whole.{SentWhole}
 use Rattle.session_serve.specs.Working.{IsWorking}
 use Rattle.session_serve.proofs.serve.serve_in_turns.Goals as goal
 
@@ -22,7 +20,7 @@ turns-init g c =
       working = (
         [],
         [],
-        subst (λ s. IsWorking _ _ first c.args.line.pump.left c.args.line.pump.faults [] [] s c.args.line.pump)
+        subst (λ s. IsWorking _ _ first c.args.line.pump.origin c.args.line.pump.faults [] [] s c.args.line.pump)
             (sym ends.session)
             (work-told _ _ first _ _ [] [] first _ c.args.line.pump (work-starts _ _ first c.args.line.pump fresh)),
       );
@@ -77,11 +75,18 @@ returns-clause-served g c =
     let stopped = end first _ _ w.0 w.1 w.2 in
     served-so _ _ _ _ first c.turn-after.new.self.session c.args.line.pump c.turn-after.new.self.pump c.in-Err.end
     c.close.result.1.end _ c.turn-after.new.self.device.failed
-    c.close.result.1.seat c.close.result.1.mine _ c.args.wire c.turn-after.result.0 c.close.result.0 c.requires.fresh
+    c.close.result.1.seat c.close.result.1.mine _ _ c.args.wire c.turn-after.result.0 c.close.result.0 c.requires.fresh
     stopped c.close.ensures.left c.close.ensures.end
-    (ap (λ p. p.left) c.close.ensures.pump)
+    (ap (λ p. p.given) c.close.ensures.pump) (ap (λ p. p.ended) c.close.ensures.pump)
     (forwards-on _ _ _ _ _ _ _ _ _ _ _ before.forwards c.turn-after.ensures.forwards) c.close.ensures.flushed
     (whole-closed _ _ _ _ _ _ _ _ _ c.args.wire _ _ _ before.whole none c.close.ensures.flushed c.close.ensures.sent)
+
+pub returns-clause-origin : goal.returns-clause-origin
+returns-clause-origin g c =
+    let w = c.turns.invariant.working in
+    let end = rw c.in-Err.is at c.turn-after.ensures.end in
+    let stopped = end c.args.line.session _ _ w.0 w.1 w.2 in
+    ap (λ p. p.origin) c.close.ensures.pump ∙ stopped.origin_is
 
 pub returns-clause-reads : goal.returns-clause-reads
 returns-clause-reads g c =

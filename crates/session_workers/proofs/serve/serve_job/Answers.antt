@@ -5,6 +5,7 @@ returns g c =
     let said = c.serve_beside-wire.ensures in
     record {
       served = said.served;
+      origin = said.origin;
       reads = said.reads;
       to_the_end = said.to_the_end;
       credits = said.credits;

@@ -10,6 +10,7 @@ use Rattle.shard_core.proofs.Holds.{has_found}
 use Rattle.shard_core.proofs.Appends.{restored_kept, restored_same, more_done, more_back, why_refused, none_told}
 use Rattle.shard_core.proofs.Appends.{on_err}
 use Rattle.shard_core.proofs.Free.{more_stores, refused_free}
+use Rattle.shard_core.proofs.Needs.{more_needs}
 use Rattle.shard_core.proofs.adding.add_more.Goals as goal
 
 pub extend-requires-clause-value : goal.extend-requires-clause-value
@@ -129,6 +130,13 @@ returns-in-Ok-clause-pays g c = λ s p a stored.
     absurd (more_stores g.P.PoolName.sizes c.args.key.now c.args.bytes.now c.args.kept.now.values.entries
     c.args.kept.now.own c.exchange-old.result c.requires.kept c.exchange-old.ensures.old c.in-Ok.ensures.longer.few
     s p a stored)
+
+pub returns-in-Err-clause-needs : goal.returns-in-Err-clause-needs
+returns-in-Err-clause-needs g c =
+    more_needs g.P.PoolName.sizes c.args.key.now c.args.bytes.now c.args.kept.now.values.entries c.args.kept.now.own
+    c.exchange-old.result c.requires.kept c.exchange-old.ensures.old
+    c.in-Err.error c.refused.result c.args.payer.now c.extend.new.payer c.refused.ensures c.in-Err.ensures.cause
+    c.in-Err.ensures.lacks
 
 pub returns-in-Err-clause-pays : goal.returns-in-Err-clause-pays
 returns-in-Err-clause-pays g c =

@@ -2,12 +2,12 @@ use Rattle.std.proofs.Common.{◌≡◌, List, refl, sym, ◌∙◌, subst}
 use Rattle.pin_core.specs.Holding.{Holding}
 use Rattle.pinned_pool.specs.Moves.{without_keys}
 use Rattle.frag_value.specs.Changes.{without_buffer}
-use Rattle.frag_value.specs.Values.{HasValue, keys_of}
+use Rattle.frag_value.specs.Values.{HasValue, keys_of, value_bytes}
 use Rattle.frag_value.proofs.Released.{has_keys}
 use Rattle.frag_value.specs.Values.{Frags}
 use Rattle.shard_core.specs.Moved.{IsCarried}
 use Rattle.shard_core.proofs.Carried.{carried}
-use Rattle.shard_core.proofs.Extended.{same_ok, not_err, back-same, back-whole, longer, paid, why}
+use Rattle.shard_core.proofs.Extended.{same_ok, not_err, back-same, back-whole, longer, paid, lacks, why}
 use Rattle.shard_core.proofs.carrying.extend.Goals as goal
 
 pub returns-in-Ok-clause-carried : goal.returns-in-Ok-clause-carried
@@ -74,6 +74,19 @@ returns-in-Err-clause-cause g c =
     out.value c.is_seat.ensures out.payer
     (keys_of c.in-Err.value) c.bring_back-in-Err.ensures.payer done.claims c.in-Err.error
     (λ none. not_err _ v _ _ refl refl (done.empty none).0) done.cause
+
+pub returns-in-Err-clause-lacks : goal.returns-in-Err-clause-lacks
+returns-in-Err-clause-lacks g c =
+    let z = g.P.PoolName.sizes in
+    let out = c.bring_out.ensures in
+    let done = c.in-Err.ensures in
+    let v = c.args.old in
+    let own = c.args.own.now.holds in
+    lacks z v c.args.bytes.now own c.args.payer.now c.bring_out.new.payer c.append.new.seat
+    c.bring_back-in-Err.new.payer c.is_value.ensures (has_keys v own c.requires.value.held)
+    out.value c.is_seat.ensures out.payer
+    (keys_of c.in-Err.value) c.bring_back-in-Err.ensures.payer done.claims c.in-Err.error
+    (λ none. not_err _ v _ _ refl refl (done.empty none).0) done.cause (value_bytes own v) out.bytes
 
 pub returns-in-Err-clause-paid : goal.returns-in-Err-clause-paid
 returns-in-Err-clause-paid g c =

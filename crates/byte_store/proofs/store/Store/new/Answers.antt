@@ -1,8 +1,8 @@
-use Rattle.std.proofs.Common.{◌≡◌, [], ap, arith, replicate, ◌∙◌}
+use Rattle.std.proofs.Common.{subst, sym}
+use Rattle.std.specs.FinMap as finite
+use Rattle.byte_store.specs.Store.{HoldsStore}
 use Rattle.byte_store.proofs.Held.{empty_holds}
 use Rattle.byte_store.proofs.store.Store.new.Goals as goal
 
 pub returns : goal.returns
-returns c =
-    let all : c.loop-shard._shard ≡ 8 = omega (arith, c.loop-shard-test.false, c.loop-shard.auto._shard-end) in
-    empty_holds _ (c.loop-shard.invariant ∙ ap (λ n. replicate n []) all)
+returns c = subst (λ entries. HoldsStore entries finite.empty) (sym c.new.ensures.empty) empty_holds

@@ -7,7 +7,7 @@ use Rattle.drive_script.proofs.Counted.{call_counts, gather_counts}
 use Rattle.drive_script.proofs.lane.Lane.act.Goals as goal
 
 pub returns-in-Call-clause-right : goal.returns-in-Call-clause-right
-returns-in-Call-clause-right g c = λ fixed start given events input before asked lane.
+returns-in-Call-clause-right g c = λ fixed start given events origin before asked lane.
     let z = g.P.PoolName.sizes in
     let was = c.args.self.now in
     let now = c.call-happened.new.self in
@@ -17,13 +17,13 @@ returns-in-Call-clause-right g c = λ fixed start given events input before aske
     c.call-happened.ensures.failed c.call-happened.ensures.posted.0 c.call-happened.ensures.posted.1
     c.call-happened.ensures.posted.2
     (λ list. RunsOn z g.N.BookName.sizes.shards given c.args.asking.now.end was.session list
-    c.call-happened.new.asking.end now.session) input before _ _ _ c.args.asking.now.end _ lane
-    (c.call-happened.ensures.right fixed given lane.whole events input before asked lane.driven)
+    c.call-happened.new.asking.end now.session) origin before _ _ _ c.args.asking.now.end _ lane
+    (c.call-happened.ensures.right fixed given lane.whole events origin before asked lane.driven)
 
 pub returns-in-Gather-clause-right : goal.returns-in-Gather-clause-right
-returns-in-Gather-clause-right g c = λ fixed start given events input before asked lane.
+returns-in-Gather-clause-right g c = λ fixed start given events origin before asked lane.
     let was = c.args.self.now in
-    stays_asked input before given was.session.posted c.gather.new.self.session.posted _ _ _ _ c.gather.ensures.posted
+    stays_asked origin before given was.session.posted c.gather.new.self.session.posted _ _ _ _ c.gather.ensures.posted
     asked (
       lane_same _ fixed start given _ events _ _ _ _ _
           (c.gather.ensures.lists c.args.sent.now.items c.args.stored.now.items)
@@ -32,11 +32,11 @@ returns-in-Gather-clause-right g c = λ fixed start given events input before as
     )
 
 pub returns-in-Reap-clause-right : goal.returns-in-Reap-clause-right
-returns-in-Reap-clause-right g c = λ fixed start given events input before asked lane.
+returns-in-Reap-clause-right g c = λ fixed start given events origin before asked lane.
     let z = g.P.PoolName.sizes in
     let was = c.args.self.now in
     let now = c.reap-happened.new.self in
-    stays_asked input before given was.session.posted now.session.posted _ _ _ _ c.reap-happened.ensures.posted asked (
+    stays_asked origin before given was.session.posted now.session.posted _ _ _ _ c.reap-happened.ensures.posted asked (
       lane_same _ fixed start given _ events _ _ _ _ _
           (c.reap-happened.ensures.lists c.args.sent.now.items c.args.stored.now.items)
           (reap_goes _ (puts_are_sending _ _) fixed start given events _ (session_shown z was.session)

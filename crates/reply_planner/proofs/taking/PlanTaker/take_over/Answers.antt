@@ -8,8 +8,8 @@ use Rattle.reply_planner.proofs.KeptAt.{length-run}
 use Rattle.reply_planner.proofs.Runs.{run_rooms}
 use Rattle.reply_planner.proofs.taking.PlanTaker.take_over.Goals as goal
 
-pub returns-then-frag-self-clause-room : goal.returns-then-frag-self-clause-room
-returns-then-frag-self-clause-room g c =
+pub returns-else-stays-clause-room : goal.returns-else-stays-clause-room
+returns-else-stays-clause-room g c =
     let p = c.args.self.now in
     let hs = c.args.owner.now.holds in
     let buf = c.in-Some.frag.hold.buffer in
@@ -26,8 +26,8 @@ returns-then-frag-self-clause-room g c =
     small (length-run 0 n (front_of buf hs) (omega (arith, filled.1))) in
     subst (λ q. room_of c.args.self.now ≤ room_of q) (sym c.copy_over.ensures.plan) both.0
 
-pub returns-then-frag-self-clause-range_room : goal.returns-then-frag-self-clause-range_room
-returns-then-frag-self-clause-range_room g c =
+pub returns-else-stays-clause-range_room : goal.returns-else-stays-clause-range_room
+returns-else-stays-clause-range_room g c =
     let p = c.args.self.now in
     let hs = c.args.owner.now.holds in
     let buf = c.in-Some.frag.hold.buffer in
@@ -44,8 +44,8 @@ returns-then-frag-self-clause-range_room g c =
     small (length-run 0 n (front_of buf hs) (omega (arith, filled.1))) in
     subst (λ q. range_room_of c.args.self.now ≤ range_room_of q) (sym c.copy_over.ensures.plan) both.1
 
-pub returns-else-frag-self-clause-room : goal.returns-else-frag-self-clause-room
-returns-else-frag-self-clause-room g c =
+pub returns-then-stays-clause-room : goal.returns-then-stays-clause-room
+returns-then-stays-clause-room g c =
     let p = c.args.self.now in
     let hs = c.args.owner.now.holds in
     let buf = c.in-Some.frag.hold.buffer in
@@ -62,8 +62,8 @@ returns-else-frag-self-clause-room g c =
     small (length-run 0 n (front_of buf hs) (omega (arith, filled.1))) in
     subst (λ q. room_of c.args.self.now ≤ room_of q) (sym c.move_over.ensures.plan) both.0
 
-pub returns-else-frag-self-clause-range_room : goal.returns-else-frag-self-clause-range_room
-returns-else-frag-self-clause-range_room g c =
+pub returns-then-stays-clause-range_room : goal.returns-then-stays-clause-range_room
+returns-then-stays-clause-range_room g c =
     let p = c.args.self.now in
     let hs = c.args.owner.now.holds in
     let buf = c.in-Some.frag.hold.buffer in

@@ -7,8 +7,8 @@ use Rattle.reply_planner.proofs.KeptAt.{length-run}
 use Rattle.reply_planner.proofs.Runs.{run_rooms}
 use Rattle.reply_planner.proofs.taking.PlanTaker.take_part.Goals as goal
 
-pub returns-then-len-self-clause-room : goal.returns-then-len-self-clause-room
-returns-then-len-self-clause-room g c =
+pub returns-else-stays-clause-room : goal.returns-else-stays-clause-room
+returns-else-stays-clause-room g c =
     let p = c.args.self.now in
     let f = placed_part g.N.PoolName.sizes c.args.owner.now.holds c.args.frag.now.hold.buffer c.args.from c.args.len in
     let threshold = subst (λ (q : Planned). (0 < q.base.threshold) × (q.base.threshold ≤ 512)) c.self.view_is
@@ -20,8 +20,8 @@ returns-then-len-self-clause-room g c =
     (omega (arith, c.requires.filled))) in
     subst (λ q. room_of c.args.self.now ≤ room_of q) (sym c.copy_part.ensures.plan) both.0
 
-pub returns-then-len-self-clause-range_room : goal.returns-then-len-self-clause-range_room
-returns-then-len-self-clause-range_room g c =
+pub returns-else-stays-clause-range_room : goal.returns-else-stays-clause-range_room
+returns-else-stays-clause-range_room g c =
     let p = c.args.self.now in
     let f = placed_part g.N.PoolName.sizes c.args.owner.now.holds c.args.frag.now.hold.buffer c.args.from c.args.len in
     let threshold = subst (λ (q : Planned). (0 < q.base.threshold) × (q.base.threshold ≤ 512)) c.self.view_is
@@ -33,8 +33,8 @@ returns-then-len-self-clause-range_room g c =
     (omega (arith, c.requires.filled))) in
     subst (λ q. range_room_of c.args.self.now ≤ range_room_of q) (sym c.copy_part.ensures.plan) both.1
 
-pub returns-else-len-self-clause-room : goal.returns-else-len-self-clause-room
-returns-else-len-self-clause-room g c =
+pub returns-then-stays-clause-room : goal.returns-then-stays-clause-room
+returns-then-stays-clause-room g c =
     let p = c.args.self.now in
     let f = placed_part g.N.PoolName.sizes c.args.owner.now.holds c.args.frag.now.hold.buffer c.args.from c.args.len in
     let threshold = subst (λ (q : Planned). (0 < q.base.threshold) × (q.base.threshold ≤ 512)) c.self.view_is
@@ -46,8 +46,8 @@ returns-else-len-self-clause-room g c =
     (omega (arith, c.requires.filled))) in
     subst (λ q. room_of c.args.self.now ≤ room_of q) (sym c.pin_part.ensures.plan) both.0
 
-pub returns-else-len-self-clause-range_room : goal.returns-else-len-self-clause-range_room
-returns-else-len-self-clause-range_room g c =
+pub returns-then-stays-clause-range_room : goal.returns-then-stays-clause-range_room
+returns-then-stays-clause-range_room g c =
     let p = c.args.self.now in
     let f = placed_part g.N.PoolName.sizes c.args.owner.now.holds c.args.frag.now.hold.buffer c.args.from c.args.len in
     let threshold = subst (λ (q : Planned). (0 < q.base.threshold) × (q.base.threshold ≤ 512)) c.self.view_is

@@ -9,7 +9,7 @@ abbrev pub invariant-calls : goal.invariant-calls
 invariant-calls g l = record {
   ring : l.session_side.session.ring ≡ l.fn.self.session.ring;
   working : (given : List Command) × (calls : List Outcomes)
-      × IsWorking g.P.PoolName.sizes g.N.BookName.sizes.shards l.fn.self.session l.fn.self.pump.left
+      × IsWorking g.P.PoolName.sizes g.N.BookName.sizes.shards l.fn.self.session l.fn.self.pump.origin
       l.fn.self.pump.faults given calls l.session_side.session l.session_side.pump;
 }
 

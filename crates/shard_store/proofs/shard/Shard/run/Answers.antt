@@ -1,19 +1,20 @@
 use Rattle.std.specs.FinMap as finite
-use Rattle.std.proofs.Common.{◌++◌, ◌∷◌, [], List, Some, None, sym, refl, ap, ◌∙◌, subst, append-nil}
+use Rattle.std.proofs.Common.{◌≡◌, ◌++◌, ◌∷◌, [], List, Some, None, sym, refl, ap, ◌∙◌, subst, append-nil}
+use Rattle.std.proofs.Common.{false, true, rules}
 use Rattle.flake_base.specs.declared.journal.Entry.{Entry}
 use Rattle.flake_model.specs.Deed.{final_store, final_places, places_at}
 use Rattle.flake_model.specs.Journal.{shard_of}
-use Rattle.flake_model.specs.Store.{key_of, change_by}
+use Rattle.flake_model.specs.Store.{key_of, change_by, stored_value}
 use Rattle.order_book.specs.Pages.{ShardList, SessionList}
 use Rattle.shard_core.specs.declared.answer.PartAnswer.TheVariants as say
 use Rattle.shard_part.specs.Parts.{operation_of}
 use Rattle.call_model.specs.Outcomes.{PartOutcome}
 use Rattle.shard_store.specs.Shards.{IsShard, answer_after, found_after, first_after}
 use Rattle.shard_store.proofs.Histories.{grows, stored_are, entered_shard, entered_session, pieces-found, stays}
-use Rattle.shard_store.proofs.Histories.{only_writes, key-part, refused, on_err}
+use Rattle.shard_store.proofs.Histories.{only_writes, key-part, refused, needed, on_err}
 use Rattle.shard_store.proofs.Reached.{reaches}
 use Rattle.shard_store.proofs.Stored.{in_buffers}
-use Rattle.shard_store.proofs.Unstored.{unstored}
+use Rattle.shard_store.proofs.Unstored.{unstored, would_put, shown_answer}
 use Rattle.shard_store.proofs.shard.Shard.run.Goals as goal
 
 pub returns-in_err-reserve-clause-untold : goal.returns-in_err-reserve-clause-untold
@@ -65,7 +66,15 @@ returns-in-Ok-clause-told g c =
     } in
     record {
       outcome = Some outcome;
-      run = record { is = tt; told = ap (λ (l : SessionList). l.told) met; sought = c.in-Ok.ensures.paid.sought };
+      run = record {
+        is = tt;
+        told = ap (λ (l : SessionList). l.told) met;
+        sought = c.in-Ok.ensures.paid.sought;
+        free = λ none.
+            let pays = c.in-Ok.ensures.pays s p c.self.invariant.agrees (none (finite.get s (key_of op)) refl) in
+            (pays.claims, pays.looks);
+        missed = tt;
+      };
       number = ap (λ (l : SessionList). l.number) met;
       looks = ap (λ (l : SessionList). l.looks) met;
       says = d.says;
@@ -84,6 +93,40 @@ returns-in-Ok-clause-told g c =
           d.stored d.agrees _ _ d.stored_is;
     }
 
+pub returns-in_err-reserve-clause-free : goal.returns-in_err-reserve-clause-free
+returns-in_err-reserve-clause-free g c = λ none. (search rules, refl, refl)
+
+pub returns-in-Ok-clause-free : goal.returns-in-Ok-clause-free
+returns-in-Ok-clause-free g c = λ seen.
+    let list : ShardList = c.self.inside.seat in
+    let op = operation_of c.args.part.now in
+    let none = subst (λ (l : ShardList). stored_value (final_store l.told) op ≡ None) (sym c.self.view_is) seen in
+    let s = final_store list.told in
+    let p = final_places list.told in
+    let pays = c.in-Ok.ensures.pays s p c.self.invariant.agrees none in
+    let d = c.in-Ok.ensures.done s p c.self.invariant.agrees in
+    (shown_answer _ _ d.says, pays.claims, pays.looks)
+
+pub returns-in-Err-NoBuffer-clause-free : goal.returns-in-Err-NoBuffer-clause-free
+returns-in-Err-NoBuffer-clause-free g c = λ seen.
+    let list : ShardList = c.self.inside.seat in
+    let op = operation_of c.args.part.now in
+    let none = subst (λ (l : ShardList). stored_value (final_store l.told) op ≡ None) (sym c.self.view_is) seen in
+    let pays = c.in-Err-NoBuffer.ensures.pays (final_store list.told) (final_places list.told) c.self.invariant.agrees
+    none in
+    let wrong : false ≡ true = pays.answered in
+    absurd (cc)
+
+pub returns-in-Err-Memory-clause-free : goal.returns-in-Err-Memory-clause-free
+returns-in-Err-Memory-clause-free g c = λ seen.
+    let list : ShardList = c.self.inside.seat in
+    let op = operation_of c.args.part.now in
+    let none = subst (λ (l : ShardList). stored_value (final_store l.told) op ≡ None) (sym c.self.view_is) seen in
+    let pays = c.in-Err-Memory.ensures.pays (final_store list.told) (final_places list.told) c.self.invariant.agrees
+    none in
+    let wrong : false ≡ true = pays.answered in
+    absurd (cc)
+
 pub returns-in-Err-NoBuffer-clause-told : goal.returns-in-Err-NoBuffer-clause-told
 returns-in-Err-NoBuffer-clause-told g c =
     let z = g.P.PoolName.sizes in
@@ -91,16 +134,33 @@ returns-in-Err-NoBuffer-clause-told g c =
     let here = c.in-Err-NoBuffer in
     let none = refused z op here.field-0 here.none c.args.payer.now c.apply.new.payer here.field-0-is here.ensures.paid
     here.ensures.cause in
+    let list : ShardList = c.self.inside.seat in
+    let s = final_store list.told in
     record {
       outcome = None;
       run = record {
         is = only_writes z op c.args.payer.now c.apply.new.payer none.0;
         told = sym (append-nil c.args.mine.now.told);
         sought = none.0.sought;
+        free = absurd;
+        missed = would_put s op (λ none.
+            let pays = here.ensures.pays s (final_places list.told) c.self.invariant.agrees none in
+            let wrong : false ≡ true = pays.answered in
+            absurd (cc));
       };
       number = refl;
       looks = refl;
-      says = (here.none, ap say.NoBuffer here.none-is, none.1);
+      says = (
+        here.none,
+        ap say.NoBuffer here.none-is,
+        none.1,
+        (
+          finite.get s (key_of op),
+          needed z op c.self.inside.shard_map.entries c.self.inside.shard_map.seat.holds here.field-0 here.none
+              c.args.payer.now c.apply.new.payer here.field-0-is here.ensures.needs s (final_places list.told)
+              c.self.invariant.agrees,
+        ),
+      );
       pieces = here.ensures.untaken ∙ sym (append-nil (g.T.Taker.taken c.args.taker.now));
       reaches = tt;
       answered = tt;

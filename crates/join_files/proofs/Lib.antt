@@ -1,0 +1,4 @@
+pub mod Cuts
+pub mod Taking
+pub mod Texts
+pub mod Flushing

@@ -1,0 +1,11 @@
+use Rattle.std.proofs.Common.{◌≡◌, take}
+use Rattle.dump_model.specs.Dump.{pairs_text}
+use Rattle.value_pins.specs.Pins.{PutsText, pairs_shown}
+use Rattle.pin_dump.proofs.pairs.put_pairs.Given as goal
+
+abbrev pub invariant-loop-i : goal.invariant-loop-i
+invariant-loop-i g l = record {
+  seat : l.seat ≡ l.fn.seat;
+  puts : PutsText (λ w p r. goal.P-post g l.put w p r) l.failed l.has_failed
+      (pairs_text (pairs_shown l.fn.seat.holds (take l.i l.pairs))) l.fn.wire l.wire;
+}

@@ -1,0 +1,12 @@
+use Rattle.std.proofs.Common.{◌-◌, ◌≤◌, length, take}
+use Rattle.value_pins.specs.Pins.{PutsText}
+use Rattle.pin_dump.proofs.putting.put_bytes.Given as goal
+
+abbrev pub decreases-loop-done : goal.decreases-loop-done
+decreases-loop-done g l = length l.bytes - l.done
+
+abbrev pub invariant-loop-done : goal.invariant-loop-done
+invariant-loop-done g l = record {
+  within : l.done ≤ length l.bytes;
+  puts : PutsText (λ w p r. goal.P-post g l.put w p r) l.failed l.has_failed (take l.done l.bytes) l.fn.wire l.wire;
+}

@@ -1,0 +1,15 @@
+//! What is said of a run at its end, in room that is taken before the run: nothing here takes memory.
+#![tactic(auto)]
+
+mod journal;
+mod put;
+mod summary;
+mod total;
+
+pub use journal::say_journal;
+pub use put::REPORT_ROOM;
+pub use summary::put_summary;
+pub use total::put_total;
+
+#[cfg(test)]
+mod tests;

@@ -1,0 +1,33 @@
+-- The wrong outcome claims and misses more large buffers than there is demand for.
+use Rattle.std.proofs.Common.{◌≡◌, ℕ, List, [], ◌∷◌, refl, lit≤, arith}
+use Rattle.pin_core.specs.declared.class.Class.TheVariants.{Large}
+use Rattle.pinned_pool.specs.Classes.{buffers_in}
+use Rattle.pinned_pool.specs.Views.{looked_at}
+use Rattle.flake_model.specs.Run.{all_commands}
+use Rattle.serve_model.specs.Demand.{demand_of}
+use Rattle.serve_model.specs.Mixed.{mixed_pool, mixed_session, mixed_end, MixedIsNone}
+
+demand : (given : List ℕ) (taken : ℕ) → demand_of Large (all_commands (mixed_session given taken ∷ [])) ≡ 2
+demand given taken = refl
+
+claimed : buffers_in mixed_pool Large mixed_end.seat.claims ≡ 1
+claimed = refl
+
+looked : looked_at 0 mixed_end.seat.looks ≡ 0
+looked = refl
+
+pub mixed_is_none : (given : List ℕ) (taken : ℕ) → MixedIsNone given taken
+mixed_is_none given taken = record {
+  missing = refl;
+  not_so = λ counted.
+      let no : ⊥ = omega (
+        arith,
+        counted.claims Large,
+        counted.missed_are,
+        counted.looks_small 0 (lit≤ tt),
+        demand given taken,
+        claimed,
+        looked,
+      ) in
+      no;
+}

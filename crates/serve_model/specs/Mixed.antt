@@ -1,0 +1,47 @@
+-- A wrong outcome: 200 small buffers and a large one, of which two writes of a long value and one of a short value all
+-- found the large one held, and none was stored.
+use Rattle.std.specs.Prelude.{◌≡◌, ℕ, List, [], ◌∷◌, true, false, codes, replicate}
+use Rattle.flake_base.specs.declared.journal.Entry.{Entry}
+use Rattle.flake_base.specs.declared.session.End.TheVariants.{Clean}
+use Rattle.pin_core.specs.declared.sizes.Sizes.{Sizes}
+use Rattle.pinned_pool.specs.Ends.{End}
+use Rattle.pinned_pool.specs.Views.{view}
+use Rattle.flake_model.specs.Command.{Command, set}
+use Rattle.flake_model.specs.Run.{missing_writes}
+use Rattle.flake_model.specs.Session.{Session}
+use Rattle.flake_model.specs.Store.{always}
+use Rattle.serve_model.specs.Shown.{IsCounted}
+
+abbrev pub mixed_pool : Sizes
+mixed_pool = record { small = 200; large = 1; credits = 4 }
+
+abbrev pub long_write : Command
+long_write = set always false (codes "b") (replicate 513 0)
+
+abbrev pub short_write : Command
+short_write = set always false (codes "c") (codes "x")
+
+abbrev pub mixed_session : List ℕ → ℕ → Session
+mixed_session given taken = record {
+  given = given;
+  ended = true;
+  commands = long_write ∷ long_write ∷ short_write ∷ [];
+  end = record { end = Clean; taken = taken; replies = 3; failed = false };
+  begun = 0;
+}
+
+-- one shard that did nothing
+abbrev pub mixed_journal : List (List Entry)
+mixed_journal = [] ∷ []
+
+abbrev pub mixed_end : End
+mixed_end = record {
+  seat = view [] 4 (200 ∷ []) ((200, 1) ∷ (200, 1) ∷ (200, 1) ∷ []) 0 [];
+  small = 0;
+  large = 0;
+}
+
+-- All three writes are missing, and such an end isn't counted right, whatever the bytes were.
+pub record MixedIsNone (given : List ℕ) (taken : ℕ) : Type 0 where
+  pub missing : missing_writes (mixed_session given taken ∷ []) mixed_journal ≡ 3
+  pub not_so : IsCounted mixed_pool (mixed_session given taken ∷ []) mixed_journal mixed_end → ⊥

@@ -1,0 +1,4 @@
+pub mod PinSteps
+pub mod PutSteps
+pub mod FewSteps
+pub mod Returned

@@ -1,0 +1,16 @@
+use Rattle.std.proofs.Common.{◌≡◌, ◌-◌, ◌≤◌, take}
+use Rattle.pinned_pool.specs.Bytes.{bytes_of_words}
+use Rattle.pinned_pool.specs.Moves.{front_of}
+use Rattle.value_pins.specs.Pins.{PutsText}
+use Rattle.value_pins.proofs.putting.put_frag.Given as goal
+
+abbrev pub decreases-loop-done : goal.decreases-loop-done
+decreases-loop-done g l = l.len - l.done
+
+abbrev pub invariant-loop-done : goal.invariant-loop-done
+invariant-loop-done g l = record {
+  seat : l.seat ≡ l.fn.seat;
+  within : l.done ≤ l.len;
+  puts : PutsText (λ w p r. goal.P-post g l.put w p r) l.failed l.has_failed (take l.done (bytes_of_words (front_of
+      l.buffer l.fn.seat.holds))) l.fn.wire l.wire;
+}
