@@ -2,7 +2,8 @@
 # nothing. Its program writes its folder and its words, copies the first FILE line by line to out0.resp for `serve FILE..`
 # and `drive SCHEDULE FILE..`, the second to out1.resp and so on, and ends with status ENDS, which is 7 if it isn't set.
 # OPENED names a file that gets the program's open files, and IGNORED one that gets the signals that it ignores. SAYS is
-# what it says in the place of its folder and words. WAITS names a file that it writes before it waits for a minute.
+# what it says in the place of its folder and words. DUMPS is written behind these, to the file of the next number. WAITS
+# names a file that it writes before it waits for a minute.
 
 home="$room/a folder 'of' \$its own"
 crate=$home/crates/flake_program
@@ -32,6 +33,7 @@ if [ "$1" = serve ] || [ "$1" = drive ]; then
     while [ $left -gt 0 ] && read -r line; do printf '%s\n' "$line" >>out$session.resp; sleep 0.01; left=$((left - 1)); done <"$file"
     session=$((session + 1))
   done
+  [ -z "${DUMPS-}" ] || printf -- "$DUMPS" >>out$session.resp
 fi
 exit "${ENDS-7}"
 END

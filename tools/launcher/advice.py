@@ -68,7 +68,8 @@ def of_writes(ran, task):
     if ran.status == 5:
         yield from faults.why_unwritten(ran, task)
     if ran.status == 6:
-        yield f"memory ran out: {faults.written(task)}"
+        lost = "no dump was taken, and " if b"dump none" in (ran.said or b"").splitlines() else ""
+        yield f"memory ran out: {lost}{faults.written(task)}"
 
 
 def not_whole(file, how, place, is_typed):

@@ -13,21 +13,22 @@ FULL = os.makedev(1, 7)  # /dev/full
 
 
 def written(task):
-    """What is left of the replies."""
-    there = [quoted(it) for it in task.replies if os.path.exists(it)]
+    """What is left of the replies, and of a dump."""
+    there = [quoted(it) for it in task.outputs if os.path.exists(it)]
     if not there:
         return "no replies were written"
-    return f"{' and '.join(there)} {'have' if there[1:] else 'has'} the replies that were written until then"
+    what = "the replies that were" if task.dump is None else "what was"
+    return f"{' and '.join(there)} {'have' if there[1:] else 'has'} {what} written until then"
 
 
 def why_unwritten(ran, task):
     """A line for each file that shows a reason, and one for standard output; where nothing shows any, one for all."""
-    whys = {name: why_not(name, task.folder or ".") for name in task.replies}
+    whys = {name: why_not(name, task.folder or ".") for name in task.outputs}
     found = [f"{quoted(name)} couldn't be written whole: {why}" for name, why in whys.items() if why]
     if why := ran.why_unsaid or why_no_output():
         found.append(why_unsaid(why))
     unseen = "or what was said couldn't be written whole, for a reason that doesn't show"
-    return found or [f"{names_of(task.replies)} {unseen}"]
+    return found or [f"{names_of(task.outputs)} {unseen}"]
 
 
 def why_unsaid(why):

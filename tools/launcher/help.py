@@ -20,7 +20,8 @@ def rows(pairs):
 def limits(option):
     if not option.takes_number():
         return option.what
-    return f"{option.what}: {option.least} to {option.most}, without it {option.usual}"
+    usual = "none" if option.usual is None else option.usual
+    return f"{option.what}: {option.least} to {option.most}, without it {usual}"
 
 
 def line_of(command):

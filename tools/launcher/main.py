@@ -108,7 +108,7 @@ def run_task(task, own, voice, stack):
     held = []
     if task.command != CHECK:
         held = [lock_folder(task.folder)]
-        refuse_replies_as_requests(task.opened, task.replies)
+        refuse_replies_as_requests(task.opened, task.outputs)
     if task.schedule is not None:
         judge_schedule(task.schedule, task.sessions)
     children = Children()
@@ -119,7 +119,7 @@ def run_task(task, own, voice, stack):
 def run_program(program, task, own, children, voice, held):
     """Runs the program, with earlier replies out of its way, and says what came of it."""
     children.stop_if_asked(voice.say, "nothing was run or touched")
-    earlier = Earlier(task.replies, voice)
+    earlier = Earlier(task.outputs, voice)
     earlier.move_aside()
     try:
         came = ran.run(program, task, children, voice, held)

@@ -31,4 +31,7 @@ def line_of(session, file, replies):
 
 
 def session_lines(task):
-    return [line_of(number, *names) for number, names in enumerate(zip(task.files, task.replies))]
+    for number, names in enumerate(zip(task.files, task.replies)):
+        yield line_of(number, *names)
+    if task.dump is not None:
+        yield f"dump in {quoted(task.dump)}, {len(read_again(task.dump) or b'')} bytes"

@@ -47,6 +47,12 @@ SIZES = (
     Option("--ring", "descriptors of the ring, a multiple of 8", 1160, 4096, 1160, 8),
     Option("--threshold", "bytes from which on a value is sent from where it lies", 1, 512, 512),
 )
+DUMP = Option(
+    "--dump",
+    "writes what all keys have before this call of the first file, as requests to the file behind the replies",
+    0,
+    2**32 - 1,
+)
 JOURNAL = Option("--journal", "prints what each shard did in which order; the sessions' lines go to standard error")
 GENERATED = (
     Option("--sessions", "sessions", 1, 16, 4),
@@ -66,11 +72,11 @@ COMMANDS = {
     for it in (
         Command(
             SERVE,
-            "[--journal] [SIZES] FILE..",
+            "[--journal] [--dump N] [SIZES] FILE..",
             "Serves the RESP2 requests in 1 to 16 files at once, each a session of its own, over one store that is\n"
             "empty at first. The replies go to out0.resp, out1.resp, .. in the order of the files. The name - is\n"
             "standard input.",
-            (JOURNAL, *SIZES, WORKERS),
+            (JOURNAL, DUMP, *SIZES, WORKERS),
         ),
         Command(
             CHECK,

@@ -13,11 +13,12 @@ NONE = "no pool is sure to hold these values: serve them in several runs"
 
 
 def sizes_for(files, sizes):
-    """Returns the options that hold these values, in words."""
+    """Returns the options that hold these values, in words. A dump keeps what was replaced from becoming free."""
     texts = [read_again(file) for file in files]
     if None in texts:
         return "larger --large and --small hold more"
-    wanted = demand_of_one(requests(texts[0])) if len(texts) == 1 else demand_of_many(map(requests, texts))
+    is_one = len(texts) == 1 and "--dump" not in sizes
+    wanted = demand_of_one(requests(texts[0])) if is_one else demand_of_many(map(requests, texts))
     small, large = wanted[0] + STAGE * len(files), wanted[1]
     if small > MOST_SMALL or large > MOST_LARGE:
         return NONE

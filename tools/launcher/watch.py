@@ -15,7 +15,7 @@ class Watch:
     """Shows one line on a terminal, while the run lasts; whoever asks by SIGUSR1 gets a line for each file."""
 
     def __init__(self, number, task, voice):
-        self.number, self.replies, self.voice = number, task.replies, voice
+        self.number, self.outputs, self.voice = number, task.outputs, voice
         self.read = {os.path.realpath(it): 0 for it in task.opened if is_file(it)}
         self.began, self.has_ended = time.monotonic(), threading.Event()
         self.thread = None
@@ -37,7 +37,7 @@ class Watch:
         return shown(time.monotonic() - self.began)
 
     def written(self):
-        return sum(size_of(it) for it in self.replies)
+        return sum(size_of(it) for it in self.outputs)
 
     def line(self):
         self.look()

@@ -18,8 +18,8 @@ class BadWords(Exception):
 
 class Task:
     """What good words ask of the program. `opened` are the names of files in the order in which it opens them, of
-    which `files` are those of requests; `sessions` is how many files of replies it may write, into `folder`. A file's
-    place is its place among the words."""
+    which `files` are those of requests; `sessions` is how many files of replies it may write, into `folder`, and behind
+    them that of a dump. A file's place is its place among the words."""
 
     def __init__(self, words, given, places):
         self.command, self.given, self.places = words[0], given, places
@@ -46,6 +46,16 @@ class Task:
     @property
     def replies(self):
         return [os.path.join(self.folder, name) for name in replies_of(self.sessions)]
+
+    @property
+    def dump(self):
+        """The file of the dump; None where none is asked for."""
+        return os.path.join(self.folder, replies_of(self.sessions + 1)[-1]) if "--dump" in self.given else None
+
+    @property
+    def outputs(self):
+        """All files that the program may write."""
+        return self.replies if self.dump is None else [*self.replies, self.dump]
 
     def says_much(self):
         """Whether the program may say more than a line for each session."""
@@ -159,8 +169,9 @@ def fit_count(what, given, places, count):
     small = value_or_usual(given, SERVE, "--small")
     if count == 0:
         raise BadWords(f"no file: {what} takes 1 to {MOST_FILES}")
-    if count > MOST_FILES:
-        raise BadWords(f"{count} files: at most {MOST_FILES}")
+    most = MOST_FILES - ("--dump" in given)
+    if count > most:
+        raise BadWords(f"{count} files: at most {most}{' with --dump' if most < MOST_FILES else ''}")
     if STAGE * count > small:
         raise BadWords(f"--small {small}: {count} files have {STAGE * count}, {STAGE} for each")
     return places

@@ -10,7 +10,7 @@ use crate::whole::{Driven, Room, drive_opened};
 use flake_base::{Host, Source};
 use order_book::{BookBlank, BookName};
 use pinned_pool::{PoolBlank, PoolName};
-use run_resources::{SESSION_CREDITS, Sizes, open_resources};
+use run_resources::{Sizes, open_resources};
 use schedule_text::Line;
 use std::alloc::Global;
 use std::marker::Brand;
@@ -110,8 +110,8 @@ pub fn drive_inputs<
     ensures silent { OnErr result (host.new ≡ host.old) }
 {
     let count = sources.len();
-    let credits = SESSION_CREDITS * count as u64 + u64::from(sizes.shards) + 1;
-    let Ok(pool) = PoolBlank::open(alloc, sizes.small, sizes.large, credits) else {
+    let Ok(pool) = PoolBlank::open(alloc, sizes.small, sizes.large, sizes.pool_credits(count))
+    else {
         return Err((sources, wires));
     };
     let Ok(book) = BookBlank::open(alloc, sizes.shards, count as u16) else {

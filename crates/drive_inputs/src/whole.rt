@@ -1,12 +1,12 @@
 // A schedule is followed in what was opened.
-ghost use Rattle.std.specs.Prelude.{◌≡◌, ◌<◌, ◌≤◌, [], All, length, map, vec_capacity};
+ghost use Rattle.std.specs.Prelude.{◌≡◌, ◌+◌, ◌<◌, ◌≤◌, [], All, length, map, vec_capacity};
 ghost use Rattle.std.specs.List.{range_with_len};
 ghost use Rattle.schedule_text.specs.Text.{line_session};
 ghost use Rattle.serve_model.specs.Seats.{IsSpare};
 ghost use Rattle.flake_base.specs.Histories.{histories};
 ghost use Rattle.tx_ring.specs.Shown.{ring_size};
 ghost use Rattle.drive_script.specs.Says.{text_room};
-ghost use Rattle.run_resources.specs.Opened.{IsPool, IsBook, IsSessionSlot, pool_sizes};
+ghost use Rattle.run_resources.specs.Opened.{IsPool, IsBook, IsSessionSlot, dump_credits, pool_sizes};
 ghost use Rattle.run_resources.specs.Ran.{AreReads};
 ghost use Rattle.drive_inputs.specs.Drove.{DroveInputs};
 
@@ -68,7 +68,7 @@ pub(crate) fn drive_opened<
     requires wires { length sources.items ≤ length wires.items }
     requires there { All (λ line. line_session line < length sources.items) schedule.now }
     requires unread { All (λ s. S.given s ≡ []) sources.items }
-    requires main { IsSpare resources.main × (resources.main.credits ≡ 1) }
+    requires main { IsSpare resources.main × (resources.main.credits ≡ 1 + dump_credits sizes.now) }
     requires slots { All (λ d. IsSessionSlot P.sizes d.session d.device.end d.device.failed) resources.slots.items }
     requires numbers { map (λ d. d.session.pass.list.number) resources.slots.items
         ≡ range_with_len 0 (length sources.items) }

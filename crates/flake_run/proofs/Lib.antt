@@ -5,6 +5,8 @@ pub mod Highest
 pub mod Ran
 pub mod RanServed
 pub mod RanUntouched
+pub mod RanDump
+pub mod RunUndumped
 pub mod RanCauses
 pub mod RanSaid
 pub mod RanComplete

@@ -18,24 +18,38 @@ use Rattle.run_resources.specs.Ran.{AreReads}
 use Rattle.flake_run.specs.declared.outcome.Detail.TheVariants.{Nothing}
 use Rattle.flake_run.specs.declared.outcome.Opened.{Opened}
 use Rattle.flake_run.specs.Opening.{AreOfFiles, HaveOpened}
-use Rattle.flake_run.specs.Task.{Job, RunTask}
+use Rattle.report_text.specs.declared.dump.DumpLine.{DumpLine}
+use Rattle.report_text.specs.declared.dump.DumpLine.TheVariants.{Untaken}
+use Rattle.flake_run.specs.Task.{Job, RunTask, wires_of}
 use Rattle.flake_run.specs.Outside.{LeavesFiles}
 use Rattle.flake_run.specs.Outcome.{RunOutcome, SourceTold, IsUntouched, ways, files_of, sources_of, givens_of}
 use Rattle.flake_run.specs.Outcome.{endeds_of, read_faults_of}
-use Rattle.flake_run.specs.Serving.{IsServedRun}
+use Rattle.flake_run.specs.Dumping.{dump_line_of, lines_failed}
+use Rattle.flake_run.specs.Serving.{IsDumpingRun}
 use Rattle.flake_run.specs.Causes.{AreCountsOf, highest_by}
 use Rattle.flake_run.specs.Said.{PrintsStatus, served_text}
-use Rattle.flake_run.proofs.Served.{ends_count}
+use Rattle.flake_run.proofs.Served.{ends_served}
 
 -- the statuses of what was served
 abbrev pub IsServedStatus : ℕ → Type 0
 IsServedStatus status = (status ≡ 0) ⊎ (status ≡ 3) ⊎ (status ≡ 4) ⊎ (status ≡ 5) ⊎ (status ≡ 6)
 
+-- what a report of sessions has said and answered
+pub record Reported (old new : HostTold) (status : ℕ) (shows : Bool) (journal : List (List Entry))
+    (ends : List SessionEnd) (dump : DumpLine) (held : Held) : Type 0 where
+  pub said : PrintsStatus (served_text shows journal ends dump held) old new
+  pub statuses : IsServedStatus status
+  pub by_end : status ≢ 5 → status ≢ 6 → (status ≡ highest_by (ways ends))
+      × (list_any (λ (failed : Bool). failed) (lines_failed ends dump) ≡ false) × (new.say_faults ≡ old.say_faults)
+  pub failed : status ≡ 5 → (highest_by (ways ends) ≢ 6)
+      × ((list_any (λ (failed : Bool). failed) (lines_failed ends dump) ≡ true) ⊎ Rose old.say_faults new.say_faults)
+  pub untaken : dump ≡ Untaken → status ≡ 6
+
 -- the words were accepted
 pub record IsTask {W : Type 0} (task : RunTask) (job : Job) (wires : List W) : Type 0 where
   pub task_is : task ≡ Some job
   pub some_names : 0 < length job.names
-  pub some_wires : length job.names ≤ length wires
+  pub some_wires : wires_of job ≤ length wires
 
 -- the files were opened and their sessions served, and that was said
 pub record Ran {W : Type 0} (tells : W → WireTold) (job : Job) (host now : HostTold) (wires after : List W)
@@ -50,17 +64,13 @@ pub record Ran {W : Type 0} (tells : W → WireTold) (job : Job) (host now : Hos
   pub pool : PoolEnd
   pub pool_is : done.pool ≡ Some pool
   pub held : (done.held.small ≡ pool.small) × (done.held.large ≡ pool.large)
-  pub run : IsServedRun (pool_sizes (length job.names) job.sizes) (givens_of (sources_of done.sources))
-      (endeds_of (sources_of done.sources)) done.ends done.journal pool wires after tells
+  pub run : IsDumpingRun (pool_sizes (length job.names) job.sizes) (givens_of (sources_of done.sources))
+      (endeds_of (sources_of done.sources)) done.ends done.journal pool job.sizes.dump done.dump wires after tells
   pub shards : length done.journal ≡ job.sizes.shards
   pub reads : AreCountsOf (ways done.ends) (read_faults_of (sources_of done.sources))
   pub to_the_end : All (λ way. way ≢ Left) (ways done.ends)
-  pub said : PrintsStatus (served_text job.journal done.journal done.ends done.held) host now
-  pub statuses : IsServedStatus done.status
-  pub by_end : done.status ≢ 5 → done.status ≢ 6 → (done.status ≡ highest_by (ways done.ends))
-      × (list_any (λ (end : SessionEnd). end.failed) done.ends ≡ false) × (now.say_faults ≡ host.say_faults)
-  pub failed : done.status ≡ 5 → (highest_by (ways done.ends) ≢ 6)
-      × ((list_any (λ (end : SessionEnd). end.failed) done.ends ≡ true) ⊎ Rose host.say_faults now.say_faults)
+  pub report : Reported host now done.status job.journal done.journal done.ends (dump_line_of job.sizes.dump done.dump)
+      done.held
 
 -- there are as many sources, and as many sessions, as files
 pub sources_are : (sources : List (Opened SourceTold)) (n : ℕ) → files_of sources ≡ range_with_len 0 n
@@ -77,7 +87,7 @@ pub sessions_are : {W : Type 0} (tells : W → WireTold) (job : Job) (host now :
     (done : RunOutcome) → Ran tells job host now wires after done
     → length done.ends ≡ length job.names
 sessions_are tells job host now wires after done r =
-    ends_count _ _ _ _ _ _ _ _ _ r.run ∙ length-map (sources_of done.sources) (λ (source : SourceTold). source.given)
+    ends_served _ _ _ _ r.run.run ∙ length-map (sources_of done.sources) (λ (source : SourceTold). source.given)
     ∙ as_many_sources job.names host.holds (sources_of done.sources) r.of_files
 
 -- said behind a call that said nothing
@@ -101,13 +111,3 @@ counts_from (end ∷ ends) (source ∷ sources) (now ∷ nows) unread reads = (
   subst (λ n. EndFaults end.end n now) unread.0.faults reads.0,
   counts_from ends sources nows unread.1 reads.1,
 )
-
--- what a report of sessions has said and answered
-pub record Reported (old new : HostTold) (status : ℕ) (shows : Bool) (journal : List (List Entry))
-    (ends : List SessionEnd) (held : Held) : Type 0 where
-  pub said : PrintsStatus (served_text shows journal ends held) old new
-  pub statuses : IsServedStatus status
-  pub by_end : status ≢ 5 → status ≢ 6 → (status ≡ highest_by (ways ends))
-      × (list_any (λ (end : SessionEnd). end.failed) ends ≡ false) × (new.say_faults ≡ old.say_faults)
-  pub failed : status ≡ 5 → (highest_by (ways ends) ≢ 6)
-      × ((list_any (λ (end : SessionEnd). end.failed) ends ≡ true) ⊎ Rose old.say_faults new.say_faults)

@@ -1,8 +1,9 @@
 -- A run of whole requests without a fault has status 0.
-use Rattle.std.proofs.Common.{◌≡◌, ◌≢◌, ℕ, Bool, true, List, [], ◌∷◌, ◌++◌, Option, Some, None, IsSomeAnd, length, map}
-use Rattle.std.proofs.Common.{arith, refl, ap, sym, ◌∙◌, subst, append-nil, ⊎_elim}
-use Rattle.std.specs.List.{AllByRecursion}
+use Rattle.std.proofs.Common.{◌≡◌, ◌≢◌, ◌⊎◌, ℕ, Bool, true, List, [], ◌∷◌, ◌++◌, Option, Some, None, IsSomeAnd}
+use Rattle.std.proofs.Common.{length, map, arith, refl, ap, sym, ◌∙◌, subst, append-nil, ⊎_elim}
+use Rattle.std.specs.List.{AllByRecursion, list_any}
 use Rattle.std.proofs.lemmas.List.Elements.{recursion_from_All}
+use Rattle.flake_base.specs.Causes.{Rose}
 use Rattle.flake_base.specs.Reads.{IsGivenFront}
 use Rattle.flake_base.specs.Told.{HostTold, WireTold}
 use Rattle.flake_base.specs.declared.session.End.{End}
@@ -14,7 +15,8 @@ use Rattle.flake_model.proofs.Faults.{error_stays, long_stays}
 use Rattle.flake_model.proofs.OneParse.{one_parse}
 use Rattle.flake_model.specs.Session.{Session, IsSession, EndsAs, IsReadOut}
 use Rattle.command_pump.specs.Pump.{EndFaults}
-use Rattle.flake_run.specs.Task.{Job, RunTask}
+use Rattle.flake_run.specs.Dumping.{puts_failed}
+use Rattle.flake_run.specs.Task.{Job, RunTask, wires_of}
 use Rattle.flake_run.specs.Outside.{outside}
 use Rattle.flake_run.specs.Outcome.{RunOutcome, SourceTold, GaveFront, ways, sources_of, wholes_of, givens_of}
 use Rattle.flake_run.specs.Outcome.{endeds_of, read_faults_of}
@@ -22,7 +24,8 @@ use Rattle.flake_run.specs.Causes.{AreCountsOf, SomeWireFailed, status_by, highe
 use Rattle.flake_run.specs.Complete.{Complete, NothingFailed, AreRequests, MayHoldRequests}
 use Rattle.flake_run.proofs.Highest.{none_is_six}
 use Rattle.flake_run.proofs.Ran.{Ran, IsTask, sessions_are}
-use Rattle.flake_run.proofs.RanCauses.{put_or_said}
+use Rattle.flake_run.proofs.RanCauses.{some_put_or_said}
+use Rattle.flake_run.proofs.RanDump.{lines_are, puts_within}
 
 -- what begins whole requests has no other end without a fault
 clean_end : (e : End) (given rest : List ℕ) (ended : Bool) (n : ℕ) (requests other : List Words) (shown : End)
@@ -103,14 +106,18 @@ module _ {W : Type 0} (tells : W → WireTold) (job : Job) (host now : HostTold)
   as_many : length done.ends ≡ length job.names
   as_many = sessions_are tells job host now wires after done r
 
-  complete_by : NothingFailed job.names (outside host wires tells) (outside now after tells) done
+  complete_by : NothingFailed job.names (wires_of job) (outside host wires tells) (outside now after tells) done
       → AllByRecursion MayHoldRequests (sources_of done.sources) → done.status ≡ 0
   complete_by nothing whole =
-      let quiet : SomeWireFailed (length done.ends) (outside host wires tells) (outside now after tells)
-      → ⊥ = λ put. nothing.puts (put.0, omega (arith, put.1, as_many), put.2) in
+      let within = puts_within done.ends (length job.names) job.sizes.dump _ _ done.dump r.run.dumped as_many in
+      let lines = lines_are done.ends job.sizes.dump _ _ done.dump r.run.dumped in
+      let quiet : SomeWireFailed (length (puts_failed done.ends done.dump)) (outside host wires tells)
+      (outside now after tells) → ⊥ = λ put. nothing.puts (put.0, omega (arith, put.1, within), put.2) in
       let write : done.status ≢ 5 = λ five. ⊎_elim nothing.says quiet
-      (put_or_said done.ends _ _ _ r.run.faults (r.failed five).1) in
-      let by = (r.by_end write nothing.memory).0 in
+      (some_put_or_said (puts_failed done.ends done.dump) _ _ _ r.run.faults
+      (subst (λ (fs : List Bool). (list_any (λ (failed : Bool). failed) fs ≡ true)
+      ⊎ Rose host.say_faults now.say_faults) lines (r.report.failed five).1)) in
+      let by = (r.report.by_end write nothing.memory).0 in
       by ∙ whole_ends r.run.run.sessions (sources_of done.sources) done.ends (read_faults_of (sources_of done.sources))
       r.run.run.each_is r.run.run.given_is r.run.run.ended_is r.run.run.ends_are
       r.reads (recursion_from_All (λ (n : ℕ). n ≡ 0) (read_faults_of (sources_of done.sources)) nothing.reads)

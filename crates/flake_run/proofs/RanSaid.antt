@@ -1,10 +1,10 @@
 -- What a run says that served its files.
 use Rattle.std.proofs.Common.{◌≡◌, inl, inr, ℕ, List, length, ap, sym, ◌∙◌, subst}
 use Rattle.flake_base.specs.Told.{HostTold, WireTold}
-use Rattle.flake_run.specs.Task.{Job, RunTask, shows_journal}
+use Rattle.flake_run.specs.Task.{Job, RunTask}
 use Rattle.flake_run.specs.Outside.{outside}
 use Rattle.flake_run.specs.Outcome.{RunOutcome}
-use Rattle.flake_run.specs.Said.{Said, PrintsStatus, served_text, status_text}
+use Rattle.flake_run.specs.Said.{Said, PrintsStatus, status_text, text_served}
 use Rattle.flake_run.specs.declared.outcome.Detail.{Detail}
 use Rattle.flake_run.proofs.Ran.{Ran, IsTask, IsServedStatus, sessions_are}
 use Rattle.flake_run.proofs.RanUntouched.{no_ends}
@@ -23,12 +23,11 @@ pub ran_said : {W : Type 0} (tells : W → WireTold) (task : RunTask) (job : Job
     (outside now after tells) done
 ran_said tells task job host now wires after done t r = record {
   text = λ other. subst (λ text. PrintsStatus text host now)
-      (sym (served_is done.status done.detail (served_text (shows_journal task) done.journal done.ends done.held)
-      r.statuses
-      ∙ ap (λ asked. served_text (shows_journal asked) done.journal done.ends done.held) t.task_is))
-      r.said;
+      (sym (served_is done.status done.detail (text_served task done) r.report.statuses
+      ∙ ap (λ asked. text_served asked done) t.task_is))
+      r.report.said;
   no_memory = λ six none. absurd
       (no_ends done.ends (length job.names) (sessions_are tells job host now wires after done r) t.some_names none);
   served = λ some. subst (λ text. PrintsStatus text host now)
-      (sym (ap (λ asked. served_text (shows_journal asked) done.journal done.ends done.held) t.task_is)) r.said;
+      (sym (ap (λ asked. text_served asked done) t.task_is)) r.report.said;
 }

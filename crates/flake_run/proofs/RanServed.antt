@@ -41,6 +41,7 @@ ran_served tells task job host now wires after done t r =
     subst (λ t. Served t (outside host wires tells) (outside now after tells) done) (sym t.task_is) (record {
       of_files = r.of_files;
       run = r.run.run;
+      dumped = r.run.dumped;
       wires = r.run.wires;
       pool = r.pool;
       pool_is = r.pool_is;

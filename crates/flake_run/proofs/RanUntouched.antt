@@ -44,16 +44,17 @@ ran_untouched tells task job host now wires after done t r =
       wires = λ none. absurd (served none);
       journal = λ none. absurd (served none);
       pool = λ none. absurd (served none);
+      dump = λ none. absurd (served none);
       unread = λ none. absurd (served none);
       of_files = subst (λ names. AreOfFiles names host.holds (sources_of done.sources)) (sym all_names) r.of_files;
-      refused = λ status. absurd (not_refused done.status r.statuses status);
-      sources = λ status. absurd (not_refused done.status r.statuses (inl status));
-      holds = λ status. absurd (not_refused done.status r.statuses (inl status));
+      refused = λ status. absurd (not_refused done.status r.report.statuses status);
+      sources = λ status. absurd (not_refused done.status r.report.statuses (inl status));
+      holds = λ status. absurd (not_refused done.status r.report.statuses (inl status));
       other_files = λ other differs. r.files.holds other
           ∙ r.opened.holds other (subst (AreOther other) all_names differs);
-      unopened = λ status. absurd (not_refused done.status r.statuses (inl status));
+      unopened = λ status. absurd (not_refused done.status r.report.statuses (inl status));
       opens = r.files.opens ∙ r.opened.opens ∙ ap (λ n. counted_times n host.opens)
-          (sym (opens_are done.status (length done.sources) r.statuses ∙ as_many));
+          (sym (opens_are done.status (length done.sources) r.report.statuses ∙ as_many));
     }) where
       as_many : length done.sources ≡ length job.names
       as_many = sources_are done.sources (length job.names) r.files_are

@@ -1,18 +1,25 @@
 -- What `serve` says where no file was opened.
-use Rattle.std.proofs.Common.{◌≡◌, ◌⊎◌, ◌≤◌, inl, inr, ℕ, suc, ◌==◌, if◌then◌else◌, List, [], ◌∷◌, Some, None}
+use Rattle.std.proofs.Common.{◌≡◌, ◌⊎◌, ◌≤◌, inl, inr, ℕ, suc, ◌==◌, if◌then◌else◌, List, [], ◌∷◌, Option, Some, None}
 use Rattle.std.proofs.Common.{length, take, arith, refl, ap, sym, ◌∙◌, subst}
 use Rattle.std.specs.List.{range_with_len}
+use Rattle.flake_base.specs.Roomy.{Roomy}
+use Rattle.flake_base.specs.declared.journal.Entry.{Entry}
+use Rattle.flake_base.specs.declared.session.SessionEnd.{SessionEnd}
 use Rattle.check_files.specs.Named.{counted_times}
+use Rattle.pin_core.specs.declared.class.Held.{Held}
+use Rattle.pinned_pool.specs.Ends.{End as PoolEnd}
+use Rattle.serve_inputs.specs.Dumped.{DumpTold, no_dump}
 use Rattle.flake_run.specs.Does.{ServeDoes}
 use Rattle.flake_run.specs.Opening.{AreOfFiles}
-use Rattle.flake_run.specs.Task.{RunTask, names_of, shows_journal}
+use Rattle.flake_run.specs.Task.{RunTask, names_of}
 use Rattle.flake_run.specs.Outside.{Outside}
-use Rattle.flake_run.specs.Outcome.{RunOutcome, SourceTold, files_of, sources_of}
+use Rattle.flake_run.specs.Outcome.{RunOutcome, SourceTold, done, done_with, files_of, sources_of}
 use Rattle.flake_run.specs.Refusals.{RunRefused}
 use Rattle.flake_run.specs.Untouched.{Untouched}
 use Rattle.flake_run.specs.Causes.{IsRefusable}
 use Rattle.flake_run.specs.Complete.{Complete}
-use Rattle.flake_run.specs.Said.{PrintsStatus, served_text, status_text}
+use Rattle.flake_run.specs.Said.{PrintsStatus, status_text, text_served}
+use Rattle.flake_run.specs.declared.outcome.Detail.{Detail}
 use Rattle.flake_run.specs.declared.outcome.Opened.{Opened}
 use Rattle.flake_run.specs.declared.outcome.Refusal.{Refusal}
 use Rattle.flake_run.specs.declared.outcome.Refusal.TheVariants.{BadWords, Memory}
@@ -31,6 +38,15 @@ no_opens status [] n (inl one) none = ap (λ s. counted_times (if s == 2 then 1 
 no_opens status [] n (inr six) none = ap (λ s. counted_times (if s == 2 then 1 else 0) n) six
 no_opens status (source ∷ sources) n is none = absurd (cc none)
 
+-- so it is with what the outcome says of a dump, which is nothing
+pub refused_with : {W : Type 0} (refusal : Refusal) (before after : Outside W) (dump : DumpTold) (status : ℕ)
+    (detail : Detail) (ends : List SessionEnd) (journal : List (Roomy Entry)) (held : Held) (pool : Option PoolEnd)
+    (sources : List (Opened SourceTold)) → dump ≡ no_dump
+    → RunRefused refusal before after (done status detail ends journal held pool sources)
+    → RunRefused refusal before after (done_with dump status detail ends journal held pool sources)
+refused_with refusal before after dump status detail ends journal held pool sources none r =
+    subst (λ d. RunRefused refusal before after (done_with d status detail ends journal held pool sources)) (sym none) r
+
 module _ {W : Type 0} (task : RunTask) (before after : Outside W) (done : RunOutcome) where
   untouched : (refusal : Refusal) → RunRefused refusal before after done → (done.status ≡ 1) ⊎ (done.status ≡ 6)
       → Untouched task before after done
@@ -38,6 +54,7 @@ module _ {W : Type 0} (task : RunTask) (before after : Outside W) (done : RunOut
     wires = λ none. r.wires;
     journal = λ none. r.journal;
     pool = λ none. (r.pool, r.held);
+    dump = λ none. r.dump;
     unread = λ none. none_untouched (sources_of done.sources) (ap sources_of r.sources);
     of_files = subst (λ names. AreOfFiles names before.host.holds (sources_of done.sources))
         (sym (no_names (names_of task) done.sources r.sources))
@@ -72,6 +89,7 @@ module _ {W : Type 0} (task : RunTask) (before after : Outside W) (done : RunOut
       opened = λ two six name. r.files.open_faults name;
       reads = λ some. absurd (some r.ends);
       write_fault = λ five. absurd (omega (arith, five, r.status));
+      dump = λ six some. absurd (some r.ends);
       written = λ status. absurd (not_quiet done.status r.status status);
       detail = λ two. absurd (omega (arith, two, r.status));
       no_detail = λ other. r.detail;
@@ -81,8 +99,7 @@ module _ {W : Type 0} (task : RunTask) (before after : Outside W) (done : RunOut
     complete = by task bad;
     said = record {
       text = λ other. subst (λ text. PrintsStatus text before.host after.host)
-          (sym (ap (λ s. status_text s done.detail
-          (served_text (shows_journal task) done.journal done.ends done.held)) r.status)) r.said;
+          (sym (ap (λ s. status_text s done.detail (text_served task done)) r.status)) r.said;
       no_memory = λ six. absurd (omega (arith, six, r.status));
       served = λ some. absurd (some r.ends);
     };
@@ -122,6 +139,7 @@ module _ {W : Type 0} (task : RunTask) (before after : Outside W) (done : RunOut
       opened = λ two six. absurd (six r.status);
       reads = λ some. absurd (some r.ends);
       write_fault = λ five. absurd (omega (arith, five, r.status));
+      dump = λ six some. absurd (some r.ends);
       written = λ status. not_written done.status (inr r.status) status;
       detail = λ two. absurd (omega (arith, two, r.status));
       no_detail = λ other. r.detail;

@@ -1,6 +1,6 @@
 -- What a run of generated requests comes to.
 use Rattle.std.proofs.Common.{◌≡◌, ◌≢◌, ◌⊎◌, ◌≤◌, inl, inr, ℕ, ◌+◌, suc, Bool, true, false, List, [], ◌∷◌, Option, Some}
-use Rattle.std.proofs.Common.{None, length, map, arith, refl, sym, ap, ◌∙◌, subst}
+use Rattle.std.proofs.Common.{None, length, map, drop, arith, refl, sym, ap, ◌∙◌, subst}
 use Rattle.std.specs.Prelude.{max, IfSome}
 use Rattle.std.specs.Borrow.{Bor}
 use Rattle.std.specs.List.{AllByRecursion, list_any}
@@ -12,11 +12,14 @@ use Rattle.flake_base.specs.declared.journal.Entry.{Entry}
 use Rattle.flake_base.specs.declared.session.End.{End}
 use Rattle.flake_base.specs.declared.session.End.TheVariants.{Clean, Memory}
 use Rattle.flake_base.specs.declared.session.SessionEnd.{SessionEnd}
+use Rattle.flake_model.specs.Command.{Command}
 use Rattle.flake_model.specs.Run.{all_commands, missing_writes}
+use Rattle.flake_model.specs.Session.{Session}
+use Rattle.std.proofs.lemmas.List.{length-map}
 use Rattle.flake_model.specs.Wire.{faults_told}
 use Rattle.pin_core.specs.declared.class.Held.{Held}
 use Rattle.pinned_pool.specs.Ends.{End as PoolEnd}
-use Rattle.serve_model.specs.Replies.{all_replies}
+use Rattle.serve_model.specs.Replies.{all_replies, all_replies_from}
 use Rattle.serve_inputs.specs.Whole.{SentWhole, raised}
 use Rattle.run_resources.specs.Opened.{pool_sizes}
 use Rattle.run_resources.specs.Ran.{AllWhole}
@@ -54,6 +57,13 @@ sums_more : (count n shown sum : ℕ) → shown ≡ raised 0 n → raised 0 coun
     ≡ raised 0 (n + sum)
 sums_more count n shown sum is rest = omega (arith, is, rest)
 
+-- there are as many lists of replies as sessions
+as_many_replies : (commands : List (List Command)) (journal : List (List Entry)) (number : ℕ) (sessions : List Session)
+    → length (all_replies_from commands journal number sessions) ≡ length sessions
+as_many_replies commands journal number [] = refl
+as_many_replies commands journal number (session ∷ sessions) =
+    ap suc (as_many_replies commands journal (number + 1) sessions)
+
 module _ {W : Type 0} (put_may : W → Bor (List ℕ) → (W × Bool) → Type 0) (flush_may : W → (W × Bool) → Type 0)
     (told : W → WireTold) (says : AreTold put_may flush_may told) where
   whole_told : (replies : Bool × List (List ℕ)) (shown : ℕ) (old new : W)
@@ -74,18 +84,19 @@ module _ {W : Type 0} (put_may : W → Bor (List ℕ) → (W × Bool) → Type 0
 
   all_told : (replies : List (Bool × List (List ℕ))) (shown : List ℕ) (olds news : List W)
       → AllWhole put_may flush_may replies shown olds news
+      → drop (length replies) news ≡ drop (length replies) olds
       → AreExact replies shown (map told olds) (map told news)
-  all_told [] shown olds news is = record {
+  all_told [] shown olds news is past = record {
     counts = [];
-    wholes = (refl, ap (map told) is.1);
-    sums = ap (λ ns. raised 0 (sum_of ns)) is.0;
+    wholes = (refl, ap (map told) past);
+    sums = ap (λ ns. raised 0 (sum_of ns)) is;
   }
-  all_told (replies ∷ more) [] olds news is = absurd is
-  all_told (replies ∷ more) (count ∷ shown) [] news is = absurd is
-  all_told (replies ∷ more) (count ∷ shown) (old ∷ olds) [] is = absurd is
-  all_told (replies ∷ more) (count ∷ shown) (old ∷ olds) (new ∷ news) is =
+  all_told (replies ∷ more) [] olds news is past = absurd is
+  all_told (replies ∷ more) (count ∷ shown) [] news is past = absurd is
+  all_told (replies ∷ more) (count ∷ shown) (old ∷ olds) [] is past = absurd is
+  all_told (replies ∷ more) (count ∷ shown) (old ∷ olds) (new ∷ news) is past =
       let this = whole_told replies count old new is.0 in
-      let rest = all_told more shown olds news is.1 in
+      let rest = all_told more shown olds news is.1 past in
       record {
         counts = this.bytes ∷ rest.counts;
         wholes = (this.sent, rest.wholes);
@@ -99,8 +110,13 @@ module _ {W : Type 0} (put_may : W → Bor (List ℕ) → (W × Bool) → Type 0
       → IsGeneratedRun task givens endeds ends shown journal pool olds news told
   generated_to task givens endeds ends shown journal pool olds news ran =
       let z = pool_sizes task.sessions (generated_sizes task) in
-      let exact = all_told (all_replies ran.ran.ran.served.sessions journal) shown olds news ran.ran.wholes in
       let run = served_to put_may flush_may told says z givens endeds ends shown journal pool olds news ran.ran in
+      let was = ran.ran.ran.served in
+      let as_many : length ends ≡ length (all_replies was.sessions journal) = sym (ap length was.ends_are)
+      ∙ length-map was.sessions (λ (session : Session). session.end)
+      ∙ sym (as_many_replies (all_commands was.sessions) journal 0 was.sessions) in
+      let exact = all_told (all_replies was.sessions journal) shown olds news ran.ran.wholes
+      (subst (λ n. drop n news ≡ drop n olds) as_many run.others) in
       let same : run.run.sessions ≡ ran.ran.ran.served.sessions = served_sessions put_may flush_may told says z
       givens endeds ends shown journal pool olds news ran.ran in
       record {

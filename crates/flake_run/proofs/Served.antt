@@ -1,24 +1,26 @@
 -- Served sources are a served run of their sessions.
-use Rattle.std.proofs.Common.{◌≡◌, ℕ, ◌+◌, Bool, true, false, List, [], ◌∷◌, length, map, drop, refl, sym, ap}
-use Rattle.std.proofs.Common.{◌∙◌, subst}
+use Rattle.std.proofs.Common.{◌≡◌, ℕ, ◌+◌, ◌++◌, Bool, true, false, if◌then◌else◌, List, [], ◌∷◌, Option, None, length}
+use Rattle.std.proofs.Common.{map, drop, refl, sym, ap, ◌∙◌, subst, append-nil}
 use Rattle.std.specs.Borrow.{Bor}
-use Rattle.std.proofs.lemmas.List.{length-map}
+use Rattle.std.proofs.lemmas.List.{length-map, map-append}
 use Rattle.flake_base.specs.Growth.{Grew}
 use Rattle.flake_base.specs.Told.{WireTold}
 use Rattle.flake_base.specs.declared.journal.Entry.{Entry}
 use Rattle.flake_base.specs.declared.session.SessionEnd.{SessionEnd}
 use Rattle.flake_model.specs.Command.{Command}
-use Rattle.flake_model.specs.Run.{all_commands, wire_texts_from, wire_texts}
+use Rattle.flake_model.specs.Run.{WasServed, all_commands, wire_texts_from, wire_texts}
 use Rattle.flake_model.specs.Session.{Session}
 use Rattle.flake_model.specs.Wire.{EachWire, WiresGrew, WireFaultIs, FaultsAre, KeptIs, KeptAre, faults_told}
 use Rattle.pin_core.specs.declared.sizes.Sizes.{Sizes}
 use Rattle.pinned_pool.specs.Ends.{End}
 use Rattle.run_resources.specs.Ran.{AllSent}
+use Rattle.serve_inputs.specs.Dumped.{DumpTold, IsDumpTold, dump_texts, no_dump}
 use Rattle.serve_inputs.specs.Ran.{RanAll}
 use Rattle.serve_model.specs.Shown.{WasRun}
 use Rattle.wire_told.specs.Sent.{WasSent, AreTold}
 use Rattle.wire_told.proofs.Sent.{sends_told, flush_told}
-use Rattle.flake_run.specs.Serving.{IsServedRun}
+use Rattle.flake_run.specs.Dumping.{dump_failed, puts_failed}
+use Rattle.flake_run.specs.Serving.{IsServedRun, IsDumpingRun}
 
 -- what each change of a wire says of something that the wire tells, by something of its session
 each_told : {A B S V : Type 0} (Changes : A → B → B → Type 0) (Says : S → V → V → Type 0) (of : A → S) (tells : B → V)
@@ -51,6 +53,17 @@ failed_are : (commands : List (List Command)) (journal : List (List Entry)) (num
 failed_are commands journal number [] = refl
 failed_are commands journal number (session ∷ sessions) = ap (λ (rest : List Bool). session.end.failed ∷ rest)
     (failed_are commands journal (number + 1) sessions)
+
+-- whether that of a dump did
+dump_fails : (commands : List (List Command)) (journal : List (List Entry)) (dump : DumpTold)
+    → map (λ (text : Bool × List ℕ). text.0) (dump_texts commands journal dump) ≡ dump_failed dump
+dump_fails commands journal dump = by dump.taken
+  where
+    by : (taken : Bool)
+        → map (λ (text : Bool × List ℕ). text.0)
+        (dump_texts commands journal (record dump { taken = taken })) ≡ dump_failed (record dump { taken = taken })
+    by true = refl
+    by false = refl
 
 -- a wire was sent a text, and was flushed behind it
 abbrev WasPut : {W : Type 0} (told : W → WireTold) → (Bool × List ℕ) → W → W → Type 0
@@ -117,27 +130,73 @@ module _ {W : Type 0} (put_may : W → Bor (List ℕ) → (W × Bool) → Type 0
 
   pub served_to : (z : Sizes) (givens : List (List ℕ)) (endeds : List Bool) (ends : List SessionEnd) (counts : List ℕ)
       (journal : List (List Entry)) (pool : End) (olds news : List W)
-      → RanAll put_may flush_may z givens endeds ends counts journal pool olds news
+      → RanAll put_may flush_may z givens endeds ends counts journal pool None no_dump olds news
       → IsServedRun z givens endeds ends journal pool olds news told
-  served_to z givens endeds ends counts journal pool olds news ran = run_told z givens endeds ends journal pool olds
-      news ran.ran ran.sends
+  served_to z givens endeds ends counts journal pool olds news ran =
+      run_told z givens endeds ends journal pool olds news ran.ran
+      (subst (λ texts. AllSent put_may flush_may texts olds news)
+      (append-nil (wire_texts ran.ran.served.sessions journal)) ran.sends)
 
   pub served_sessions : (z : Sizes) (givens : List (List ℕ)) (endeds : List Bool) (ends : List SessionEnd)
       (counts : List ℕ) (journal : List (List Entry)) (pool : End) (olds news : List W)
-      → (ran : RanAll put_may flush_may z givens endeds ends counts journal pool olds news)
+      → (ran : RanAll put_may flush_may z givens endeds ends counts journal pool None no_dump olds news)
       → (served_to z givens endeds ends counts journal pool olds news ran).run.sessions ≡ ran.ran.served.sessions
   unfolding served_to
-  served_sessions z givens endeds ends counts journal pool olds news ran = run_sessions z givens endeds ends journal
-      pool olds news ran.ran ran.sends
+  served_sessions z givens endeds ends counts journal pool olds news ran =
+      run_sessions z givens endeds ends journal pool olds news ran.ran
+      (subst (λ texts. AllSent put_may flush_may texts olds news)
+      (append-nil (wire_texts ran.ran.served.sessions journal)) ran.sends)
+
+  -- with what a dump was sent behind them
+  pub dumping_to : (z : Sizes) (givens : List (List ℕ)) (endeds : List Bool) (ends : List SessionEnd)
+      (counts : List ℕ) (journal : List (List Entry)) (pool : End) (asked : Option ℕ) (dump : DumpTold)
+      (olds news : List W) → RanAll put_may flush_may z givens endeds ends counts journal pool asked dump olds news
+      → IsDumpingRun z givens endeds ends journal pool asked dump olds news told
+  dumping_to z givens endeds ends counts journal pool asked dump olds news ran =
+      let was = ran.ran.served in
+      let first = wire_texts was.sessions journal in
+      let behind = dump_texts (all_commands was.sessions) journal dump in
+      let texts = first ++ behind in
+      let each : EachWire (WasPut told) texts olds news = all_put texts olds news ran.sends in
+      let failed : map (λ (text : Bool × List ℕ). text.0) texts ≡ puts_failed ends dump =
+      map-append (λ (text : Bool × List ℕ). text.0) first behind
+      ∙ ap (λ (fs : List Bool). fs ++ map (λ (text : Bool × List ℕ). text.0) behind)
+      (failed_are (all_commands was.sessions) journal 0 was.sessions
+      ∙ ap (map (λ (end : SessionEnd). end.failed)) was.ends_are)
+      ∙ ap (λ (fs : List Bool). map (λ (end : SessionEnd). end.failed) ends ++ fs)
+      (dump_fails (all_commands was.sessions) journal dump) in
+      let as_many : length texts ≡ length (puts_failed ends dump) =
+      sym (length-map texts (λ (text : Bool × List ℕ). text.0)) ∙ ap length failed in
+      record {
+        run = was;
+        dumped = ran.dumped;
+        wires = subst (λ ts. WiresGrew ts (map (λ w. (told w).put) olds) (map (λ w. (told w).put) news))
+            (all_as_is texts)
+            (each_told (WasPut told) (λ (text : Bool × List ℕ) (old new : List ℕ). Grew text.0 text.1 old new)
+            (λ (text : Bool × List ℕ). text) (λ w. (told w).put) (λ text old new put. put.0.put) texts olds news each);
+        counted = ran.ran.counted;
+        faults = subst (λ fs. FaultsAre fs (map (λ w. faults_told (told w)) olds)
+            (map (λ w. faults_told (told w)) news)) failed
+            (each_told (WasPut told) WireFaultIs (λ (text : Bool × List ℕ). text.0) (λ w. faults_told (told w))
+            (λ text old new put. put.0.faults) texts olds news each);
+        flushed = subst (λ fs. KeptAre fs (map (λ w. (told w).kept) olds) (map (λ w. (told w).kept) news)) failed
+            (each_told (WasPut told) KeptIs (λ (text : Bool × List ℕ). text.0) (λ w. (told w).kept)
+            (λ text old new put. put.1) texts olds news each);
+        others = subst (λ n. drop n news ≡ drop n olds) as_many (past (WasPut told) texts olds news each);
+      }
 
 -- there are as many ends as sources
+pub ends_served : (givens : List (List ℕ)) (endeds : List Bool) (ends : List SessionEnd) (journal : List (List Entry))
+    → WasServed givens endeds ends journal → length ends ≡ length givens
+ends_served givens endeds ends journal run =
+    let sessions = run.sessions in
+    let end : length sessions ≡ length ends = sym (length-map sessions (λ (session : Session). session.end))
+    ∙ ap length run.ends_are in
+    let given : length sessions ≡ length givens = sym (length-map sessions (λ (session : Session). session.given))
+    ∙ ap length run.given_is in
+    sym end ∙ given
+
 pub ends_count : {W : Type 0} (z : Sizes) (givens : List (List ℕ)) (endeds : List Bool) (ends : List SessionEnd)
     (journal : List (List Entry)) (pool : End) (olds news : List W) (told : W → WireTold)
     → IsServedRun z givens endeds ends journal pool olds news told → length ends ≡ length givens
-ends_count z givens endeds ends journal pool olds news told r =
-    let sessions = r.run.sessions in
-    let end : length sessions ≡ length ends = sym (length-map sessions (λ (session : Session). session.end))
-    ∙ ap length r.run.ends_are in
-    let given : length sessions ≡ length givens = sym (length-map sessions (λ (session : Session). session.given))
-    ∙ ap length r.run.given_is in
-    sym end ∙ given
+ends_count z givens endeds ends journal pool olds news told r = ends_served givens endeds ends journal r.run

@@ -10,14 +10,14 @@ use Rattle.flake_base.specs.Told.{HostTold, WireTold}
 use Rattle.check_files.specs.Named.{AreOther, counted_times}
 use Rattle.flake_run.specs.Does.{ServeDoes}
 use Rattle.flake_run.specs.Opening.{AreOfFiles, FailsToOpen}
-use Rattle.flake_run.specs.Task.{Job, RunTask}
+use Rattle.flake_run.specs.Task.{Job, RunTask, wires_of}
 use Rattle.flake_run.specs.Outside.{outside}
 use Rattle.flake_run.specs.Outcome.{RunOutcome, SourceTold, files_of, sources_of}
 use Rattle.flake_run.specs.Refusals.{RunRefused}
 use Rattle.flake_run.specs.Untouched.{Untouched}
 use Rattle.flake_run.specs.Causes.{Causes, OpenFailed}
 use Rattle.flake_run.specs.Complete.{Complete, NothingFailed}
-use Rattle.flake_run.specs.Said.{Said, PrintsStatus, served_text, status_text}
+use Rattle.flake_run.specs.Said.{Said, PrintsStatus, status_text, text_served}
 use Rattle.flake_run.specs.declared.outcome.Detail.TheVariants.{File}
 use Rattle.flake_run.specs.declared.outcome.Refusal.TheVariants.{OpenFault}
 use Rattle.flake_run.specs.declared.outcome.Opened.{Opened}
@@ -69,6 +69,7 @@ module _ {W : Type 0} (tells : W → WireTold) (task : RunTask) (job : Job) (hos
     wires = λ none. u.refused.wires;
     journal = λ none. u.refused.journal;
     pool = λ none. (u.refused.pool, u.refused.held);
+    dump = λ none. u.refused.dump;
     unread = λ none. u.fails.opened.unread;
     of_files = subst (λ n. AreOfFiles (take n job.names) host.holds (sources_of sources)) as_many
         u.fails.opened.of_files;
@@ -94,6 +95,7 @@ module _ {W : Type 0} (tells : W → WireTold) (task : RunTask) (job : Job) (hos
     opened = λ other. absurd (other two);
     reads = λ some. absurd (some u.refused.ends);
     write_fault = λ five. absurd (omega (arith, five, two));
+    dump = λ six some. absurd (some u.refused.ends);
     written = λ status. not_written before.status (inl two) status;
     detail = λ is. u.refused.detail;
     no_detail = λ other. absurd (other two);
@@ -112,7 +114,7 @@ module _ {W : Type 0} (tells : W → WireTold) (task : RunTask) (job : Job) (hos
     whole = λ enough nothing whole. absurd (none nothing);
     told = λ enough nothing distinct told. absurd (none nothing);
   } where
-    none : NothingFailed job.names (outside host wires tells) (outside now after tells)
+    none : NothingFailed job.names (wires_of job) (outside host wires tells) (outside now after tells)
         (record before { sources = sources }) → ⊥
     none nothing =
         at_place (λ (name : List ℕ). Rose (host.open_faults name) (now.open_faults name) → ⊥) job.names
@@ -120,10 +122,10 @@ module _ {W : Type 0} (tells : W → WireTold) (task : RunTask) (job : Job) (hos
         (recursion_from_All (λ (name : List ℕ). Rose (host.open_faults name) (now.open_faults name) → ⊥) job.names
         nothing.opens) name_is rose_since
 
-  text_is : status_text before.status before.detail (served_text job.journal before.journal before.ends before.held)
+  text_is : status_text before.status before.detail (text_served (Some job) before)
       ≡ status_text 2 (File (length sources)) []
-  text_is = ap (λ s. status_text s before.detail (served_text job.journal before.journal before.ends before.held)) two
-      ∙ ap (λ d. status_text 2 d (served_text job.journal before.journal before.ends before.held)) u.refused.detail
+  text_is = ap (λ s. status_text s before.detail (text_served (Some job) before)) two
+      ∙ ap (λ d. status_text 2 d (text_served (Some job) before)) u.refused.detail
 
   unopened_said : Said (Some job) (outside host wires tells) (outside now after tells)
       (record before { sources = sources })

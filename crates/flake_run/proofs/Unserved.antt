@@ -43,6 +43,7 @@ module _ {W : Type 0} (tells : W → WireTold) (task : RunTask) (job : Job) (hos
     wires = λ none. u.refused.wires;
     journal = λ none. u.refused.journal;
     pool = λ none. (u.refused.pool, u.refused.held);
+    dump = λ none. u.refused.dump;
     unread = λ none. u.opened.unread;
     of_files = subst (λ names. AreOfFiles names host.holds (sources_of sources)) (sym all_names) u.opened.of_files;
     refused = λ status. u.refused.ends;
@@ -68,6 +69,7 @@ module _ {W : Type 0} (tells : W → WireTold) (task : RunTask) (job : Job) (hos
     opened = λ two other. absurd (other six);
     reads = λ some. absurd (some u.refused.ends);
     write_fault = λ five. absurd (omega (arith, five, six));
+    dump = λ other some. absurd (some u.refused.ends);
     written = λ status. not_written before.status (inr six) status;
     detail = λ two. absurd (omega (arith, two, six));
     no_detail = λ other. u.refused.detail;

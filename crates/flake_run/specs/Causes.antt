@@ -1,6 +1,6 @@
 -- When a run answers what.
 use Rattle.std.specs.Prelude.{◌≡◌, ◌≢◌, ◌⊎◌, ◌≤◌, ◌<◌, ◌∷◌, [], ℕ, List, length, max, slice_get, slice_index_or}
-use Rattle.std.specs.Prelude.{All, IsNone, IfSome, IsSomeAnd}
+use Rattle.std.specs.Prelude.{All, IsNone, IfSome, IsSomeAnd, None, true}
 use Rattle.std.specs.List.{range_with_len}
 use Rattle.flake_base.specs.Causes.{Rose}
 use Rattle.flake_base.specs.Told.{HostTold}
@@ -8,7 +8,8 @@ use Rattle.flake_base.specs.declared.session.End.{End}
 use Rattle.flake_base.specs.declared.session.End.TheVariants.{Clean, Protocol, Truncated, TooLong, ReadFault, Memory}
 use Rattle.flake_base.specs.declared.session.End.TheVariants.{Left}
 use Rattle.command_pump.specs.Pump.{EndFaults}
-use Rattle.flake_run.specs.Task.{RunTask, names_of}
+use Rattle.flake_run.specs.Dumping.{puts_failed}
+use Rattle.flake_run.specs.Task.{RunTask, dump_of, names_of, wires_needed}
 use Rattle.flake_run.specs.Outside.{Outside, wire_faults}
 use Rattle.flake_run.specs.Outcome.{RunOutcome, ways, files_of, sources_of, read_faults_of}
 use Rattle.flake_run.specs.declared.outcome.Detail.{Detail}
@@ -51,9 +52,9 @@ OpenFailed names (File file) old new =
     IsSomeAnd (slice_get names file) (λ name. Rose (old.open_faults name) (new.open_faults name))
 OpenFailed names detail old new = ⊥
 
--- there is no task, or not a wire for each file
+-- there is no task, or not a wire for each file and the dump
 abbrev pub IsRefusable : {W : Type 0} → RunTask → Outside W → Type 0
-IsRefusable task before = IsNone task ⊎ (length before.wires < length (names_of task))
+IsRefusable task before = IsNone task ⊎ (length before.wires < wires_needed task)
 
 pub record Causes {W : Type 0} (task : RunTask) (before after : Outside W) (done : RunOutcome) : Type 0 where
   pub statuses : (done.status ≡ 0) ⊎ (done.status ≡ 1) ⊎ (done.status ≡ 2) ⊎ (done.status ≡ 3)
@@ -65,7 +66,7 @@ pub record Causes {W : Type 0} (task : RunTask) (before after : Outside W) (done
   pub sessions : (done.ends ≡ []) ⊎ (length done.ends ≡ length (names_of task))
   -- the status is the highest by the ends, where nothing else failed
   pub by_end : done.ends ≢ [] → done.status ≢ 5 → done.status ≢ 6 → done.status ≡ highest_by (ways done.ends)
-  -- 1 comes where the words are bad words or there are fewer wires than files
+  -- 1 comes where the words are bad words or there are fewer wires than files, and one for the dump
   pub bad_words : done.status ≡ 1 → IsRefusable task before
   -- and there nothing else comes, but that memory was wanting
   pub refused : done.status ≢ 6 → IsRefusable task before → done.status ≡ 1
@@ -78,7 +79,10 @@ pub record Causes {W : Type 0} (task : RunTask) (before after : Outside W) (done
   pub reads : done.ends ≢ [] → AreCountsOf (ways done.ends) (read_faults_of (sources_of done.sources))
   -- 5 only where a put, a flush or a say failed, and memory was not wanting
   pub write_fault : done.status ≡ 5 → All (λ way. status_by way ≢ 6) (ways done.ends)
-      × (Rose before.host.say_faults after.host.say_faults ⊎ SomeWireFailed (length done.ends) before after)
+      × (Rose before.host.say_faults after.host.say_faults
+      ⊎ SomeWireFailed (length (puts_failed done.ends done.dump)) before after)
+  -- unless memory was wanting, a dump that was asked for was taken
+  pub dump : done.status ≢ 6 → done.ends ≢ [] → dump_of task ≢ None → done.dump.taken ≡ true
   -- and with 0, 3 and 4 none did
   pub written : (done.status ≡ 0) ⊎ (done.status ≡ 3) ⊎ (done.status ≡ 4)
       → (after.host.say_faults ≡ before.host.say_faults) × (wire_faults after ≡ wire_faults before)

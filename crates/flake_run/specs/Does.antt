@@ -1,7 +1,8 @@
 -- What a run does, by the command that its words name.
-use Rattle.std.specs.Prelude.{◌≢◌, List, [], String}
+use Rattle.std.specs.Prelude.{◌≡◌, ◌≢◌, List, [], String}
 use Rattle.std.specs.Global.{Global}
 use Rattle.gen_words.specs.Task.{generated_task_of}
+use Rattle.serve_inputs.specs.Dumped.{no_dump}
 use Rattle.serve_words.specs.Check.{check_of}
 use Rattle.serve_words.specs.Join.{join_of}
 use Rattle.serve_words.specs.Named.{name_of}
@@ -35,14 +36,17 @@ pub record ServeDoes {W : Type 0} (task : RunTask) (before after : Outside W) (d
   -- what is said of it
   pub said : Said task before after done
 
--- what each command does
+-- what each command does; `serve` alone dumps
 abbrev pub CommandDoes : {W : Type 0} → CommandName → List (String Global) → Outside W → Outside W → RunOutcome
     → Type 0
 CommandDoes Serve words before after done = ServeDoes (run_task_of words) before after done
-CommandDoes Check words before after done = Checked (check_of (word_texts words)) before after done
-CommandDoes Gen words before after done = Generated (generated_task_of (word_texts words)) before after done
-CommandDoes Drive words before after done = Drove (drive_job_of words) before after done
-CommandDoes Join words before after done = Joined (join_of (word_texts words)) before after done
+CommandDoes Check words before after done =
+    Checked (check_of (word_texts words)) before after done × (done.dump ≡ no_dump)
+CommandDoes Gen words before after done =
+    Generated (generated_task_of (word_texts words)) before after done × (done.dump ≡ no_dump)
+CommandDoes Drive words before after done = Drove (drive_job_of words) before after done × (done.dump ≡ no_dump)
+CommandDoes Join words before after done =
+    Joined (join_of (word_texts words)) before after done × (done.dump ≡ no_dump)
 
 -- the command is the one that the first word names
 abbrev pub RunDoes : {W : Type 0} → List (String Global) → Outside W → Outside W → RunOutcome → Type 0

@@ -15,7 +15,7 @@ pub record DriveJob : Type 0 where
   pub sizes : Sizes
 
 abbrev pub drive_job : words.Drive → DriveJob
-drive_job task = record { names = task.files; sizes = run_sizes task.sizes }
+drive_job task = record { names = task.files; sizes = run_sizes None task.sizes }
 
 -- none where the words are bad words
 abbrev pub drive_job_of : List (String Global) → Option DriveJob
@@ -23,7 +23,7 @@ drive_job_of typed = option_map drive_job (words.drive_of (word_texts typed))
 
 -- the task, as the code holds it
 abbrev pub shown_job : DriveTask → DriveJob
-shown_job task = record { names = map (λ file. file.now) task.files.items; sizes = run_sizes task.sizes }
+shown_job task = record { names = map (λ file. file.now) task.files.items; sizes = run_sizes None task.sizes }
 
 -- the files whose requests are served: all but the first, which is the schedule's
 abbrev pub served_names : DriveJob → List (List ℕ)

@@ -2,6 +2,7 @@ pub mod Serving
 pub mod Opening
 pub mod Refusals
 pub mod Task
+pub mod Dumping
 pub mod Outside
 pub mod Outcome
 pub mod Served

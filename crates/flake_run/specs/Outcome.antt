@@ -8,6 +8,7 @@ use Rattle.flake_base.specs.declared.session.SessionEnd.{SessionEnd}
 use Rattle.pin_core.specs.declared.class.Held.{Held}
 use Rattle.pinned_pool.specs.Ends.{End as PoolEnd}
 use Rattle.flake_base.specs.Histories.{histories}
+use Rattle.serve_inputs.specs.Dumped.{DumpTold, no_dump}
 use Rattle.flake_run.specs.declared.outcome.Detail.{Detail}
 use Rattle.flake_run.specs.declared.outcome.Opened.{Opened}
 
@@ -42,19 +43,27 @@ pub record RunOutcome : Type 0 where
   -- how many buffers are held, and the closed pool, where something was served
   pub held : Held
   pub pool : Option PoolEnd
+  -- what came of the dump that was asked for
+  pub dump : DumpTold
   pub sources : List (Opened SourceTold)
 
-abbrev pub done : ℕ → Detail → List SessionEnd → List (Roomy Entry) → Held → Option PoolEnd → List (Opened SourceTold)
-    → RunOutcome
-done status detail ends journal held pool sources = record {
+abbrev pub done_with : DumpTold → ℕ → Detail → List SessionEnd → List (Roomy Entry) → Held → Option PoolEnd
+    → List (Opened SourceTold) → RunOutcome
+done_with dump status detail ends journal held pool sources = record {
   status = status;
   detail = detail;
   ends = ends;
   journal = histories journal;
   held = held;
   pool = pool;
+  dump = dump;
   sources = sources;
 }
+
+-- without a dump
+abbrev pub done : ℕ → Detail → List SessionEnd → List (Roomy Entry) → Held → Option PoolEnd → List (Opened SourceTold)
+    → RunOutcome
+done status detail ends journal held pool sources = done_with no_dump status detail ends journal held pool sources
 
 abbrev pub none_held : Held
 none_held = record { small = 0; large = 0 }

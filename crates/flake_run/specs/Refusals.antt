@@ -1,6 +1,7 @@
 -- Why nothing was served, and what a run that served nothing has done.
 use Rattle.std.specs.Prelude.{◌≡◌, ℕ, ◌<◌, List, [], None, codes}
 use Rattle.flake_model.specs.Said.{said_line}
+use Rattle.serve_inputs.specs.Dumped.{no_dump}
 use Rattle.flake_run.specs.Outside.{Outside, LeavesFiles}
 use Rattle.flake_run.specs.Outcome.{RunOutcome, none_held}
 use Rattle.flake_run.specs.Said.{PrintsStatus, unopened_text}
@@ -38,6 +39,7 @@ pub record RunRefused {W : Type 0} (refusal : Refusal) (before after : Outside W
   pub journal : done.journal ≡ []
   pub held : done.held ≡ none_held
   pub pool : done.pool ≡ None
+  pub dump : done.dump ≡ no_dump
   pub sources : done.sources ≡ []
   pub wires : after.wires ≡ before.wires
   pub said : PrintsStatus (refusal_text refusal) before.host after.host

@@ -1,5 +1,5 @@
 -- What a run says of what it served.
-use Rattle.std.specs.Prelude.{◌≡◌, ◌≢◌, ◌≤◌, Some, length, map, drop, All}
+use Rattle.std.specs.Prelude.{◌≡◌, ◌≢◌, ◌≤◌, ◌++◌, Some, length, drop, All}
 use Rattle.std.specs.List.{range_with_len}
 use Rattle.flake_base.specs.declared.session.End.TheVariants.{Left}
 use Rattle.flake_model.specs.Run.{WasServed, all_commands, missing_writes, wire_texts}
@@ -11,7 +11,9 @@ use Rattle.serve_model.specs.Demand.{demand_of}
 use Rattle.serve_model.specs.Shown.{IsCounted}
 use Rattle.check_files.specs.Named.{counted_times}
 use Rattle.flake_run.specs.Opening.{AreOfFiles}
-use Rattle.flake_run.specs.Task.{RunTask, names_of, pool_of, shards_of}
+use Rattle.serve_inputs.specs.Dumped.{IsDumpTold, dump_texts}
+use Rattle.flake_run.specs.Dumping.{puts_failed}
+use Rattle.flake_run.specs.Task.{RunTask, dump_of, names_of, pool_of, shards_of}
 use Rattle.flake_run.specs.Outside.{Outside, put_on, kept_by, wire_faults}
 use Rattle.flake_run.specs.Outcome.{RunOutcome, ways, files_of, sources_of, givens_of, endeds_of}
 
@@ -20,9 +22,13 @@ pub record Served {W : Type 0} (task : RunTask) (before after : Outside W) (done
   pub of_files : AreOfFiles (names_of task) before.host.holds (sources_of done.sources)
   -- the requests were what these gave, and the journal has the parts of them that were run, in one history
   pub run : WasServed (givens_of (sources_of done.sources)) (endeds_of (sources_of done.sources)) done.ends done.journal
-  -- what was put on a wire grew by the texts of its session's replies, which the journal gives; or by a front of them,
-  -- where it failed
-  pub wires : WiresGrew (wire_texts run.sessions done.journal) (put_on before) (put_on after)
+  -- a dump that was taken is of the journal, at a point of each shard: there the first session had made the calls below
+  -- the one that was asked for, and no other
+  pub dumped : IsDumpTold (dump_of task) (all_commands run.sessions) done.journal done.dump
+  -- what was put on a wire grew by the texts of its session's replies, which the journal gives, and what was put on the
+  -- wire behind them by that of the dump; or by a front of them, where it failed
+  pub wires : WiresGrew (wire_texts run.sessions done.journal
+      ++ dump_texts (all_commands run.sessions) done.journal done.dump) (put_on before) (put_on after)
   -- what the closed pool shows by the journal: a buffer is held for each fragment of a final value, as many were
   -- claimed as the commands may claim at most, and a write without an entry found no free buffer
   pub pool : End
@@ -33,11 +39,12 @@ pub record Served {W : Type 0} (task : RunTask) (before after : Outside W) (done
   pub none_missing : ((class : Class) → demand_of class (all_commands run.sessions) ≤ count_of (pool_of task) class)
       → missing_writes run.sessions done.journal ≡ 0
   -- a wire that didn't fail keeps none of them back
-  pub flushed : KeptAre (map (λ end. end.failed) done.ends) (kept_by before) (kept_by after)
-  -- a session failed where its wire's count of faults rose, and else that count is as it was
-  pub faults : FaultsAre (map (λ end. end.failed) done.ends) (wire_faults before) (wire_faults after)
-  -- the wires past the sessions are as handed in
-  pub others : drop (length done.ends) after.wires ≡ drop (length done.ends) before.wires
+  pub flushed : KeptAre (puts_failed done.ends done.dump) (kept_by before) (kept_by after)
+  -- a session failed where its wire's count of faults rose, and else that count is as it was; so it is of the dump
+  pub faults : FaultsAre (puts_failed done.ends done.dump) (wire_faults before) (wire_faults after)
+  -- the wires past the sessions, and past the dump that was taken, are as handed in
+  pub others : drop (length (puts_failed done.ends done.dump)) after.wires
+      ≡ drop (length (puts_failed done.ends done.dump)) before.wires
   -- each file has its session, and each shard its history
   pub sessions : length done.ends ≡ length (names_of task)
   pub shards : length done.journal ≡ shards_of task

@@ -1,9 +1,9 @@
 -- What the words of the command line ask for.
-use Rattle.std.specs.Prelude.{ℕ, Bool, false, List, [], Option, Some, None, String, length, map}
+use Rattle.std.specs.Prelude.{ℕ, ◌+◌, Bool, false, List, [], Option, Some, None, String, length, map}
 use Rattle.std.specs.Global.{Global}
-use Rattle.std.specs.Option.{option_map, option_map_or}
+use Rattle.std.specs.Option.{option_and_then, option_map, option_map_or}
 use Rattle.pin_core.specs.declared.sizes.Sizes as pool
-use Rattle.run_resources.specs.Opened.{pool_sizes}
+use Rattle.run_resources.specs.Opened.{dump_wires, pool_sizes}
 use Rattle.run_resources.specs.declared.sizes.Sizes.{Sizes}
 use Rattle.serve_words.specs.Task as words
 use Rattle.serve_words.specs.declared.sizes.Sizes as typed
@@ -21,19 +21,20 @@ pub record Job : Type 0 where
 abbrev pub RunTask : Type 0
 RunTask = Option Job
 
-abbrev pub run_sizes : typed.Sizes → Sizes
-run_sizes sizes = record {
+abbrev pub run_sizes : Option ℕ → typed.Sizes → Sizes
+run_sizes dump sizes = record {
   shards = sizes.shards;
   small = sizes.small;
   large = sizes.large;
   ring = sizes.ring;
   threshold = sizes.threshold;
+  dump = dump;
 }
 
 abbrev pub job_of : words.Task → Job
 job_of task = record {
   names = task.files;
-  sizes = run_sizes task.sizes;
+  sizes = run_sizes task.dump task.sizes;
   workers = task.workers;
   journal = task.journal;
 }
@@ -61,6 +62,17 @@ pool_of task =
 
 abbrev pub shards_of : RunTask → ℕ
 shards_of task = option_map_or (λ (job : Job). job.sizes.shards) task 0
+
+-- before which call of the first session all shards are dumped, if they are
+abbrev pub dump_of : RunTask → Option ℕ
+dump_of task = option_and_then (λ (job : Job). job.sizes.dump) task
+
+-- how many wires are needed: one for each file, and one for the dump
+abbrev pub wires_of : Job → ℕ
+wires_of job = length job.names + dump_wires job.sizes.dump
+
+abbrev pub wires_needed : RunTask → ℕ
+wires_needed task = option_map_or wires_of task 0
 
 -- whether the journal is what is said
 abbrev pub shows_journal : RunTask → Bool

@@ -2,6 +2,7 @@
 use Rattle.std.specs.Prelude.{◌≡◌, ◌⊎◌, ℕ, suc, ◌==◌, if◌then◌else◌, List, [], None, length, take}
 use Rattle.std.specs.List.{AllByRecursion}
 use Rattle.check_files.specs.Named.{AreOther, counted_times}
+use Rattle.serve_inputs.specs.Dumped.{no_dump}
 use Rattle.flake_run.specs.Opening.{AreOfFiles}
 use Rattle.flake_run.specs.Task.{RunTask, names_of}
 use Rattle.flake_run.specs.Outside.{Outside}
@@ -22,6 +23,8 @@ pub record Untouched {W : Type 0} (task : RunTask) (before after : Outside W) (d
   pub journal : done.ends ≡ [] → done.journal ≡ []
   -- and no pool, of which anything is held
   pub pool : done.ends ≡ [] → (done.pool ≡ None) × (done.held ≡ none_held)
+  -- and no dump
+  pub dump : done.ends ≡ [] → done.dump ≡ no_dump
   -- and nothing was read of a source that comes back
   pub unread : done.ends ≡ [] → AllByRecursion IsUntouched (sources_of done.sources)
   -- whatever the status, those that come back are the sources of the first files

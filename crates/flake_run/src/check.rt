@@ -1,7 +1,8 @@
 // The command `check`, over any host.
-ghost use Rattle.std.specs.Prelude.{◌<◌, [], length};
+ghost use Rattle.std.specs.Prelude.{◌≡◌, ◌<◌, [], length};
 ghost use Rattle.serve_words.specs.Check.{check_of};
 ghost use Rattle.serve_words.specs.Task.{word_texts};
+ghost use Rattle.serve_inputs.specs.Dumped.{dump_told, no_dump};
 ghost use Rattle.flake_run.specs.Outside.{LeavesFiles, outside};
 ghost use Rattle.flake_run.specs.Outcome.{done, opened_told, source_told};
 ghost use Rattle.flake_run.specs.Said.{PrintsStatus};
@@ -40,6 +41,7 @@ pub(crate) fn conclude<H: Host>(
     ensures concluded { ConcludesBy finding (outside (H.host_told host.old) wires.items (λ w. wire_told w))
         (outside (H.host_told host.new) result.wires.items (λ w. wire_told w))
         (done result.status result.detail result.ends.items result.journal.items result.held result.pool []) }
+    ensures dump { dump_told result.dump ≡ no_dump }
 {
     let Ok(text) = finding_text(alloc, finding) else {
         return refuse(alloc, host, Refusal::Memory, wires);
@@ -56,12 +58,13 @@ pub fn check<H: Host>(
     host: &mut H,
     wires: Vec<Box<dyn Wire>>,
 ) -> Outcome<H::In>
-    ensures { let before = outside (H.host_told host.old) wires.items (λ w. wire_told w) in
+    ensures does { let before = outside (H.host_told host.old) wires.items (λ w. wire_told w) in
         let after = outside (H.host_told host.new) result.wires.items (λ w. wire_told w) in
         let told = opened_told (source_told H.In.name H.In.whole H.In.given H.In.ended H.In.read_faults)
         result.sources.items in
         Checked (check_of (word_texts words.now)) before after
         (done result.status result.detail result.ends.items result.journal.items result.held result.pool told) }
+    ensures dump { dump_told result.dump ≡ no_dump }
 {
     let task = match check_task(alloc, words) {
         Ok(Some(task)) => task,

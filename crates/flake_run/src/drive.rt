@@ -5,6 +5,7 @@ ghost use Rattle.run_resources.specs.Opened.{HasRunSizes};
 ghost use Rattle.transcript_model.specs.Lines.{held_text};
 ghost use Rattle.drive_script.specs.Says.{PrintsText};
 ghost use Rattle.drive_show.specs.Held.{held_room};
+ghost use Rattle.serve_inputs.specs.Dumped.{dump_told, no_dump};
 ghost use Rattle.flake_run.specs.Driven.{CameOf};
 ghost use Rattle.flake_run.specs.DriveTask.{drive_job_of};
 ghost use Rattle.flake_run.specs.Drove.{Drove};
@@ -22,6 +23,7 @@ use drive_show::{HELD_ROOM, held_line};
 use flake_base::{Host, Memory, Source, Wire};
 use pin_core::Held;
 use run_resources::Sizes;
+use serve_inputs::DumpEnd;
 use serve_words::drive_task;
 use std::alloc::Global;
 use std::sync::Wait;
@@ -55,13 +57,14 @@ fn drive_opened<R: Wait, H: Host>(
     requires text { held_room ≤ vec_capacity text }
     requires unread { AllByRecursion IsUntouched
         (map (source_told H.In.name H.In.whole H.In.given H.In.ended H.In.read_faults) (schedule ∷ sources.items)) }
-    ensures { let before = outside (H.host_told host.old) wires.items (λ w. wire_told w) in
+    ensures does { let before = outside (H.host_told host.old) wires.items (λ w. wire_told w) in
         let after = outside (H.host_told host.new) result.wires.items (λ w. wire_told w) in
         let told = opened_told (source_told H.In.name H.In.whole H.In.given H.In.ended H.In.read_faults)
         result.sources.items in
         CameOf sizes.now (H.In.name schedule ∷ map (λ s. H.In.name s) sources.items)
         (H.In.whole schedule ∷ map (λ s. H.In.whole s) sources.items) before after
         (done result.status result.detail result.ends.items result.journal.items result.held result.pool told) }
+    ensures dump { dump_told result.dump ≡ no_dump }
 {
     let mut schedule = schedule;
     match drive_by(rt, alloc, sizes, &mut schedule, sources, wires, host) {
@@ -75,6 +78,7 @@ fn drive_opened<R: Wait, H: Host>(
                 journal: driven.journal,
                 held,
                 pool: Some(driven.pool),
+                dump: DumpEnd::none(alloc),
                 sources: numbered_behind(schedule, driven.sources, places),
                 wires: driven.wires,
             }
@@ -96,12 +100,13 @@ pub fn drive<R: Wait, H: Host>(
     host: &mut H,
     wires: Vec<Box<dyn Wire>>,
 ) -> Outcome<H::In>
-    ensures { let before = outside (H.host_told host.old) wires.items (λ w. wire_told w) in
+    ensures does { let before = outside (H.host_told host.old) wires.items (λ w. wire_told w) in
         let after = outside (H.host_told host.new) result.wires.items (λ w. wire_told w) in
         let told = opened_told (source_told H.In.name H.In.whole H.In.given H.In.ended H.In.read_faults)
         result.sources.items in
         Drove (drive_job_of words.now) before after
         (done result.status result.detail result.ends.items result.journal.items result.held result.pool told) }
+    ensures dump { dump_told result.dump ≡ no_dump }
 {
     let task = match drive_task(alloc, words) {
         Ok(Some(task)) => task,
@@ -123,7 +128,7 @@ pub fn drive<R: Wait, H: Host>(
         Ok(sources) => {
             let mut sources = sources;
             let schedule = sources.remove(0);
-            let sizes = sizes_of(&task.sizes);
+            let sizes = sizes_of(None, &task.sizes);
             drive_opened(
                 rt, alloc, &sizes, schedule, sources, places, text, host, wires,
             )

@@ -5,6 +5,7 @@ ghost use Rattle.serve_words.specs.Task.{word_texts};
 ghost use Rattle.gen_words.specs.Task.{IsAllowedGenerated, generated_task_of};
 ghost use Rattle.serve_generated.specs.Generated.{IsTooMuch};
 ghost use Rattle.wire_told.specs.Sent.{PutIs, FlushIs};
+ghost use Rattle.serve_inputs.specs.Dumped.{dump_told, no_dump};
 ghost use Rattle.flake_run.specs.Outside.{outside};
 ghost use Rattle.flake_run.specs.Outcome.{done, opened_told, source_told};
 ghost use Rattle.flake_run.specs.Generated.{Generated, IsGeneratedRun};
@@ -17,7 +18,7 @@ use flake_base::{Host, Memory, Wire};
 use gen_words::{GenTask, gen_task};
 use report_text::REPORT_ROOM;
 use serve_generated::{InputSource, Refused, serve_generated};
-use serve_inputs::Served;
+use serve_inputs::{DumpEnd, Served};
 use session_pass::Gate;
 use std::alloc::Global;
 use std::sync::Wait;
@@ -70,12 +71,13 @@ pub fn generate<R: Threads + Wait + Sync, H: Host, G: Gate>(
     wires: Vec<Box<dyn Wire>>,
     gate: &G,
 ) -> Outcome<H::In>
-    ensures { let before = outside (H.host_told host.old) wires.items (λ w. wire_told w) in
+    ensures does { let before = outside (H.host_told host.old) wires.items (λ w. wire_told w) in
         let after = outside (H.host_told host.new) result.wires.items (λ w. wire_told w) in
         let told = opened_told (source_told H.In.name H.In.whole H.In.given H.In.ended H.In.read_faults)
         result.sources.items in
         Generated (generated_task_of (word_texts words.now)) before after
         (done result.status result.detail result.ends.items result.journal.items result.held result.pool told) }
+    ensures dump { dump_told result.dump ≡ no_dump }
 {
     let task = match gen_task(alloc, words) {
         Ok(Some(task)) => task,
@@ -99,6 +101,7 @@ pub fn generate<R: Threads + Wait + Sync, H: Host, G: Gate>(
                 journal: ran.journal,
                 held,
                 pool: Some(ran.pool),
+                dump: DumpEnd::none(alloc),
                 sources: Vec::new(alloc),
                 wires: ran.wires,
             }

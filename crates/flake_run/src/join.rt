@@ -4,6 +4,7 @@ ghost use Rattle.std.specs.List.{AllByRecursion};
 ghost use Rattle.mtu_frames.specs.Joining.{IsWhole, replies};
 ghost use Rattle.serve_words.specs.Join.{join_of, shown_join};
 ghost use Rattle.serve_words.specs.Task.{word_texts};
+ghost use Rattle.serve_inputs.specs.Dumped.{dump_told, no_dump};
 ghost use Rattle.flake_run.specs.Joined.{CameOfFrames, IsPutOnFirst, Joined, finding_of};
 ghost use Rattle.flake_run.specs.Outcome.{GaveFront, IsUntouched, done, opened_told, source_told, sources_of};
 ghost use Rattle.flake_run.specs.Outside.{outside};
@@ -74,12 +75,13 @@ fn join_opened<H: Host>(
     requires wires { 0 < length wires.items }
     requires places { (places.items ≡ []) × (0 < vec_capacity places) }
     requires unread { IsUntouched (source_told H.In.name H.In.whole H.In.given H.In.ended H.In.read_faults source) }
-    ensures { let before = outside (H.host_told host.old) wires.items (λ w. wire_told w) in
+    ensures does { let before = outside (H.host_told host.old) wires.items (λ w. wire_told w) in
         let after = outside (H.host_told host.new) result.wires.items (λ w. wire_told w) in
         let told = opened_told (source_told H.In.name H.In.whole H.In.given H.In.ended H.In.read_faults)
         result.sources.items in
         CameOfFrames (shown_join task.now) (H.In.name source) (H.In.whole source) before after
         (done result.status result.detail result.ends.items result.journal.items result.held result.pool told) }
+    ensures dump { dump_told result.dump ≡ no_dump }
 {
     let mut source = source;
     match join_source(alloc, &mut source, task.mtu, task.calls) {
@@ -105,12 +107,13 @@ pub fn join<H: Host>(
     host: &mut H,
     wires: Vec<Box<dyn Wire>>,
 ) -> Outcome<H::In>
-    ensures { let before = outside (H.host_told host.old) wires.items (λ w. wire_told w) in
+    ensures does { let before = outside (H.host_told host.old) wires.items (λ w. wire_told w) in
         let after = outside (H.host_told host.new) result.wires.items (λ w. wire_told w) in
         let told = opened_told (source_told H.In.name H.In.whole H.In.given H.In.ended H.In.read_faults)
         result.sources.items in
         Joined (join_of (word_texts words.now)) before after
         (done result.status result.detail result.ends.items result.journal.items result.held result.pool told) }
+    ensures dump { dump_told result.dump ≡ no_dump }
 {
     let task = match join_task(alloc, words) {
         Ok(Some(task)) => task,

@@ -4,6 +4,7 @@ ghost use Rattle.flake_run.specs.Said.{unopened_text};
 use flake_base::{Ends, Journal, Wire};
 use pin_core::Held;
 use pinned_pool::PoolEnd;
+use serve_inputs::DumpEnd;
 use std::alloc::Global;
 
 /// A source that was opened, by its file's number among the words, from 0.
@@ -149,6 +150,8 @@ pub struct Outcome<S> {
     pub held: Held,
     /// The closed pool; none where nothing was served.
     pub pool: Option<PoolEnd>,
+    /// What came of the dump; none where none was asked for.
+    pub dump: DumpEnd,
     /// Every source that was opened, in the order of the words.
     pub sources: Vec<Opened<S>>,
     /// All wires, at their places.
@@ -157,6 +160,7 @@ pub struct Outcome<S> {
 
 impl<S> Outcome<S> {
     ghost use Rattle.std.specs.Prelude.{◌≡◌, [], None};
+    ghost use Rattle.serve_inputs.specs.Dumped.{dump_told, no_dump};
     ghost use Rattle.flake_run.specs.Outcome.{none_held};
 
     /// An answer without any request that ran.
@@ -167,6 +171,7 @@ impl<S> Outcome<S> {
         ensures journal { result.journal.items ≡ [] }
         ensures held { result.held ≡ none_held }
         ensures pool { result.pool ≡ None }
+        ensures dump { dump_told result.dump ≡ no_dump }
         ensures sources { result.sources.items ≡ [] }
         ensures wires { result.wires ≡ wires }
     {
@@ -177,6 +182,7 @@ impl<S> Outcome<S> {
             journal: Journal::new(alloc),
             held: Held { small: 0, large: 0 },
             pool: None,
+            dump: DumpEnd::none(alloc),
             sources: Vec::new(alloc),
             wires,
         }

@@ -1,13 +1,14 @@
 // The command `serve`, over any host and any wires.
 ghost use Rattle.flake_run.specs.Does.{ServeDoes};
-ghost use Rattle.flake_run.specs.Outcome.{done, opened_told, source_told};
+ghost use Rattle.serve_inputs.specs.Dumped.{dump_told};
+ghost use Rattle.flake_run.specs.Outcome.{done_with, opened_told, source_told};
 ghost use Rattle.flake_run.specs.Outside.{outside};
 ghost use Rattle.flake_run.specs.Task.{run_task_of};
 
 use crate::opening::{numbered, open_files};
 use crate::outcome::{Detail, Outcome, Refusal};
 use crate::source::serve_sources;
-use crate::tell::{refuse, report};
+use crate::tell::{dump_line, refuse, report};
 use crate::words::files_task;
 use flake_base::{Host, Memory, Source, Wire};
 use report_text::REPORT_ROOM;
@@ -17,7 +18,7 @@ use std::sync::Wait;
 use std::thread::Threads;
 
 /// Serves the files that the words name, with the sizes and by as many workers as they ask for: the replies to a file's
-/// requests go to the wire at its place.
+/// requests go to the wire at its place, and the dump that they ask for to the wire behind these.
 pub fn serve<R: Threads + Wait + Sync, H: Host, G: Gate>(
     rt: &R,
     alloc: Global,
@@ -30,8 +31,8 @@ pub fn serve<R: Threads + Wait + Sync, H: Host, G: Gate>(
         let after = outside (H.host_told host.new) result.wires.items (λ w. wire_told w) in
         let told = opened_told (source_told H.In.name H.In.whole H.In.given H.In.ended H.In.read_faults)
         result.sources.items in
-        ServeDoes (run_task_of words.now) before after
-        (done result.status result.detail result.ends.items result.journal.items result.held result.pool told) }
+        ServeDoes (run_task_of words.now) before after (done_with (dump_told result.dump) result.status result.detail
+        result.ends.items result.journal.items result.held result.pool told) }
 {
     let task = match files_task(alloc, words) {
         Ok(Some(task)) => task,
@@ -39,7 +40,7 @@ pub fn serve<R: Threads + Wait + Sync, H: Host, G: Gate>(
         Err(Memory) => return refuse(alloc, host, Refusal::Memory, wires),
     };
     let count = task.files.len();
-    if wires.len() < count {
+    if wires.len() < task.wires() {
         return refuse(alloc, host, Refusal::BadWords, wires);
     }
     let (Ok(room), Ok(places), Ok(text)) = (
@@ -68,6 +69,7 @@ pub fn serve<R: Threads + Wait + Sync, H: Host, G: Gate>(
                     task.journal,
                     &ran.journal,
                     ran.ends.as_slice(),
+                    dump_line(task.sizes.dump, &ran.dump),
                     held,
                 ),
                 detail: Detail::Nothing,
@@ -75,6 +77,7 @@ pub fn serve<R: Threads + Wait + Sync, H: Host, G: Gate>(
                 journal: ran.journal,
                 held,
                 pool: Some(ran.pool),
+                dump: ran.dump,
                 sources: numbered(ran.sources, places),
                 wires: ran.wires,
             }

@@ -1,9 +1,10 @@
 // Sources that are served to the first wires.
-ghost use Rattle.std.specs.Prelude.{◌≡◌, ◌≢◌, ◌<◌, ◌≤◌, [], length, map, All, IfOk, IfErr};
+ghost use Rattle.std.specs.Prelude.{◌≡◌, ◌≢◌, ◌+◌, ◌<◌, ◌≤◌, [], length, map, All, IfOk, IfErr};
 ghost use Rattle.flake_base.specs.Histories.{histories};
-ghost use Rattle.flake_run.specs.Serving.{IsServedRun};
-ghost use Rattle.run_resources.specs.Opened.{HasRunSizes, pool_sizes};
+ghost use Rattle.flake_run.specs.Serving.{IsDumpingRun};
+ghost use Rattle.run_resources.specs.Opened.{HasRunSizes, dump_wires, pool_sizes};
 ghost use Rattle.run_resources.specs.Ran.{AreReads};
+ghost use Rattle.serve_inputs.specs.Dumped.{dump_told};
 ghost use Rattle.wire_told.specs.Sent.{PutIs, FlushIs};
 
 use flake_base::{End, Source, Wire};
@@ -34,7 +35,8 @@ pub(crate) fn flush(wire: Box<dyn Wire>) -> (Box<dyn Wire>, bool)
     (wire, failed)
 }
 
-/// Serves the requests of each source, to its end or until memory is wanting; the replies go to the wire at its place.
+/// Serves the requests of each source, to its end or until memory is wanting; the replies go to the wire at its place,
+/// and a dump to the wire behind these.
 /// Where memory is wanting before the first read all comes back.
 pub fn serve_sources<R: Threads + Wait + Sync, S: Source + Send + Drop, G: Gate>(
     rt: &R,
@@ -47,11 +49,12 @@ pub fn serve_sources<R: Threads + Wait + Sync, S: Source + Send + Drop, G: Gate>
 ) -> Result<Served<S, Box<dyn Wire>>, (Vec<S>, Vec<Box<dyn Wire>>)>
     requires sized { HasRunSizes (length sources.items) sizes.now }
     requires workers { (0 < workers) × (workers ≤ 16) }
-    requires wires { length sources.items ≤ length wires.items }
+    requires wires { length sources.items + dump_wires sizes.now.dump ≤ length wires.items }
     requires unread { All (λ s. S.given s ≡ []) sources.items }
-    ensures run { IfOk result (λ r. IsServedRun (pool_sizes (length sources.items) sizes.now)
+    ensures run { IfOk result (λ r. IsDumpingRun (pool_sizes (length sources.items) sizes.now)
         (map (λ s. S.given s) r.sources.items) (map (λ s. S.ended s) r.sources.items) r.ends.items
-        (histories r.journal.items) r.pool wires.items r.wires.items (λ w. wire_told w)) }
+        (histories r.journal.items) r.pool sizes.now.dump (dump_told r.dump) wires.items r.wires.items
+        (λ w. wire_told w)) }
     ensures names { IfOk result (λ r. map (λ s. S.name s) r.sources.items ≡ map (λ s. S.name s) sources.items) }
     ensures wholes { IfOk result (λ r. map (λ s. S.whole s) r.sources.items ≡ map (λ s. S.whole s) sources.items) }
     ensures reads { IfOk result (λ r. AreReads r.ends.items (map (λ s. S.read_faults s) sources.items)

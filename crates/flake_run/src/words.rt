@@ -3,7 +3,7 @@ ghost use Rattle.std.specs.Prelude.{◌≡◌, ◌<◌, ◌≤◌, length, IfOk,
 ghost use Rattle.std.specs.Option.{option_map};
 ghost use Rattle.run_resources.specs.Opened.{HasRunSizes};
 ghost use Rattle.serve_words.specs.Task.{IsAllowed, task_shown};
-ghost use Rattle.flake_run.specs.Task.{job_of, shown_task, run_sizes, run_task_of};
+ghost use Rattle.flake_run.specs.Task.{job_of, shown_task, run_sizes, run_task_of, wires_of};
 
 use flake_base::Memory;
 use serve_inputs::Sizes;
@@ -18,6 +18,18 @@ pub struct FilesTask<'a> {
     pub sizes: Sizes,
     pub workers: u16,
     pub journal: bool,
+}
+
+impl<'a> FilesTask<'a> {
+    /// How many wires it needs: one for each file, and one for the dump.
+    pub fn wires(&self) -> usize
+        ensures { result ≡ wires_of (shown_task self.now) }
+    {
+        match self.sizes.dump {
+            Some(_) => self.files.len() + 1,
+            None => self.files.len(),
+        }
+    }
 }
 
 /// The task that the words ask for; none where they are bad words.
@@ -39,15 +51,16 @@ fn sized_task<'a>(task: ServeTask<'a>) -> FilesTask<'a>
     ensures workers { (0 < result.workers) × (result.workers ≤ 16) }
 {
     FilesTask {
-        sizes: sizes_of(&task.sizes),
+        sizes: sizes_of(task.dump, &task.sizes),
         workers: task.workers,
         journal: task.journal,
         files: task.files,
     }
 }
 
-pub(crate) fn sizes_of(sizes: &serve_words::Sizes) -> Sizes
-    ensures { result ≡ run_sizes sizes.now }
+/// The sizes of a run, which dumps all shards before this call, if it is to.
+pub(crate) fn sizes_of(dump: Option<u32>, sizes: &serve_words::Sizes) -> Sizes
+    ensures { result ≡ run_sizes dump sizes.now }
 {
     Sizes {
         shards: sizes.shards,
@@ -55,5 +68,6 @@ pub(crate) fn sizes_of(sizes: &serve_words::Sizes) -> Sizes
         large: sizes.large,
         ring: sizes.ring,
         threshold: sizes.threshold,
+        dump,
     }
 }

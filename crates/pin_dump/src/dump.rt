@@ -30,10 +30,12 @@ pub struct Dump<P: PoolName> {
     pub(crate) len: u64,
 }
 
-/// What came of putting a dump on a wire: the seat, without its holds, how long the text is, and whether a put or the
-/// flush failed.
+/// What came of putting a dump on a wire: its points, the seat without its holds, how long the text is, and whether a
+/// put or the flush failed.
 #[derive(Drop)]
 pub struct Written<P: PoolName> {
+    /// How many deeds of each shard it stands behind.
+    pub points: Vec<u64>,
     pub seat: PoolSeat<P>,
     pub bytes: u64,
     pub failed: bool,
@@ -133,19 +135,21 @@ impl<P: PoolName> Dump<P> {
             self.text wire result.0 }
         ensures flushed { PutsAndFlushes (λ w p r. Q.post put.now w p r) (λ w r. F.post flush.now w r)
             result.1.failed self.text wire result.0 }
+        ensures points { result.1.points.items ≡ self.points }
         ensures bytes { result.1.bytes ≡ length self.text }
         ensures seat { IsEmptied self.seat result.1.seat }
     {
         let Dump {
             mut seat,
             pairs,
-            points: _,
+            points,
             len,
         } = self;
         let (put_all, failed) = put_pairs(pool, &mut seat, pairs.as_slice(), wire, false, put);
         let (flushed, failed) = flush_unless_failed(put_all, failed, flush);
         let seat = emptied(pool, seat, pairs);
         let written = Written {
+            points,
             seat,
             bytes: len,
             failed,

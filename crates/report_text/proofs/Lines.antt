@@ -28,8 +28,10 @@ summary_step ends k d text line new before here is within =
     ∙ ap (λ n. summary_from 0 (take k ends) ++ session_line n (get_or ends k d)) number in
     is ∙ ap (λ t. t ++ line) before ∙ ap (λ l. summary_from 0 (take k ends) ++ l) here ∙ sym more
 
-pub summary_end : (ends : List SessionEnd) (k : ℕ) (text held line new : List ℕ) → text ≡ summary_from 0 (take k ends)
-    → held ≡ line → new ≡ text ++ held → length ends ≤ k → new ≡ summary_from 0 ends ++ line
-summary_end ends k text held line new before here is past =
-    is ∙ ap (λ t. t ++ held) (before ∙ ap (summary_from 0) (take_all k ends past))
-    ∙ ap (λ l. summary_from 0 ends ++ l) here
+-- the lines of all sessions, and two behind them
+pub summary_end : (ends : List SessionEnd) (k : ℕ) (text next new dump held : List ℕ)
+    → text ≡ summary_from 0 (take k ends) → next ≡ text ++ dump → new ≡ next ++ held → length ends ≤ k
+    → new ≡ summary_from 0 ends ++ dump ++ held
+summary_end ends k text next new dump held before here is past =
+    is ∙ ap (λ t. t ++ held) here
+    ∙ ap (λ t. t ++ dump ++ held) (before ∙ ap (summary_from 0) (take_all k ends past))

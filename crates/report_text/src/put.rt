@@ -1,6 +1,7 @@
 // Bytes for which there is room.
 ghost use Rattle.std.specs.Prelude.{◌≡◌, ◌+◌, ◌≤◌, ◌++◌, ◌∷◌, [], length, vec_capacity, vec_len};
 ghost use Rattle.std.specs.Fmt.{decimal};
+ghost use Rattle.flake_model.specs.Said.{wire_state};
 
 use itoa::Buffer;
 
@@ -38,4 +39,18 @@ pub(crate) fn put_field(text: &mut Vec<u8>, n: u64, end: u8)
 {
     put_number(text, n);
     put(text, &[end]);
+}
+
+/// Whether a put on a wire failed, and the line's end.
+pub(crate) fn put_state(text: &mut Vec<u8>, failed: bool)
+    requires { vec_len text.old + 7 ≤ vec_capacity text.old }
+    ensures items { text.new.items ≡ text.old.items ++ (wire_state failed ++ 10 ∷ []) }
+    ensures len { vec_len text.new ≤ vec_len text.old + 7 }
+    ensures capacity { vec_capacity text.old ≤ vec_capacity text.new }
+{
+    if failed {
+        put(text, b"failed\n");
+    } else {
+        put(text, b"whole\n");
+    }
 }

@@ -1,9 +1,10 @@
-// The lines of sessions, and that of what is held.
+// The lines of sessions, that of a dump, and that of what is held.
 ghost use Rattle.std.specs.Prelude.{◌≡◌, ◌+◌, ◌<◌, ◌≤◌, ◌++◌, ◌∷◌, [], length, vec_capacity, vec_len};
-ghost use Rattle.flake_model.specs.Said.{end_text, session_line, wire_state};
+ghost use Rattle.flake_model.specs.Said.{end_text, session_line};
 ghost use Rattle.report_text.specs.Report.{held_line, report_room, summary_of};
 
-use crate::put::{put, put_field, put_number};
+use crate::dump::{DumpLine, put_dump};
+use crate::put::{put, put_field, put_number, put_state};
 use flake_base::{End, SessionEnd};
 use pin_core::Held;
 
@@ -30,20 +31,6 @@ fn put_end(text: &mut Vec<u8>, end: End)
         End::ReadFault => put(text, b"readfault"),
         End::Memory => put(text, b"memory"),
         End::Left => put(text, b"left"),
-    }
-}
-
-// Whether a put on a session's wire failed, and the line's end.
-fn put_state(text: &mut Vec<u8>, failed: bool)
-    requires { vec_len text.old + 7 ≤ vec_capacity text.old }
-    ensures items { text.new.items ≡ text.old.items ++ (wire_state failed ++ 10 ∷ []) }
-    ensures len { vec_len text.new ≤ vec_len text.old + 7 }
-    ensures capacity { vec_capacity text.old ≤ vec_capacity text.new }
-{
-    if failed {
-        put(text, b"failed\n");
-    } else {
-        put(text, b"whole\n");
     }
 }
 
@@ -76,16 +63,18 @@ fn put_held(text: &mut Vec<u8>, held: Held)
     put_field(text, u64::from(held.large), b'\n');
 }
 
-/// Writes the line of each session, and that of what is held, in the place of what stands there.
-pub fn put_summary(text: &mut Vec<u8>, ends: &[SessionEnd], held: Held)
+/// Writes the line of each session, that of a dump where one was asked for, and that of what is held, in the place of
+/// what stands there.
+pub fn put_summary(text: &mut Vec<u8>, ends: &[SessionEnd], dump: DumpLine, held: Held)
     requires room { report_room ≤ vec_capacity text.old }
     requires few { length ends.now ≤ 16 }
-    ensures text { text.new.items ≡ summary_of ends.now held }
+    ensures text { text.new.items ≡ summary_of ends.now dump held }
     ensures some { 0 < length text.new.items }
 {
     text.clear();
     for (session, end) in ends.iter().enumerate() {
         put_session(text, session as u64, end);
     }
+    put_dump(text, dump);
     put_held(text, held);
 }

@@ -1,5 +1,5 @@
 // Each report, in a room that is taken ahead.
-use crate::{REPORT_ROOM, put_summary, put_total, say_journal};
+use crate::{DumpLine, REPORT_ROOM, put_summary, put_total, say_journal};
 use flake_base::{End, Entry, Failed, Fails, Files, Journal, MemoryHost, Sequence, SessionEnd};
 use pin_core::Held;
 use std::alloc::Global;
@@ -23,11 +23,51 @@ fn summary(rt: HostRuntime) -> Result<(), Fail> {
         replies: 1,
         failed: true,
     };
-    put_summary(&mut text, &[clean, refused], HELD);
+    put_summary(&mut text, &[clean, refused], DumpLine::Unasked, HELD);
     let said: &[u8] = b"session 0 clean taken 47 replies 2 wire whole\n\
         session 1 protocol 2 at 14 taken 15 replies 1 wire failed\nheld 3 4\n";
     assert_eq!(&rt; text.as_slice(), said);
     Ok(())
+}
+
+// The summary of one session, and of such a dump.
+fn expect_dump(rt: &impl Abort, alloc: Global, dump: DumpLine, line: &[u8]) -> Result<(), Fail> {
+    let mut text = Vec::with_capacity(alloc, REPORT_ROOM)?;
+    let clean = SessionEnd {
+        end: End::Clean,
+        taken: 81,
+        replies: 3,
+        failed: false,
+    };
+    put_summary(&mut text, &[clean], dump, HELD);
+    let mut said = Vec::new(alloc);
+    said.extend_from_slice(b"session 0 clean taken 81 replies 3 wire whole\n")?;
+    said.extend_from_slice(line)?;
+    said.extend_from_slice(b"held 3 4\n")?;
+    assert_eq!(rt; text.as_slice(), said.as_slice());
+    Ok(())
+}
+
+#[test]
+fn dumps(rt: HostRuntime) -> Result<(), Fail> {
+    let alloc = rt.alloc();
+    let whole = DumpLine::Written {
+        bytes: 54,
+        failed: false,
+    };
+    let longest = DumpLine::Written {
+        bytes: u64::MAX,
+        failed: true,
+    };
+    expect_dump(&rt, alloc, DumpLine::Unasked, b"")?;
+    expect_dump(&rt, alloc, DumpLine::Untaken, b"dump none\n")?;
+    expect_dump(&rt, alloc, whole, b"dump bytes 54 wire whole\n")?;
+    expect_dump(
+        &rt,
+        alloc,
+        longest,
+        b"dump bytes 18446744073709551615 wire failed\n",
+    )
 }
 
 #[test]

@@ -24,15 +24,17 @@ use Rattle.serve_model.specs.Shown.{WasRun}
 use Rattle.serve_model.specs.Whole.{ServedTogether, WholeRun}
 use Rattle.serve_model.proofs.Seats.{joins_add}
 use Rattle.flake_base.specs.Histories.{histories}
+use Rattle.dump_model.specs.Seen.{SeenMakesDump}
 use Rattle.run_resources.specs.Closed.{WasClosed}
 use Rattle.run_resources.specs.Together.{AreRuns, HaveShown}
+use Rattle.run_resources.proofs.Dumps.{AreDumps, dumps}
 
--- a run with these texts and replies, whatever its end is called
-abbrev Texts : pool_sizes.Sizes → List (List ℕ) → List Bool → List SessionEnd → List (List Entry)
+-- a run with these texts and replies, and the dumps of what the first of these lists saw, whatever its end is called
+abbrev Texts : pool_sizes.Sizes → List (List ℕ) → List Bool → List SessionEnd → List SessionList → List (List Entry)
     → List (Bool × List ℕ) → List (Bool × List (List ℕ)) → End → Type 0
-Texts z givens endeds ends journal texts replies end =
+Texts z givens endeds ends lists journal texts replies end =
     (run : WasRun z givens endeds ends journal end) × (wire_texts run.served.sessions journal ≡ texts)
-    × (all_replies run.served.sessions journal ≡ replies)
+    × (all_replies run.served.sessions journal ≡ replies) × AreDumps lists journal run.served.sessions
 
 -- what the closing says, together
 pub closed : (books : book_sizes.Sizes) (z : pool_sizes.Sizes) (shards : List ShardList) (lists : List SessionList)
@@ -54,12 +56,12 @@ closed books z shards lists journal main store last end tied parts last_is loose
 -- the seats of the runs are joined with the store's: so the run shows what they did
 pub shown : (books : book_sizes.Sizes) (z : pool_sizes.Sizes) (shards : List ShardList) (lists : List SessionList)
     (journal : List (List Entry)) (main store last : View) (closed : End)
-    → ServedTogether → WholeRun → AreClosed books shards lists → length lists ≡ books.sessions
+    → ServedTogether → WholeRun → SeenMakesDump → AreClosed books shards lists → length lists ≡ books.sessions
     → AreParts z books.shards shards journal store → last ≡ joined_views main store
     → IsLoose last → LooksClaimed last → closed ≡ pool_end z last
     → (each : List OneRun) → AreRuns z books.shards each lists main → HaveShown z each journal closed
-shown books z shards lists journal main store last closed together whole are_closed as_many parts last_is loose looked
-    closed_is each runs =
+shown books z shards lists journal main store last closed together whole makes are_closed as_many parts last_is loose
+    looked closed_is each runs =
     let own : List SessionList = map (λ (one : OneRun). one.list) each in
     let ends : List SessionEnd = map (λ (one : OneRun). one.end) each in
     let seats : List View = map (λ (one : OneRun). one.seat) each in
@@ -71,14 +73,20 @@ shown books z shards lists journal main store last closed together whole are_clo
       looked = looked;
     } in
     let served = together z books.shards each runs.all in
-    let ran = whole books z shards own journal store _ _ ends seats (runs.spare ∷ []) last
-    (subst (AreClosed books shards) runs.lists_are are_closed) (sym (ap length runs.lists_are) ∙ as_many) parts
+    let own_closed = subst (AreClosed books shards) runs.lists_are are_closed in
+    let own_many = sym (ap length runs.lists_are) ∙ as_many in
+    let ran = whole books z shards own journal store _ _ ends seats (runs.spare ∷ []) last own_closed own_many parts
     served.0 is in
-    let w = subst (Texts z _ _ ends journal
+    let own_dumps = dumps books z shards own journal store _ _ ends seats own_closed own_many parts served.0 makes in
+    let w = subst (Texts z _ _ ends own journal
     (map (λ (one : OneRun). (one.end.failed, flat_map (λ text. text) one.texts)) each)
-    (map (λ (one : OneRun). (one.end.failed, one.texts)) each)) (sym closed_is)
-    (ran.0, ran.1.texts_are ∙ served.1, ran.1.replies_are ∙ served.2) in
-    record { ran = w.0; texts_are = w.1; replies_are = w.2 }
+    (map (λ (one : OneRun). (one.end.failed, one.texts)) each)) (sym closed_is) (
+      ran.0,
+      ran.1.texts_are ∙ served.1,
+      ran.1.replies_are ∙ served.2,
+      subst (AreDumps own journal) (sym ran.1.sessions_are) own_dumps,
+    ) in
+    record { ran = w.0; texts_are = w.1; replies_are = w.2; dumps = w.3 }
 
 -- a journal has a history of each shard
 pub histories_are : (z : pool_sizes.Sizes) (count : ℕ) (shards : List ShardList) (journal : List (Roomy Entry))

@@ -1,5 +1,5 @@
 -- What a run has before it reads anything.
-use Rattle.std.specs.Prelude.{◌≡◌, ℕ, ◌+◌, ◌*◌, ◌%◌, ◌≤◌, Bool, false, [], length}
+use Rattle.std.specs.Prelude.{◌≡◌, ℕ, ◌+◌, ◌*◌, ◌%◌, ◌≤◌, Bool, false, [], Option, Some, None, length}
 use Rattle.view_sums.specs.Total.{Each}
 use Rattle.pin_core.specs.declared.sizes.Sizes as pool
 use Rattle.pinned_pool.specs.Seats.{SeatList}
@@ -27,16 +27,33 @@ pub record HasRunSizes (count : ℕ) (sizes : Sizes) : Type 0 where
   pub ring : (sizes.ring % 8 ≡ 0) × (1160 ≤ sizes.ring) × (sizes.ring ≤ 4096)
   pub threshold : (1 ≤ sizes.threshold) × (sizes.threshold ≤ 512)
 
--- the credits of a session, and those of a pool: the sessions', one for each shard, and one that the opening keeps
+-- the credits of a session, and those of a pool without a dump: the sessions', one for each shard, and one that the
+-- opening keeps
 abbrev pub session_credits : ℕ
 session_credits = 8192
 
 abbrev pub all_credits : ℕ → ℕ → ℕ
 all_credits count shards = session_credits * count + shards + 1
 
+-- what keeps the values of a dump: a credit for each fragment in each shard, and four more
+abbrev pub credits_of_dump : Option ℕ → ℕ → ℕ
+credits_of_dump None credits = 0
+credits_of_dump (Some before) credits = credits
+
+abbrev pub dump_credits : Sizes → ℕ
+dump_credits sizes = credits_of_dump sizes.dump (sizes.shards * (sizes.small + sizes.large) + 4)
+
+-- how many wires a dump needs
+abbrev pub dump_wires : Option ℕ → ℕ
+dump_wires None = 0
+dump_wires (Some before) = 1
+
 abbrev pub pool_sizes : ℕ → Sizes → pool.Sizes
-pool_sizes count sizes =
-    record { small = sizes.small; large = sizes.large; credits = all_credits count sizes.shards }
+pool_sizes count sizes = record {
+  small = sizes.small;
+  large = sizes.large;
+  credits = all_credits count sizes.shards + dump_credits sizes;
+}
 
 -- a pass without a deed, whose seat claimed a stage and nothing else
 pub record IsNewPass (z : pool.Sizes) (pass : PassView) : Type 0 where

@@ -24,9 +24,9 @@ module _ {W : Type 0} (put_may : W → Bor (List ℕ) → (W × Bool) → Type 0
   AllSent (sent ∷ texts) (old ∷ olds) (new ∷ news) =
       SendsOut put_may flush_may false sent.0 sent.1 old new × AllSent texts olds news
 
-  -- So many bytes of each one's replies were put on its wire in whole replies. Wires past them are as they were.
+  -- So many bytes of each one's replies were put on its wire in whole replies.
   abbrev pub AllWhole : List (Bool × List (List ℕ)) → List ℕ → List W → List W → Type 0
-  AllWhole [] counts olds news = (counts ≡ []) × (news ≡ olds)
+  AllWhole [] counts olds news = counts ≡ []
   AllWhole (sent ∷ replies) [] olds news = ⊥
   AllWhole (sent ∷ replies) (count ∷ counts) [] news = ⊥
   AllWhole (sent ∷ replies) (count ∷ counts) (old ∷ olds) [] = ⊥

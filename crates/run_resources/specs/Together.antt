@@ -1,8 +1,8 @@
 -- What the sessions of a run come to.
-use Rattle.std.specs.Prelude.{◌≡◌, ℕ, List, ◌∷◌, map}
+use Rattle.std.specs.Prelude.{◌≡◌, ℕ, List, ◌∷◌, map, length}
 use Rattle.std.specs.List.{flat_map}
 use Rattle.flake_base.specs.declared.journal.Entry.{Entry}
-use Rattle.flake_model.specs.Run.{wire_texts}
+use Rattle.flake_model.specs.Run.{wire_texts, all_commands}
 use Rattle.pin_core.specs.declared.sizes.Sizes.{Sizes}
 use Rattle.pinned_pool.specs.Ends.{End}
 use Rattle.pinned_pool.specs.declared.view.View.{View}
@@ -11,6 +11,7 @@ use Rattle.serve_model.specs.Handed.{OneRun, AllRun}
 use Rattle.serve_model.specs.Seats.{HasAll, IsSpare}
 use Rattle.serve_model.specs.Replies.{all_replies}
 use Rattle.serve_model.specs.Shown.{WasRun}
+use Rattle.dump_model.specs.Seen.{HasSeen, IsDumpOf}
 
 -- Each session ran; the lists and the seat are theirs, but for a seat that has nothing.
 pub record AreRuns (z : Sizes) (shards : ℕ) (each : List OneRun) (lists : List SessionList) (main : View)
@@ -29,3 +30,7 @@ pub record HaveShown (z : Sizes) (each : List OneRun) (journal : List (List Entr
       ≡ map (λ (one : OneRun). (one.end.failed, flat_map (λ text. text) one.texts)) each
   pub replies_are : all_replies ran.served.sessions journal
       ≡ map (λ (one : OneRun). (one.end.failed, one.texts)) each
+  -- what the first session saw of the shards is a dump of the journal
+  pub dumps : (mine : SessionList) (others : List SessionList) → map (λ (one : OneRun). one.list) each ≡ mine ∷ others
+      → (before : ℕ) (points text : List ℕ) → HasSeen (length journal) before mine points text
+      → IsDumpOf (all_commands ran.served.sessions) journal 0 before points text

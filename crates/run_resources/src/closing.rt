@@ -6,6 +6,7 @@ ghost use Rattle.flake_base.specs.Histories.{histories};
 ghost use Rattle.run_resources.specs.Closed.{WasClosed};
 ghost use Rattle.run_resources.specs.Together.{AreRuns, HaveShown};
 
+use dump_model::laws::dump_of_seen;
 use flake_base::Journal;
 use order_book::{Book, BookName, SessionSeats};
 use pinned_pool::{Pool, PoolEnd, PoolName, PoolSeat};
@@ -47,5 +48,6 @@ pub fn close_all<N: BookName, P: PoolName>(
     let end = pool.close(last);
     all_served();
     ran();
+    dump_of_seen();
     Closed { journal, end }
 }

@@ -4,7 +4,7 @@ ghost use Rattle.std.specs.List.{range_with_len};
 ghost use Rattle.order_book.specs.Pages.{new_shards};
 ghost use Rattle.serve_model.specs.Seats.{IsSpare};
 ghost use Rattle.tx_ring.specs.Shown.{ring_size};
-ghost use Rattle.run_resources.specs.Opened.{HasRunSizes, IsPool, IsBook, IsSessionSlot};
+ghost use Rattle.run_resources.specs.Opened.{HasRunSizes, IsPool, IsBook, IsSessionSlot, dump_credits};
 
 use crate::passing::{Passed, open_passes};
 use crate::seating::open_seats;
@@ -68,7 +68,7 @@ pub fn open_resources<N: BookName, P: PoolName + Send>(
     requires sized { HasRunSizes count sizes.now }
     requires pool { (P.table ≡ pool.table) × (P.sizes ≡ pool.sizes) × IsPool count sizes.now P.sizes }
     requires book { (N.table ≡ book.table) × (N.sizes ≡ book.sizes) × IsBook count sizes.now N.sizes }
-    ensures main { IfOk result (λ h. IsSpare h.main × (h.main.credits ≡ 1)) }
+    ensures main { IfOk result (λ h. IsSpare h.main × (h.main.credits ≡ 1 + dump_credits sizes.now)) }
     ensures slots { IfOk result (λ h. All (λ d. IsSessionSlot P.sizes d.session d.device.end d.device.failed)
         h.slots.items) }
     ensures numbers { IfOk result

@@ -1,3 +1,5 @@
+use crate::passing::SESSION_CREDITS;
+
 /// How much of everything a run is given.
 #[derive(Clone, Copy, Debug, PartialEq, Eq)]
 pub struct Sizes {
@@ -9,4 +11,30 @@ pub struct Sizes {
     pub ring: u32,
     /// A run of a stored fragment with at least so many bytes stays where it lies.
     pub threshold: u32,
+    /// Before which call of the first session all shards are dumped, if they are.
+    pub dump: Option<u32>,
+}
+
+impl Sizes {
+    ghost use Rattle.std.specs.Prelude.{◌≡◌, ◌^◌, ◌<◌, ◌≤◌};
+    ghost use Rattle.run_resources.specs.Opened.{HasRunSizes, dump_credits, pool_sizes};
+
+    /// So many credits the pool of so many sessions has.
+    pub fn pool_credits(&self, count: usize) -> u64
+        requires { HasRunSizes count self.now }
+        ensures credits { result ≡ (pool_sizes count self.now).credits }
+        ensures few { (0 < result) × (result ≤ 2 ^ 31) }
+    {
+        SESSION_CREDITS * count as u64 + u64::from(self.shards) + 1 + self.dump_credits()
+    }
+
+    /// So many of them are for the dump: one for each fragment of a value in each shard, and four.
+    pub fn dump_credits(&self) -> u64
+        ensures { result ≡ dump_credits self.now }
+    {
+        match self.dump {
+            Some(_) => u64::from(self.shards) * (u64::from(self.small) + u64::from(self.large)) + 4,
+            None => 0,
+        }
+    }
 }

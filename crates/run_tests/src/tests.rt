@@ -1,6 +1,7 @@
 mod beside;
 mod checks;
 mod commands;
+mod dumped;
 mod faults;
 mod generated;
 mod journals;
@@ -85,6 +86,10 @@ struct Seen {
     sources: usize,
     /// The text of the journal; empty where there are no histories.
     journal: Bytes,
+    /// Whether a dump was taken, how long its text is, and whether its wire failed.
+    dump: (bool, u64, bool),
+    /// How many entries of each shard's history it stands behind.
+    points: Vec<u64>,
     /// What each wire tells that it was sent; nothing of one that doesn't tell it.
     sent: Vec<Bytes>,
     /// All wires, for a further run.
@@ -115,6 +120,8 @@ fn make_seen<S: Drop>(alloc: Global, outcome: Outcome<S>) -> Result<Seen, Fail> 
         ends: outcome.ends.len(),
         sources: outcome.sources.len(),
         journal: text_of(alloc, &outcome.journal)?,
+        dump: (outcome.dump.taken, outcome.dump.bytes, outcome.dump.failed),
+        points: outcome.dump.points,
         sent: sent_by(alloc, outcome.wires.as_slice())?,
         wires: outcome.wires,
     })
@@ -199,6 +206,7 @@ fn expect_row(rt: &impl Abort, host: &MemoryHost, seen: &Seen, row: &Row) {
     assert_eq!(rt; seen.sources, usize::from(is_served));
     assert_eq!(rt; seen.journal.as_slice(), row.journal.as_bytes());
     assert_eq!(rt; seen.sent.len(), 1);
+    assert_eq!(rt; (seen.dump, seen.points.len()), ((false, 0, false), 0));
     assert_eq!(rt; host.opens(), u64::from(row.status != 1));
 }
 

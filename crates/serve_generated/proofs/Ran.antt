@@ -1,6 +1,6 @@
 -- Generated inputs that were served.
-use Rattle.std.proofs.Common.{◌≡◌, ◌≢◌, ◌∙◌, ℕ, ◌≤◌, Bool, List, [], ◌∷◌, Some, length, map, arith, refl, ap}
-use Rattle.std.proofs.Common.{ap₂, sym, subst}
+use Rattle.std.proofs.Common.{◌≡◌, ◌≢◌, ◌∙◌, ℕ, ◌≤◌, Bool, true, false, List, [], ◌∷◌, Option, None, Some, length}
+use Rattle.std.proofs.Common.{map, arith, refl, ap, ap₂, sym, subst}
 use Rattle.std.specs.Borrow.{Bor}
 use Rattle.std.specs.List.{AllByRecursion, range_with_len}
 use Rattle.std.proofs.lemmas.Simd.{map-map}
@@ -12,6 +12,7 @@ use Rattle.flake_model.specs.Command.{Command}
 use Rattle.flake_model.specs.Run.{all_commands}
 use Rattle.pin_core.specs.declared.class.Class.{Class}
 use Rattle.pin_core.specs.declared.class.Class.TheVariants.{Small, Large}
+use Rattle.pin_core.specs.declared.sizes.Sizes as pool_size
 use Rattle.pinned_pool.specs.Claims.{count_of}
 use Rattle.pinned_pool.specs.Ends.{End}
 use Rattle.serve_model.specs.Demand.{demand_of}
@@ -20,6 +21,7 @@ use Rattle.request_gen.specs.Words.{all_words, requests_text}
 use Rattle.gen_words.specs.declared.task.GenTask.{GenTask}
 use Rattle.run_resources.specs.Opened.{pool_sizes}
 use Rattle.run_resources.specs.Ran.{AreReads}
+use Rattle.serve_inputs.specs.Dumped.{DumpTold, IsDumpTold, no_dump}
 use Rattle.serve_inputs.specs.Ran.{RanAll}
 use Rattle.run_resources.specs.declared.sizes.Sizes.{Sizes}
 use Rattle.serve_generated.specs.Generated.{RanGenerated, AreFronts, commands_in_all, inputs_of, generated_sizes}
@@ -44,19 +46,30 @@ enough : (task : GenTask) (commands : List (List Command)) (class : Class) → c
 enough task commands Small is = omega (arith, ap (demand_of Small) is)
 enough task commands Large is = omega (arith, ap (demand_of Large) is)
 
+-- a dump that nobody asked for was not taken
+untaken : (commands : List (List Command)) (journal : List (List Entry)) (dump : DumpTold) (taken : Bool)
+    → dump.taken ≡ taken → IsDumpTold None commands journal dump → dump ≡ no_dump
+untaken commands journal dump true is told =
+    absurd (let asked : None ≡ Some (told.taken is).0 = (told.taken is).1 in let no : ⊥ = cc asked in no)
+untaken commands journal dump false is told = told.untaken is
+
+none_told : (commands : List (List Command)) (journal : List (List Entry)) (dump : DumpTold)
+    → IsDumpTold None commands journal dump → dump ≡ no_dump
+none_told commands journal dump told = untaken commands journal dump dump.taken refl told
+
 module _ {W : Type 0} (put_may : W → Bor (List ℕ) → (W × Bool) → Type 0) (flush_may : W → (W × Bool) → Type 0) where
   pub ran_generated : (task : GenTask) (sizes : Sizes) (sources lasts : List InputState) (ends : List SessionEnd)
-      (counts : List ℕ) (journal : List (List Entry)) (pool : End) (olds news : List W)
+      (counts : List ℕ) (journal : List (List Entry)) (pool : End) (dump : DumpTold) (olds news : List W)
       → task.sessions ≤ 16 → task.requests ≤ 4000 → sizes ≡ generated_sizes task
       → sources ≡ inputs_below task.number task.requests task.sessions
       → RanAll put_may flush_may (pool_sizes (length sources) sizes) (map (λ (s : InputState). s.given) lasts)
-      (map (λ (s : InputState). s.ended) lasts) ends counts journal pool olds news
+      (map (λ (s : InputState). s.ended) lasts) ends counts journal pool sizes.dump dump olds news
       → map (λ (s : InputState). Some (bytes_held s)) lasts ≡ map (λ (s : InputState). Some (bytes_held s)) sources
       → AreReads ends (no_faults sources) (no_faults lasts) → AllByRecursion (λ end. end.end ≢ Left) ends
       → RanGenerated put_may flush_may task (map (λ (s : InputState). s.given) lasts)
       (map (λ (s : InputState). s.ended) lasts) ends counts journal pool olds news
-  ran_generated task sizes sources lasts ends counts journal pool olds news few short sizes_are sources_are was wholes
-      reads stays =
+  ran_generated task sizes sources lasts ends counts journal pool dump olds news few short sizes_are sources_are was
+      wholes reads stays =
       let givens = map (λ (s : InputState). s.given) lasts in
       let endeds = map (λ (s : InputState). s.ended) lasts in
       let text : ℕ → List ℕ = λ session. requests_text (all_words task.number session task.requests) in
@@ -67,10 +80,15 @@ module _ {W : Type 0} (put_may : W → Bor (List ℕ) → (W × Bool) → Type 0
       ∙ map-map (λ (s : InputState). Some (bytes_held s)) (λ session. new_input (text session))
       (range_with_len 0 task.sessions) ∙ sym (map-map Some text (range_with_len 0 task.sessions)) in
       let gave = fronts_of (inputs_of task) lasts held in
+      let commands = all_commands was.ran.served.sessions in
+      let none = none_told commands journal dump
+      (subst (λ (asked : Option ℕ). IsDumpTold asked commands journal dump) (ap (λ (s : Sizes). s.dump) sizes_are)
+      was.dumped) in
       let ran : RanAll put_may flush_may (pool_sizes task.sessions (generated_sizes task)) givens endeds ends counts
-      journal pool olds news =
-      subst (λ z. RanAll put_may flush_may z givens endeds ends counts journal pool olds news)
-      (ap₂ pool_sizes as_many sizes_are) was in
+      journal pool None no_dump olds news =
+      subst (λ (q : pool_size.Sizes × Option ℕ × DumpTold).
+      RanAll put_may flush_may q.0 givens endeds ends counts journal pool q.1 q.2 olds news)
+      (λ i. (ap₂ pool_sizes as_many sizes_are i, (sizes_are i).dump, none i)) was in
       let served = ran.ran.served in
       let both = all_ways task.number task.requests 0 task.sessions served.sessions givens endeds ends sources lasts
       (omega arith) short served.each_is served.given_is served.ended_is served.ends_are gave reads stays in

@@ -1,5 +1,5 @@
 -- Generated requests that were served.
-use Rattle.std.specs.Prelude.{◌≡◌, ◌≢◌, ℕ, ◌<◌, ◌⊎◌, max, Bool, List, [], ◌∷◌, Some, map}
+use Rattle.std.specs.Prelude.{◌≡◌, ◌≢◌, ℕ, ◌<◌, ◌⊎◌, max, Bool, List, [], ◌∷◌, Some, None, map}
 use Rattle.std.specs.Borrow.{Bor}
 use Rattle.std.specs.List.{AllByRecursion, range_with_len}
 use Rattle.flake_base.specs.Reads.{IsGivenFront}
@@ -15,6 +15,7 @@ use Rattle.request_gen.specs.Words.{all_words, requests_text}
 use Rattle.request_demand.specs.Sessions.{sessions_of}
 use Rattle.gen_words.specs.declared.task.GenTask.{GenTask}
 use Rattle.run_resources.specs.Opened.{pool_sizes}
+use Rattle.serve_inputs.specs.Dumped.{no_dump}
 use Rattle.serve_inputs.specs.Ran.{RanAll}
 use Rattle.run_resources.specs.declared.sizes.Sizes.{Sizes}
 
@@ -35,6 +36,7 @@ generated_sizes task = record {
   large = max (demand_of Large (commands_in_all task)) 1;
   ring = 1160;
   threshold = 512;
+  dump = None;
 }
 
 -- of each input a front was given, and all of it where none was given at last
@@ -60,7 +62,7 @@ module _ {W : Type 0} (put_may : W → Bor (List ℕ) → (W × Bool) → Type 0
       (counts : List ℕ) (journal : List (List Entry)) (pool : End) (olds news : List W) : Type 0 where
     pub gave : AreFronts (inputs_of task) givens endeds
     pub ran : RanAll put_may flush_may (pool_sizes task.sessions (generated_sizes task)) givens endeds ends counts
-        journal pool olds news
+        journal pool None no_dump olds news
     -- each session ended clean, but for want of memory
     pub ways : AllByRecursion (λ end. (end.end ≡ Clean) ⊎ (end.end ≡ Memory)) ends
     -- without that their commands are those that were generated

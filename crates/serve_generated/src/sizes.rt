@@ -31,5 +31,6 @@ pub(crate) fn sizes_for(task: &GenTask) -> Option<Sizes>
         large: demand.large.max(1),
         ring: 1160,
         threshold: 512,
+        dump: None,
     })
 }

@@ -1,3 +1,6 @@
+pub mod Dumping
 pub mod NewJobs
+pub mod Places
 pub mod Runs
+pub mod Told
 pub mod Whole

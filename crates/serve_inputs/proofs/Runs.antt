@@ -7,6 +7,7 @@ use Rattle.std.proofs.Common.{
   ◌+◌,
   ◌*◌,
   Bool,
+  Option,
   List,
   [],
   ◌∷◌,
@@ -31,19 +32,21 @@ use Rattle.order_book.specs.Pages.{SessionList}
 use Rattle.command_pump.specs.Pump.{PumpState}
 use Rattle.serve_model.specs.Handed.{SessionHasRun, OneRun, AllRun}
 use Rattle.session_pass.specs.Views.{SessionView}
+use Rattle.session_serve.specs.declared.dump.DumpPlan.{DumpPlan}
 use Rattle.session_workers.specs.Jobs.{IsDone}
+use Rattle.session_workers.specs.declared.job.Dumped.{Dumped}
 use Rattle.run_resources.specs.Opened.{session_credits}
 use Rattle.run_resources.specs.Ran.{AreReads, AllSent, AllWhole}
 use Rattle.run_resources.proofs.SessionSlots.{number_of, HasCredits}
 
-module _ {J D W : Type 0} (put_may : W → Bor (List ℕ) → (W × Bool) → Type 0) (flush_may : W → (W × Bool) → Type 0)
-    (z : Sizes) (shards : ℕ) (session : J → SessionView) (pump : J → PumpState) (old : J → W) (end : D → SessionEnd)
-    (bytes : D → ℕ)
-    (mine : D → SessionList) (seat : D → View) (left : D → PumpState) (new : D → W) where
+module _ {J D P W : Type 0} (put_may : W → Bor (List ℕ) → (W × Bool) → Type 0) (flush_may : W → (W × Bool) → Type 0)
+    (z : Sizes) (shards : ℕ) (session : J → SessionView) (pump : J → PumpState) (plan : J → Option (DumpPlan P))
+    (old : J → W) (dump_wire : J → Option W) (end : D → SessionEnd) (bytes : D → ℕ) (mine : D → SessionList)
+    (seat : D → View) (left : D → PumpState) (new : D → W) (dumped : D → Option (Dumped P W)) where
   abbrev pub WasDone : J → D → Type 0
   WasDone j d =
-      IsDone put_may flush_may z shards (session j) (pump j) (old j) (end d) (bytes d) (mine d) (seat d) (left d)
-      (new d)
+      IsDone put_may flush_may z shards (session j) (pump j) (plan j) (old j) (dump_wire j) (end d) (bytes d) (mine d)
+      (seat d) (left d) (new d) (dumped d)
 
   abbrev pub runs_of : (jobs : List J) (dones : List D) → AllZip WasDone jobs dones → List OneRun
   runs_of [] [] is = []
@@ -125,22 +128,25 @@ module _ {J D W : Type 0} (put_may : W → Bor (List ℕ) → (W × Bool) → Ty
         all_ran (n + 1) jobs dones is.1 others,
       )
 
-  pub all_sent : (past : List W) (jobs : List J) (dones : List D) (is : AllZip WasDone jobs dones)
+  -- with more texts on the wires behind those of the sessions
+  pub all_sent : (more : List (Bool × List ℕ)) (olds news : List W) → AllSent put_may flush_may more olds news
+      → (jobs : List J) (dones : List D) (is : AllZip WasDone jobs dones)
       → AllSent put_may flush_may
-      (map (λ (one : OneRun). (one.end.failed, flat_map (λ text. text) one.texts)) (runs_of jobs dones is))
-      (map old jobs ++ past) (map new dones ++ past)
-  all_sent past [] [] is = refl
-  all_sent past [] (d ∷ dones) is = absurd is
-  all_sent past (j ∷ jobs) [] is = absurd is
-  all_sent past (j ∷ jobs) (d ∷ dones) is = (is.0.served.sends, all_sent past jobs dones is.1)
+      (map (λ (one : OneRun). (one.end.failed, flat_map (λ text. text) one.texts)) (runs_of jobs dones is) ++ more)
+      (map old jobs ++ olds) (map new dones ++ news)
+  all_sent more olds news sent [] [] is = sent
+  all_sent more olds news sent [] (d ∷ dones) is = absurd is
+  all_sent more olds news sent (j ∷ jobs) [] is = absurd is
+  all_sent more olds news sent (j ∷ jobs) (d ∷ dones) is =
+      (is.0.served.sends, all_sent more olds news sent jobs dones is.1)
 
-  pub all_whole : (past : List W) (jobs : List J) (dones : List D) (is : AllZip WasDone jobs dones)
+  pub all_whole : (olds news : List W) (jobs : List J) (dones : List D) (is : AllZip WasDone jobs dones)
       → AllWhole put_may flush_may (map (λ (one : OneRun). (one.end.failed, one.texts)) (runs_of jobs dones is))
-      (map bytes dones) (map old jobs ++ past) (map new dones ++ past)
-  all_whole past [] [] is = (refl, refl)
-  all_whole past [] (d ∷ dones) is = absurd is
-  all_whole past (j ∷ jobs) [] is = absurd is
-  all_whole past (j ∷ jobs) (d ∷ dones) is = (is.0.served.whole, all_whole past jobs dones is.1)
+      (map bytes dones) (map old jobs ++ olds) (map new dones ++ news)
+  all_whole olds news [] [] is = refl
+  all_whole olds news [] (d ∷ dones) is = absurd is
+  all_whole olds news (j ∷ jobs) [] is = absurd is
+  all_whole olds news (j ∷ jobs) (d ∷ dones) is = (is.0.served.whole, all_whole olds news jobs dones is.1)
 
   pub all_reads : (jobs : List J) (dones : List D) → AllZip WasDone jobs dones
       → AreReads (map end dones) (map (λ (j : J). (pump j).faults) jobs) (map (λ (d : D). (left d).faults) dones)

@@ -1,5 +1,5 @@
 // The sessions with their sources and wires, before they are served and after.
-ghost use Rattle.std.specs.Prelude.{◌≡◌, ◌<◌, ◌≤◌, ◌++◌, [], All, length, map, vec_capacity};
+ghost use Rattle.std.specs.Prelude.{◌≡◌, ◌<◌, ◌≤◌, ◌++◌, [], None, All, length, map, vec_capacity};
 ghost use Rattle.std.specs.List.{AllZip};
 ghost use Rattle.std.specs.Vec.Iter.{into_iter_items};
 ghost use Rattle.session_workers.specs.Jobs.{IsNewJob, IsDone};
@@ -12,8 +12,8 @@ use order_book::BookName;
 use pinned_pool::PoolName;
 use run_resources::SessionSlot;
 use session_pass::Gate;
-use session_serve::{Line, serve_beside};
-use session_workers::{Done, Job, serve_all};
+use session_serve::{DumpTurn, Line};
+use session_workers::{Done, Job, serve_all, serve_job};
 use std::alloc::Global;
 use std::sync::Wait;
 use std::thread::Threads;
@@ -32,8 +32,9 @@ pub(crate) fn line_up<N: BookName, P: PoolName + Send, S: Source + Drop, W: Drop
     requires unread { All (λ s. S.given s ≡ []) sources.items }
     requires wires { length slots.items ≤ length wires.items }
     requires room { (jobs.items ≡ []) × (length slots.items ≤ vec_capacity jobs) }
-    ensures fresh { All (λ job. IsNewJob P.sizes job.line.session job.line.pump job.line.device.end
-        job.line.device.failed) result.0.items }
+    ensures fresh { All (λ job. IsNewJob P.sizes N.sizes.shards job.line.session job.line.pump job.line.device.end
+        job.line.device.failed job.line.dump.plan job.line.dump.taken job.dump_wire) result.0.items }
+    ensures unasked { All (λ job. job.line.dump.plan ≡ None) result.0.items }
     ensures sessions { map (λ job. job.line.session) result.0.items ≡ map (λ d. d.session) slots.items }
     ensures names { map (λ job. job.line.pump.origin.name) result.0.items ≡ map (λ s. S.name s) sources.items }
     ensures wholes { map (λ job. job.line.pump.origin.whole) result.0.items ≡ map (λ s. S.whole s) sources.items }
@@ -56,12 +57,19 @@ pub(crate) fn line_up<N: BookName, P: PoolName + Send, S: Source + Drop, W: Drop
             room,
         } = slot;
         let pump = Pump::new(alloc, source);
+        let dump = DumpTurn::new(alloc, None);
         let line = Line {
             session,
             pump,
             device,
+            dump,
         };
-        jobs.push_reserved(Job { line, room, wire });
+        jobs.push_reserved(Job {
+            line,
+            room,
+            wire,
+            dump_wire: None,
+        });
     }
     (jobs, more_wires)
 }
@@ -87,19 +95,17 @@ fn serve_here<
     flush: &FLUSH,
 ) -> Vec<Done<N, P, S, W>>
     requires calls { PUT.IsAlwaysCallable put.now × FLUSH.IsAlwaysCallable flush.now }
-    requires fresh { All (λ job. IsNewJob P.sizes job.line.session job.line.pump job.line.device.end
-        job.line.device.failed) jobs.items }
+    requires fresh { All (λ job. IsNewJob P.sizes N.sizes.shards job.line.session job.line.pump job.line.device.end
+        job.line.device.failed job.line.dump.plan job.line.dump.taken job.dump_wire) jobs.items }
     requires room { (dones.items ≡ []) × (length jobs.items ≤ vec_capacity dones) }
     ensures { AllZip (λ job done. IsDone (λ w p r. PUT.post put.now w p r)
-        (λ w r. FLUSH.post flush.now w r) P.sizes N.sizes.shards job.line.session job.line.pump job.wire
-        done.account.end done.account.sent done.account.mine done.account.seat done.account.pump done.wire)
-        jobs.items result.items }
+        (λ w r. FLUSH.post flush.now w r) P.sizes N.sizes.shards job.line.session job.line.pump job.line.dump.plan
+        job.wire job.dump_wire done.account.end done.account.sent done.account.mine done.account.seat
+        done.account.pump done.wire done.dump) jobs.items result.items }
 {
     let mut dones = dones;
     for job in jobs {
-        let Job { line, room, wire } = job;
-        let (wire, account) = serve_beside(rt, alloc, shop, line, room, gate, wire, put, flush);
-        dones.push_reserved(Done { account, wire });
+        dones.push_reserved(serve_job(rt, alloc, shop, job, gate, put, flush));
     }
     dones
 }
@@ -127,13 +133,13 @@ pub(crate) fn serve_jobs<
 ) -> Vec<Done<N, P, S, W>>
     requires calls { PUT.IsAlwaysCallable put.now × FLUSH.IsAlwaysCallable flush.now }
     requires workers { (0 < workers) × (workers ≤ 16) }
-    requires fresh { All (λ job. IsNewJob P.sizes job.line.session job.line.pump job.line.device.end
-        job.line.device.failed) jobs.items }
+    requires fresh { All (λ job. IsNewJob P.sizes N.sizes.shards job.line.session job.line.pump job.line.device.end
+        job.line.device.failed job.line.dump.plan job.line.dump.taken job.dump_wire) jobs.items }
     requires room { (dones.items ≡ []) × (length jobs.items ≤ vec_capacity dones) }
     ensures { AllZip (λ job done. IsDone (λ w p r. PUT.post put.now w p r)
-        (λ w r. FLUSH.post flush.now w r) P.sizes N.sizes.shards job.line.session job.line.pump job.wire
-        done.account.end done.account.sent done.account.mine done.account.seat done.account.pump done.wire)
-        jobs.items result.items }
+        (λ w r. FLUSH.post flush.now w r) P.sizes N.sizes.shards job.line.session job.line.pump job.line.dump.plan
+        job.wire job.dump_wire done.account.end done.account.sent done.account.mine done.account.seat
+        done.account.pump done.wire done.dump) jobs.items result.items }
 {
     match serve_all(rt, alloc, shop, jobs, workers, gate, put, flush) {
         Ok(dones) => dones,

@@ -3,12 +3,15 @@
 //! one record.
 #![tactic(auto)]
 
+mod dumped;
 mod jobs;
+mod orders;
 mod results;
 mod run;
 mod serving;
 mod space;
 
+pub use dumped::DumpEnd;
 pub use run::serve_inputs;
 pub use run_resources::Sizes;
 pub use serving::Served;

@@ -63,6 +63,7 @@ pub(crate) fn bring_in<N: BookName, P: PoolName, S: Source + Drop, W: Drop>(
     ensures endeds { map (λ s. S.ended s) result.sources.items ≡ map (λ d. d.account.pump.ended) dones.items }
     ensures faults { map (λ s. S.read_faults s) result.sources.items ≡ map (λ d. d.account.pump.faults) dones.items }
     ensures wires { result.wires.items ≡ map (λ d. d.wire) dones.items ++ into_iter_items past }
+    ensures wire_room { vec_capacity result.wires ≡ vec_capacity results.wires }
     ensures seats { HasJoined (map (λ d. d.account.seat) dones.items) main.old main.new }
 {
     let Results {
@@ -73,13 +74,18 @@ pub(crate) fn bring_in<N: BookName, P: PoolName, S: Source + Drop, W: Drop>(
         mut wires,
     } = results;
     for done in dones {
-        let Done { account, wire } = done;
+        let Done {
+            account,
+            wire,
+            dump: _,
+        } = done;
         let Account {
             end,
             seat,
             mine,
             sent: bytes,
             pump,
+            dump: _,
         } = account;
         let Ok(()) = ends.push(end) else {
             unreachable!()
@@ -104,7 +110,8 @@ pub(crate) fn bring_in<N: BookName, P: PoolName, S: Source + Drop, W: Drop>(
 // Those that nobody used go last.
 fn with_past<W: Drop>(wires: Vec<W>, past: IntoIter<W>) -> Vec<W>
     requires { vec_len wires + length (into_iter_items past) ≤ vec_capacity wires }
-    ensures { result.items ≡ wires.items ++ into_iter_items past }
+    ensures items { result.items ≡ wires.items ++ into_iter_items past }
+    ensures room { vec_capacity result ≡ vec_capacity wires }
 {
     let mut wires = wires;
     for wire in past {

@@ -1,15 +1,16 @@
 // Some sources, from nothing to nothing.
-ghost use Rattle.std.specs.Prelude.{◌≡◌, ◌≢◌, ◌<◌, ◌≤◌, [], All, length, map, IfOk, IfErr};
+ghost use Rattle.std.specs.Prelude.{◌≡◌, ◌≢◌, ◌+◌, ◌<◌, ◌≤◌, [], All, length, map, IfOk, IfErr};
 ghost use Rattle.flake_base.specs.Histories.{histories};
-ghost use Rattle.run_resources.specs.Opened.{HasRunSizes, IsPool, IsBook, pool_sizes};
+ghost use Rattle.run_resources.specs.Opened.{HasRunSizes, IsPool, IsBook, dump_wires, pool_sizes};
 ghost use Rattle.run_resources.specs.Ran.{AreReads};
+ghost use Rattle.serve_inputs.specs.Dumped.{dump_told};
 ghost use Rattle.serve_inputs.specs.Ran.{RanAll};
 
 use crate::serving::{Room, Served, serve_opened};
 use flake_base::{End, Source};
 use order_book::{BookBlank, BookName};
 use pinned_pool::{PoolBlank, PoolName};
-use run_resources::{SESSION_CREDITS, Sizes, open_resources};
+use run_resources::{Sizes, open_resources};
 use session_pass::Gate;
 use std::alloc::Global;
 use std::marker::Brand;
@@ -43,7 +44,7 @@ fn serve_named<
     requires sized { HasRunSizes (length sources.items) sizes.now }
     requires workers { (0 < workers) × (workers ≤ 16) }
     requires unread { All (λ s. S.given s ≡ []) sources.items }
-    requires wires { length sources.items ≤ length wires.items }
+    requires wires { length sources.items + dump_wires sizes.now.dump ≤ length wires.items }
     requires pool { (P.table ≡ pool.table) × (P.sizes ≡ pool.sizes)
         × IsPool (length sources.items) sizes.now P.sizes }
     requires book { (N.table ≡ book.table) × (N.sizes ≡ book.sizes)
@@ -51,7 +52,7 @@ fn serve_named<
     ensures ran { IfOk result (λ r. RanAll (λ w p r. PUT.post put.now w p r) (λ w r. FLUSH.post flush.now w r)
         (pool_sizes (length sources.items) sizes.now) (map (λ s. S.given s) r.sources.items)
         (map (λ s. S.ended s) r.sources.items) r.ends.items r.sent.items (histories r.journal.items) r.pool
-        wires.items r.wires.items) }
+        sizes.now.dump (dump_told r.dump) wires.items r.wires.items) }
     ensures names { IfOk result (λ r. map (λ s. S.name s) r.sources.items ≡ map (λ s. S.name s) sources.items) }
     ensures wholes { IfOk result (λ r. map (λ s. S.whole s) r.sources.items ≡ map (λ s. S.whole s) sources.items) }
     ensures shards { IfOk result (λ r. length r.journal.items ≡ sizes.now.shards) }
@@ -72,8 +73,8 @@ fn serve_named<
 }
 
 /// Serves the requests of each source, of which nothing was read, to its end, or until memory is wanting, by so many
-/// workers, and puts the replies on its wire; wires past the sources come back as they are. Where memory is wanting
-/// before anything is read, the sources and the wires come back.
+/// workers, and puts the replies on its wire. The dump that the sizes ask for goes to the wire behind these; wires past
+/// them come back as they are. Where memory is wanting before anything is read, the sources and the wires come back.
 pub fn serve_inputs<
     R: Threads + Wait + Sync,
     S: Source + Send + Drop,
@@ -96,11 +97,11 @@ pub fn serve_inputs<
     requires sized { HasRunSizes (length sources.items) sizes.now }
     requires workers { (0 < workers) × (workers ≤ 16) }
     requires unread { All (λ s. S.given s ≡ []) sources.items }
-    requires wires { length sources.items ≤ length wires.items }
+    requires wires { length sources.items + dump_wires sizes.now.dump ≤ length wires.items }
     ensures ran { IfOk result (λ r. RanAll (λ w p r. PUT.post put.now w p r) (λ w r. FLUSH.post flush.now w r)
         (pool_sizes (length sources.items) sizes.now) (map (λ s. S.given s) r.sources.items)
         (map (λ s. S.ended s) r.sources.items) r.ends.items r.sent.items (histories r.journal.items) r.pool
-        wires.items r.wires.items) }
+        sizes.now.dump (dump_told r.dump) wires.items r.wires.items) }
     ensures names { IfOk result (λ r. map (λ s. S.name s) r.sources.items ≡ map (λ s. S.name s) sources.items) }
     ensures wholes { IfOk result (λ r. map (λ s. S.whole s) r.sources.items ≡ map (λ s. S.whole s) sources.items) }
     ensures shards { IfOk result (λ r. length r.journal.items ≡ sizes.now.shards) }
@@ -110,8 +111,8 @@ pub fn serve_inputs<
     ensures refused { IfErr result (λ e. (e.0.items ≡ sources.items) × (e.1.items ≡ wires.items)) }
 {
     let count = sources.len();
-    let credits = SESSION_CREDITS * count as u64 + u64::from(sizes.shards) + 1;
-    let Ok(pool) = PoolBlank::open(alloc, sizes.small, sizes.large, credits) else {
+    let Ok(pool) = PoolBlank::open(alloc, sizes.small, sizes.large, sizes.pool_credits(count))
+    else {
         return Err((sources, wires));
     };
     let Ok(book) = BookBlank::open(alloc, sizes.shards, count as u16) else {

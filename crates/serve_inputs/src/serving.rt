@@ -1,13 +1,17 @@
 // Sources are served in what was opened.
-ghost use Rattle.std.specs.Prelude.{◌≡◌, ◌≢◌, ◌<◌, ◌≤◌, [], All, length, map, vec_capacity};
+ghost use Rattle.std.specs.Prelude.{◌≡◌, ◌≢◌, ◌+◌, ◌<◌, ◌≤◌, [], All, length, map, vec_capacity};
 ghost use Rattle.std.specs.List.{range_with_len};
 ghost use Rattle.serve_model.specs.Seats.{IsSpare};
 ghost use Rattle.flake_base.specs.Histories.{histories};
-ghost use Rattle.run_resources.specs.Opened.{IsPool, IsBook, IsSessionSlot, pool_sizes};
+ghost use Rattle.run_resources.specs.Opened.{HasRunSizes, IsPool, IsBook, IsSessionSlot, pool_sizes};
+ghost use Rattle.run_resources.specs.Opened.{dump_credits, dump_wires};
+ghost use Rattle.serve_inputs.specs.Dumped.{dump_told};
 ghost use Rattle.run_resources.specs.Ran.{AreReads};
 ghost use Rattle.serve_inputs.specs.Ran.{RanAll};
 
+use crate::dumped::DumpEnd;
 use crate::jobs::{line_up, serve_jobs};
+use crate::orders::{ask_first, first_dumped, put_back, split_order};
 use crate::results::{Results, bring_in};
 use crate::space::Space;
 use command_exec::Shop;
@@ -32,6 +36,8 @@ pub struct Served<S, W> {
     pub sent: Vec<u64>,
     pub journal: Journal,
     pub pool: PoolEnd,
+    /// What came of the dump, if one was asked for.
+    pub dump: DumpEnd,
     pub sources: Vec<S>,
     pub wires: Vec<W>,
 }
@@ -61,11 +67,12 @@ pub(crate) fn serve_opened<
 ) -> Served<S, W>
     requires calls { PUT.IsAlwaysCallable put.now × FLUSH.IsAlwaysCallable flush.now }
     requires workers { (0 < workers) × (workers ≤ 16) }
+    requires sized { HasRunSizes (length sources.items) sizes.now }
     requires pool { IsPool (length sources.items) sizes.now P.sizes }
     requires book { IsBook (length sources.items) sizes.now N.sizes }
     requires unread { All (λ s. S.given s ≡ []) sources.items }
-    requires wires { length sources.items ≤ length wires.items }
-    requires main { IsSpare resources.main × (resources.main.credits ≡ 1) }
+    requires wires { length sources.items + dump_wires sizes.now.dump ≤ length wires.items }
+    requires main { IsSpare resources.main × (resources.main.credits ≡ 1 + dump_credits sizes.now) }
     requires slots { All (λ d. IsSessionSlot P.sizes d.session d.device.end d.device.failed) resources.slots.items }
     requires numbers { map (λ d. d.session.pass.list.number) resources.slots.items
         ≡ range_with_len 0 (length sources.items) }
@@ -79,7 +86,8 @@ pub(crate) fn serve_opened<
     ensures ran { RanAll (λ w p r. PUT.post put.now w p r) (λ w r. FLUSH.post flush.now w r)
         (pool_sizes (length sources.items) sizes.now) (map (λ s. S.given s) result.sources.items)
         (map (λ s. S.ended s) result.sources.items) result.ends.items result.sent.items
-        (histories result.journal.items) result.pool wires.items result.wires.items }
+        (histories result.journal.items) result.pool sizes.now.dump (dump_told result.dump) wires.items
+        result.wires.items }
     ensures names { map (λ s. S.name s) result.sources.items ≡ map (λ s. S.name s) sources.items }
     ensures wholes { map (λ s. S.whole s) result.sources.items ≡ map (λ s. S.whole s) sources.items }
     ensures shards { length result.journal.items ≡ sizes.now.shards }
@@ -99,13 +107,18 @@ pub(crate) fn serve_opened<
         dones,
         results,
     } = space;
-    let (jobs, past) = line_up(alloc, slots, sources, wires, jobs);
+    let mut wires = wires;
+    let count = sources.len();
+    let order = split_order(&pool, &mut main, sizes, count, &mut wires);
+    let (mut jobs, past) = line_up(alloc, slots, sources, wires, jobs);
+    ask_first(alloc, &mut jobs, order);
     let shop = Shop {
         pool: &pool,
         book: &book,
         store: &store,
     };
-    let dones = serve_jobs(rt, alloc, &shop, jobs, dones, workers, gate, put, flush);
+    let mut dones = serve_jobs(rt, alloc, &shop, jobs, dones, workers, gate, put, flush);
+    let dumped = first_dumped(&mut dones);
     let parts = store.into_parts(&pool);
     let Results {
         ends,
@@ -114,13 +127,14 @@ pub(crate) fn serve_opened<
         sources,
         wires,
     } = bring_in(&pool, &mut main, dones, past, results);
+    let (dump, wires) = put_back(alloc, &pool, &mut main, dumped, count, wires);
     let Closed { journal, end: pool } = close_all(pool, book, parts, main, lists);
-    let _ = sizes;
     Served {
         ends,
         sent,
         journal,
         pool,
+        dump,
         sources,
         wires,
     }

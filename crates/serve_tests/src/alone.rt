@@ -10,7 +10,7 @@ use order_book::{Book, BookBlank, BookName, SessionSeats};
 use pinned_pool::{Pool, PoolBlank, PoolName, PoolSeat};
 use run_resources::{RunResources, SESSION_CREDITS, Sizes, close_all, open_resources};
 use session_pass::NoGate;
-use session_serve::{Account, Line, Room, serve_beside};
+use session_serve::{Account, DumpTurn, Line, Room, serve_beside};
 use shard_store::Store;
 use std::alloc::Global;
 use std::marker::Brand;
@@ -37,6 +37,7 @@ fn close_one<N: BookName, P: PoolName>(
         mine,
         sent,
         pump: _,
+        dump: _,
     } = account;
     let mut lists = SessionSeats::with_room(alloc, 1)?;
     if lists.push(mine).is_err() {
@@ -84,6 +85,7 @@ fn serve_named<R: Threads + Wait + Sync, N: BookName, P: PoolName + Send + Sync>
         session: slot.session,
         pump: Pump::new(alloc, source),
         device: slot.device,
+        dump: DumpTurn::new(alloc, None),
     };
     let room = Room::new(alloc)?;
     let (wire, account) = serve_beside(rt, alloc, &shop, line, room, &NoGate, wire, &put, &flush);
@@ -103,6 +105,7 @@ fn served<R: Threads + Wait + Sync>(
         large: 8,
         ring: 1160,
         threshold: 512,
+        dump: None,
     };
     let input = source(alloc, lines, b"", 4096)?;
     let wire = wires_of(alloc, 1, fails)?.pop().ok_or("no wire")?;

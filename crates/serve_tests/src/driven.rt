@@ -38,6 +38,7 @@ fn driven<R: Wait>(
         large: 8,
         ring: 1160,
         threshold: 512,
+        dump: None,
     };
     let schedule = read_schedule(alloc, schedule.as_bytes(), count as u16)?;
     let lines = schedule.as_slice();

@@ -34,6 +34,7 @@ fn served<R: Threads + Wait + Sync>(
         large: 8,
         ring: 1160,
         threshold: 512,
+        dump: None,
     };
     let Ok(served) = serve_inputs(
         rt, alloc, &sizes, workers, sources, wires, &NoGate, &put, &flush,

@@ -28,10 +28,10 @@ sized_command name = with_rule (with_rule (with_rule (with_rule (with_rule (bare
     (option_rule (codes "shards"))) (option_rule (codes "small"))) (option_rule (codes "large")))
     (option_rule (codes "ring"))) (option_rule (codes "threshold"))
 
--- `serve`: the sizes, an option more, a flag, and files
+-- `serve`: the sizes, two options more, a flag, and files
 abbrev pub serve_command : App
-serve_command = with_rule (with_rule (with_rule (sized_command (codes "serve")) (option_rule (codes "workers")))
-    (flag_rule (codes "journal"))) file_rule
+serve_command = with_rule (with_rule (with_rule (with_rule (sized_command (codes "serve"))
+    (option_rule (codes "workers"))) (option_rule (codes "dump"))) (flag_rule (codes "journal"))) file_rule
 
 -- `drive`: the sizes, and files
 abbrev pub drive_command : App

@@ -1,10 +1,11 @@
 -- What the words of the command line ask `join` for.
-use Rattle.std.specs.Prelude.{ℕ, ℤ, pos, ◌≤◌, ◌<◌, ◌-◌, ◌^◌, ◌&&◌, nat_le, if◌then◌else◌}
+use Rattle.std.specs.Prelude.{ℕ, ◌≤◌, ◌<◌, ◌-◌, ◌^◌, if◌then◌else◌}
 use Rattle.std.specs.Prelude.{List, [], ◌∷◌, Option, Some, None, codes}
 use Rattle.std.specs.Option.{option_and_then}
 use Rattle.flake_model.specs.Range.{signed_of}
 use Rattle.serve_words.specs.Command.{join_command, rows_by}
 use Rattle.serve_words.specs.Named.{begins_with}
+use Rattle.serve_words.specs.Sizes.{number_between}
 use Rattle.serve_words.specs.Task.{files_in}
 use Rattle.serve_words.specs.declared.join.JoinTask.{JoinTask}
 
@@ -19,11 +20,6 @@ pub record AreJoinNumbers (mtu calls : ℕ) : Type 0 where
   pub low : 64 ≤ mtu
   pub high : mtu ≤ 9216
   pub few : calls < 2 ^ 32
-
--- a plain decimal between these
-abbrev pub number_between : ℕ → ℕ → Option ℤ → Option ℕ
-number_between least most (Some (pos n)) = if nat_le least n && nat_le n most then Some n else None
-number_between least most _ = None
 
 abbrev pub join_with : List ℕ → Option ℕ → Option ℕ → Option Join
 join_with file (Some mtu) (Some calls) = Some (record { mtu = mtu; calls = calls; file = file })

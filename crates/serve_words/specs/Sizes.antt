@@ -1,21 +1,27 @@
--- The sizes that the options ask for.
+-- The numbers that the options ask for.
 use Rattle.std.specs.Prelude.{◌≡◌, ◌≤◌, ℕ, ℤ, List, Option, Some, None, codes, if◌then◌else◌, pos, ◌==◌, ◌&&◌, ◌%◌}
-use Rattle.std.specs.Prelude.{nat_le}
-use Rattle.std.specs.Option.{option_map_or}
+use Rattle.std.specs.Prelude.{◌^◌, ◌-◌, nat_le}
+use Rattle.std.specs.Option.{option_map, option_map_or}
 use Rattle.flake_model.specs.Range.{signed_of}
 use Rattle.clap.specs.Walk.{Row, first_of}
 use Rattle.serve_words.specs.declared.sizes.Limits.{Limits}
 use Rattle.serve_words.specs.declared.sizes.Sizes.{Sizes}
 
--- the number within its limits
-abbrev pub within : Limits → Option ℤ → Option ℕ
-within limits (Some (pos n)) = if nat_le limits.least n && nat_le n limits.most then Some n else None
-within limits _ = None
+-- a plain decimal between these
+abbrev pub number_between : ℕ → ℕ → Option ℤ → Option ℕ
+number_between least most (Some (pos n)) = if nat_le least n && nat_le n most then Some n else None
+number_between least most _ = None
 
 -- the size that an option gives: a plain decimal within its limits, or the usual one where the option isn't there
 abbrev pub size_in : List ℕ → Limits → List Row → Option ℕ
-size_in name limits rows =
-    option_map_or (λ text. within limits (signed_of text)) (first_of name rows) (Some limits.usual)
+size_in name limits rows = option_map_or (λ text. number_between limits.least limits.most (signed_of text))
+    (first_of name rows) (Some limits.usual)
+
+-- the call before which a dump is taken: no call where the option isn't there, and none at all where its text is no
+-- number of a call
+abbrev pub dump_in : List Row → Option (Option ℕ)
+dump_in rows = option_map_or (λ text. option_map (λ call. Some call) (number_between 0 (2 ^ 32 - 1) (signed_of text)))
+    (first_of (codes "dump") rows) (Some None)
 
 abbrev pub shards_limits : Limits
 shards_limits = record { least = 1; most = 16; usual = 8 }

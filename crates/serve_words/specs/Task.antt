@@ -7,16 +7,17 @@ use Rattle.std.specs.Str.{bytes_eq}
 use Rattle.clap.specs.Walk.{Row, all_of, first_of}
 use Rattle.serve_words.specs.Command.{rows_by, serve_command}
 use Rattle.serve_words.specs.Named.{begins_with}
-use Rattle.serve_words.specs.Sizes.{AreAllowed, size_in, sizes_in, workers_limits}
+use Rattle.serve_words.specs.Sizes.{AreAllowed, dump_in, size_in, sizes_in, workers_limits}
 use Rattle.serve_words.specs.declared.sizes.Sizes.{Sizes}
 use Rattle.serve_words.specs.declared.task.ServeTask.{ServeTask}
 
--- the names of the files that are to be served, in order, the sizes to serve them with, how many workers do it, and
--- whether the journal is what is said of it
+-- the names of the files that are to be served, in order, the sizes to serve them with, how many workers do it, before
+-- which call of the first session a dump is taken, if one is, and whether the journal is what is said of it
 pub record Task : Type 0 where
   pub files : List (List ℕ)
   pub sizes : Sizes
   pub workers : ℕ
+  pub dump : Option ℕ
   pub journal : Bool
 
 -- there are 1 to 16 files, and 128 small buffers for each
@@ -30,13 +31,18 @@ workers_in files rows = size_in (codes "workers") (workers_limits (length files)
 abbrev pub flag_in : List ℕ → List Row → Bool
 flag_in name rows = option_map_or (λ text. bytes_eq text (codes "true")) (first_of name rows) false
 
-abbrev pub task_by : List (List ℕ) → List Row → Sizes → ℕ → Task
-task_by files rows sizes workers =
-    record { files = files; sizes = sizes; workers = workers; journal = flag_in (codes "journal") rows }
+abbrev pub task_by : List (List ℕ) → List Row → Sizes → ℕ → Option ℕ → Task
+task_by files rows sizes workers dump = record {
+  files = files;
+  sizes = sizes;
+  workers = workers;
+  dump = dump;
+  journal = flag_in (codes "journal") rows;
+}
 
 abbrev pub task_for : List (List ℕ) → List Row → Sizes → Option Task
-task_for files rows sizes =
-    if fits_files files sizes then option_map (task_by files rows sizes) (workers_in files rows) else None
+task_for files rows sizes = if fits_files files sizes then option_and_then
+    (λ workers. option_map (task_by files rows sizes workers) (dump_in rows)) (workers_in files rows) else None
 
 abbrev pub files_in : List Row → List (List ℕ)
 files_in rows = unwrap_or (all_of (codes "file") rows) []
@@ -58,6 +64,7 @@ task_shown task = record {
   files = map (λ file. file.now) task.files.items;
   sizes = task.sizes;
   workers = task.workers;
+  dump = task.dump;
   journal = task.journal;
 }
 

@@ -80,7 +80,8 @@ fn serve_command<'a>(alloc: Global) -> Result<Command<'a>, AllocError>
     ensures { IfOk result (λ command. app_of command ≡ serve_command) }
 {
     let command = sized_command(alloc, "serve")?
-        .arg(size_option(alloc, "workers"))?
+        .arg(number_option(alloc, "workers"))?
+        .arg(number_option(alloc, "dump"))?
         .arg(flag(alloc, "journal"))?
         .arg(files(alloc))?;
     Ok(command)
@@ -110,11 +111,11 @@ fn sized_command<'a>(alloc: Global, name: &'a str) -> Result<Command<'a>, AllocE
     ensures { IfOk result (λ command. app_of command ≡ sized_command name.entry.now) }
 {
     let command = bare_command(alloc, name)
-        .arg(size_option(alloc, "shards"))?
-        .arg(size_option(alloc, "small"))?
-        .arg(size_option(alloc, "large"))?
-        .arg(size_option(alloc, "ring"))?
-        .arg(size_option(alloc, "threshold"))?;
+        .arg(number_option(alloc, "shards"))?
+        .arg(number_option(alloc, "small"))?
+        .arg(number_option(alloc, "large"))?
+        .arg(number_option(alloc, "ring"))?
+        .arg(number_option(alloc, "threshold"))?;
     Ok(command)
 }
 
@@ -128,7 +129,7 @@ fn bare_command<'a>(alloc: Global, name: &'a str) -> Command<'a>
 }
 
 // An option `--name VALUE`.
-fn size_option<'a>(alloc: Global, name: &'a str) -> Arg<'a>
+fn number_option<'a>(alloc: Global, name: &'a str) -> Arg<'a>
     ensures rule { rule_of result ≡ option_rule name.entry.now }
     ensures local { result.global ≡ false }
 {

@@ -1,13 +1,12 @@
-ghost use Rattle.std.specs.Prelude.{◌≡◌, ◌≤◌, IfOk, IfSome, map, option_map};
-ghost use Rattle.flake_model.specs.Range.{signed_of};
-ghost use Rattle.serve_words.specs.Join.{AreJoinNumbers, join_for, join_of, number_between, shown_join};
+ghost use Rattle.std.specs.Prelude.{◌≡◌, IfOk, IfSome, map, option_map};
+ghost use Rattle.serve_words.specs.Join.{AreJoinNumbers, join_for, join_of, shown_join};
 ghost use Rattle.serve_words.specs.Task.{word_texts};
 
 use crate::command::join_matches;
 use crate::named::begins_with;
+use crate::sizes::number_between;
 use crate::task::files_in;
 use flake_base::Memory;
-use range_pick::read_signed;
 use std::alloc::Global;
 
 /// The least and the most bytes of a frame.
@@ -57,19 +56,5 @@ fn join_for<'a>(words: &[&'a str]) -> Option<JoinTask<'a>>
             })
         }
         _ => None,
-    }
-}
-
-// The plain decimal between these.
-fn number_between(least: u32, most: u32, text: &str) -> Option<u32>
-    ensures value { result ≡ number_between least most (signed_of text.now) }
-    ensures within { IfSome result (λ n. (least ≤ n) × (n ≤ most)) }
-{
-    let number = read_signed(text.as_bytes()).ok()?;
-    let number = u32::try_from(number).ok()?;
-    if least <= number && number <= most {
-        Some(number)
-    } else {
-        None
     }
 }

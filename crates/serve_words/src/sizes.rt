@@ -2,7 +2,7 @@ ghost use Rattle.std.specs.Prelude.{◌≡◌, ◌≤◌, IfSome, Some, None, co
 ghost use Rattle.clap.specs.Matches.{found_of};
 ghost use Rattle.clap.specs.Walk.{rows_of};
 ghost use Rattle.flake_model.specs.Range.{signed_of};
-ghost use Rattle.serve_words.specs.Sizes.{AreAllowed, size_in, sizes_in, within, workers_limits};
+ghost use Rattle.serve_words.specs.Sizes.{AreAllowed, dump_in, number_between, size_in, sizes_in, workers_limits};
 
 use clap::ArgMatches;
 use range_pick::read_signed;
@@ -100,6 +100,19 @@ pub(crate) fn workers_in(matches: &ArgMatches<'_>, files: u16) -> Option<u16>
     Some(workers as u16)
 }
 
+/// The call before which a dump is taken, which the words needn't say; none where they say no number of a call.
+pub(crate) fn dump_in(matches: &ArgMatches<'_>) -> Option<Option<u32>>
+    ensures { result ≡ dump_in (rows_of (found_of matches.now)) }
+{
+    match matches.get_str("dump") {
+        Some(text) => {
+            let call = number_between(0, u32::MAX, text)?;
+            Some(Some(call))
+        }
+        None => Some(None),
+    }
+}
+
 // The size that an option gives.
 fn size_in(matches: &ArgMatches<'_>, name: &str, limits: Limits) -> Option<u32>
     requires { (limits.least ≤ limits.usual) × (limits.usual ≤ limits.most) }
@@ -107,20 +120,20 @@ fn size_in(matches: &ArgMatches<'_>, name: &str, limits: Limits) -> Option<u32>
     ensures within { IfSome result (λ size. (limits.least ≤ size) × (size ≤ limits.most)) }
 {
     match matches.get_str(name) {
-        Some(text) => within(limits, text),
+        Some(text) => number_between(limits.least, limits.most, text),
         None => Some(limits.usual),
     }
 }
 
-// The number within its limits.
-fn within(limits: Limits, text: &str) -> Option<u32>
-    ensures value { result ≡ within limits (signed_of text.now) }
-    ensures within { IfSome result (λ size. (limits.least ≤ size) × (size ≤ limits.most)) }
+/// The plain decimal between these.
+pub(crate) fn number_between(least: u32, most: u32, text: &str) -> Option<u32>
+    ensures value { result ≡ number_between least most (signed_of text.now) }
+    ensures within { IfSome result (λ n. (least ≤ n) × (n ≤ most)) }
 {
     let number = read_signed(text.as_bytes()).ok()?;
-    let size = u32::try_from(number).ok()?;
-    if limits.least <= size && size <= limits.most {
-        Some(size)
+    let number = u32::try_from(number).ok()?;
+    if least <= number && number <= most {
+        Some(number)
     } else {
         None
     }

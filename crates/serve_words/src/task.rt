@@ -3,19 +3,21 @@ ghost use Rattle.clap.specs.Matches.{found_of};
 ghost use Rattle.clap.specs.Walk.{rows_of};
 ghost use Rattle.serve_words.specs.Task.{IsAllowed, files_in, fits_files, flag_in, task_shown, task_in};
 
-use crate::sizes::{Sizes, sizes_in, workers_in};
+use crate::sizes::{Sizes, dump_in, sizes_in, workers_in};
 use clap::ArgMatches;
 use flake_base::Memory;
 use std::alloc::{AllocError, Global};
 
-/// The files that are to be served, the sizes to serve them with, how many workers do it, and whether the journal is
-/// what is said of it.
+/// The files that are to be served, the sizes to serve them with, how many workers do it, when a dump is taken, and
+/// whether the journal is what is said of it.
 #[derive(Debug, Drop)]
 pub struct ServeTask<'a> {
     /// Their names, in the order of the words.
     pub files: Vec<&'a str>,
     pub sizes: Sizes,
     pub workers: u16,
+    /// The call of the first session before which a dump is taken, if one is.
+    pub dump: Option<u32>,
     pub journal: bool,
 }
 
@@ -37,10 +39,14 @@ pub(crate) fn task_in<'a>(
     let Some(workers) = workers_in(matches, files.len() as u16) else {
         return Ok(None);
     };
+    let Some(dump) = dump_in(matches) else {
+        return Ok(None);
+    };
     Ok(Some(ServeTask {
         files,
         sizes,
         workers,
+        dump,
         journal: flag_in(matches, "journal"),
     }))
 }

@@ -2,6 +2,7 @@
 #![tactic(auto)]
 
 mod call;
+mod dump;
 mod error;
 mod finish;
 mod gate;
@@ -17,5 +18,6 @@ pub use command_pump::Pump;
 pub use error::CallError;
 pub use finish::Finish;
 pub use gate::{Gate, NoGate};
+pub use pin_dump::{Dump, Written};
 pub use reap::Reaped;
 pub use session::Session;

@@ -224,13 +224,13 @@ pub work-bounded : (z : Sizes) (shards : ℕ) (first : SessionView) (origin : Or
 work-bounded z shards first origin before given calls session pump w =
     omega (arith, w.count, bounded origin before given pump w.pump_is)
 
-pub work-longer : (z : Sizes) (shards : ℕ) (first : SessionView) (origin : Origin) (before : ℕ)
+pub work-longer : (z : Sizes) (shards : ℕ) (first later : SessionView) (origin : Origin) (before : ℕ)
     (given : List Command)
     (calls : List Outcomes) (old new : SessionView) (pump after : PumpState)
     → IsWorking z shards first origin before given calls old pump
-    → CallsMore z shards first origin before given calls new after → (length new.posted ≡ length old.posted + 1)
+    → CallsMore z shards later origin before given calls new after → (length new.posted ≡ length old.posted + 1)
     × (length new.posted ≤ judged_bytes + 1)
-work-longer z shards first origin before given calls old new pump after w c = (
+work-longer z shards first later origin before given calls old new pump after w c = (
   omega (arith, w.count, c.working.count, length-append given (c.command ∷ [])),
-  work-bounded z shards first origin before (given ++ c.command ∷ []) (calls ++ c.outcomes ∷ []) new after c.working,
+  work-bounded z shards later origin before (given ++ c.command ∷ []) (calls ++ c.outcomes ∷ []) new after c.working,
 )

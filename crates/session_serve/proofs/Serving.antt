@@ -23,10 +23,12 @@ use Rattle.serve_model.specs.Handed.{SessionHasRun}
 use Rattle.serve_model.proofs.Going.{session_ran}
 use Rattle.session_pass.specs.Kept.{holds_paid}
 use Rattle.session_pass.specs.Views.{SessionView}
+use Rattle.session_serve.specs.Dumps.{as_seeing}
 use Rattle.session_serve.specs.Served.{IsServed}
 use Rattle.session_serve.specs.Whole.{SentWhole}
 use Rattle.session_serve.specs.Wires.{SendsOut, WasFlushed}
 use Rattle.session_serve.specs.Working.{IsFresh, HasStopped, IsLeft, run_of}
+use Rattle.session_serve.proofs.Seeing.{fresh-as_seeing}
 
 none-held : (holds : List Holding) → total (λ (h : Holding). 1) (bare_all holds) ≡ 0 → holds ≡ []
 none-held [] none = refl
@@ -127,7 +129,8 @@ module _ {W : Type 0} (put_may : W → Bor (List ℕ) → (W × Bool) → Type 0
   pub served-so : (z : Sizes) (shards : ℕ) (first session : SessionView) (unread pump : PumpState) (how : End)
       (end : SessionEnd) (bytes : ℕ) (between : Bool)
       (seat : View) (mine : SessionList) (given : List ℕ) (ended : Bool) (old middle new : W) → IsFresh z first unread
-      → HasStopped z shards first unread.origin unread.faults how session pump → IsLeft session seat mine
+      → HasStopped z shards (as_seeing session.pass.list first) unread.origin unread.faults how session pump
+      → IsLeft session seat mine
       → end ≡ ended_at how pump.taken (length session.posted) end.failed → given ≡ pump.given → ended ≡ pump.ended
       → Forwards put_may flush_may false between [] session.posted old middle
       → Flushes flush_may between end.failed middle new
@@ -144,7 +147,8 @@ module _ {W : Type 0} (put_may : W → Bor (List ℕ) → (W × Bool) → Type 0
             (ended_at how pump.taken (length session.posted) end.failed) mine seat texts) (sym given_is)
             (subst (λ (b : Bool). SessionHasRun z shards n pump.given b
             (ended_at how pump.taken (length session.posted) end.failed) mine seat texts) (sym ended_is)
-            (ran-so z shards first session unread pump how end.failed seat mine fresh stopped is_left)));
+            (ran-so z shards (as_seeing session.pass.list first) session unread pump how end.failed seat mine
+            (fresh-as_seeing z session.pass.list first unread fresh) stopped is_left)));
         sends = record {
           between = between;
           middle = middle;

@@ -1,6 +1,6 @@
 -- A session and its device that run beside each other.
 use Rattle.std.proofs.Common.{◌≡◌, ℕ, ◌+◌, ◌≤◌, Bool, false, List, [], ◌∷◌, ◌++◌, length, refl, ap, sym, ◌∙◌}
-use Rattle.std.proofs.Common.{subst, append_assoc, append-nil, arith}
+use Rattle.std.proofs.Common.{subst, append_assoc, append-nil, arith, Option, Result}
 use Rattle.std.specs.Borrow.{Bor}
 use Rattle.view_sums.specs.Total.{total}
 use Rattle.pin_core.specs.declared.sizes.Sizes.{Sizes}
@@ -20,14 +20,18 @@ use Rattle.device_model.specs.Devices.{Forwards}
 use Rattle.call_model.specs.Outcomes.{Outcomes}
 use Rattle.serve_model.specs.Going as model
 use Rattle.serve_model.proofs.Going.{going_rests}
+use Rattle.pin_dump.specs.Dumps.{DumpView}
 use Rattle.session_pass.specs.Calls.{CallReaps}
 use Rattle.session_pass.specs.Finished.{IsSessionDone}
 use Rattle.session_pass.specs.Kept.{holds_paid}
 use Rattle.session_pass.specs.Views.{SessionView}
 use Rattle.session_serve.specs.Working.{IsFresh, IsWorking, CallsMore, HasStopped, IsLeft}
 use Rattle.session_serve.specs.Beside.{HasWaited, CallsAtLast, BreaksAtLast, RanToTheEnd, ForwardsOut}
+use Rattle.session_serve.specs.Dumps.{IsSeeing, as_seeing, DumpCame}
+use Rattle.session_serve.specs.declared.dump.DumpPlan.{DumpPlan}
 use Rattle.session_serve.specs.Served.{IsServed, HasServed}
 use Rattle.session_serve.proofs.Calling.{work-goes-on, work-breaks}
+use Rattle.session_serve.proofs.Seeing.{work-sees, more-as_seen, stopped-as_seen}
 use Rattle.session_serve.specs.Whole.{SentWhole}
 use Rattle.session_serve.proofs.Serving.{forwards-as, served-so}
 use Rattle.session_serve.proofs.Whole.{whole-start}
@@ -103,24 +107,37 @@ work-rests z shards first origin before given calls old new pump waited w =
       };
     }
 
+-- it has seen more, replies were given back, and then it made a call
 pub calls-on : (z : Sizes) (shards : ℕ) (first : SessionView) (origin : Origin) (before : ℕ)
     (given : List Command)
-    (calls : List Outcomes) (command : Command) (old new : SessionView) (pump after : PumpState)
+    (calls : List Outcomes) (command : Command) (old seen new : SessionView) (pump after : PumpState)
+    → IsSeeing old seen
     → IsWorking z shards first origin before given calls old pump → IsPump origin before (given ++ command ∷ []) after
-    → CallsAtLast z shards command old new → CallsMore z shards first origin before given calls new after
-calls-on z shards first origin before given calls command old new pump after w p c =
-    work-goes-on z shards first origin before given calls command c.rested new pump after c.call c.freed c.sent c.stored
-    (work-rests z shards first origin before given calls old c.rested pump c.waited w) p c.posts
+    → CallsAtLast z shards command seen new
+    → CallsMore z shards (as_seeing new.pass.list first) origin before given calls new after
+calls-on z shards first origin before given calls command old seen new pump after sees w p c =
+    more-as_seen z shards first origin before given calls seen.pass.list new after
+    (sym (c.posts.rest.looks ∙ c.waited.keeps.rest.looks))
+    (work-goes-on z shards (as_seeing seen.pass.list first) origin before given calls command c.rested new pump after
+    c.call c.freed c.sent c.stored
+    (work-rests z shards (as_seeing seen.pass.list first) origin before given calls seen c.rested pump c.waited
+    (work-sees z shards first origin before given calls old seen pump sees w)) p c.posts)
 
+-- or memory was wanting in it
 pub breaks-off : (z : Sizes) (shards : ℕ) (first : SessionView) (origin : Origin) (before : ℕ)
     (given : List Command)
-    (calls : List Outcomes) (command : Command) (old new : SessionView) (pump after : PumpState)
+    (calls : List Outcomes) (command : Command) (old seen new : SessionView) (pump after : PumpState)
+    → IsSeeing old seen
     → IsWorking z shards first origin before given calls old pump → IsPump origin before (given ++ command ∷ []) after
     × (after.faults ≡ before)
-    → BreaksAtLast z shards command old new → HasStopped z shards first origin before Memory new after
-breaks-off z shards first origin before given calls command old new pump after w p b =
-    work-breaks z shards first origin before given calls command b.rested new pump after
-    (work-rests z shards first origin before given calls old b.rested pump b.waited w) p b.refused
+    → BreaksAtLast z shards command seen new
+    → HasStopped z shards (as_seeing new.pass.list first) origin before Memory new after
+breaks-off z shards first origin before given calls command old seen new pump after sees w p b =
+    stopped-as_seen z shards first origin before Memory seen.pass.list new after
+    (sym (b.refused.rest.looks ∙ b.waited.keeps.rest.looks))
+    (work-breaks z shards (as_seeing seen.pass.list first) origin before given calls command b.rested new pump after
+    (work-rests z shards (as_seeing seen.pass.list first) origin before given calls seen b.rested pump b.waited
+    (work-sees z shards first origin before given calls old seen pump sees w)) p b.refused)
 
 -- what the session knows of its device doesn't matter
 pub fresh-told : (z : Sizes) (first : SessionView) (told : ℕ) (pump : PumpState) → IsFresh z first pump
@@ -166,43 +183,56 @@ left-done s seat mine closed d = record {
 }
 
 module _ {W : Type 0} (put_may : W → Bor (List ℕ) → (W × Bool) → Type 0) (flush_may : W → (W × Bool) → Type 0) where
-  pub told-or-not : (z : Sizes) (shards : ℕ) (first : SessionView) (told : ℕ) (pump : PumpState) (old : W)
-      (end : SessionEnd) (bytes : ℕ)
-      (mine : SessionList) (seat : View) (left : PumpState) (new : W)
-      → HasServed put_may flush_may z shards (record first { told = told }) pump old end bytes mine seat left new
-      → HasServed put_may flush_may z shards first pump old end bytes mine seat left new
-  told-or-not z shards first told pump old end bytes mine seat left new h = record {
+  pub told-or-not : {P : Type 0} (z : Sizes) (shards : ℕ) (first : SessionView) (told : ℕ) (pump : PumpState)
+      (asked : Option (DumpPlan P)) (old : W) (end : SessionEnd) (bytes : ℕ)
+      (mine : SessionList) (seat : View) (left : PumpState) (taken : Option (Result DumpView View)) (new : W)
+      → HasServed put_may flush_may z shards (record first { told = told }) pump asked old end bytes mine seat left
+      taken new
+      → HasServed put_may flush_may z shards first pump asked old end bytes mine seat left taken new
+  told-or-not z shards first told pump asked old end bytes mine seat left taken new h = record {
     served = record { texts = h.served.texts; ran = h.served.ran; sends = h.served.sends; whole = h.served.whole };
     origin = h.origin;
     reads = h.reads;
     to_the_end = h.to_the_end;
     credits = h.credits;
-    looks = h.looks;
+    dump = h.dump;
   }
 
-  pub served-as : (z : Sizes) (shards : ℕ) (first then : SessionView) (pump unread : PumpState) (old start : W)
+  pub served-as : {P : Type 0} (z : Sizes) (shards : ℕ) (first then : SessionView) (pump unread : PumpState)
+      (asked wanted : Option (DumpPlan P)) (old start : W)
       (end : SessionEnd) (bytes : ℕ) (mine : SessionList) (seat : View)
-      (left : PumpState) (new : W) → first ≡ then → pump ≡ unread → old ≡ start
-      → HasServed put_may flush_may z shards first pump old end bytes mine seat left new
-      → HasServed put_may flush_may z shards then unread start end bytes mine seat left new
-  served-as z shards first then pump unread old start end bytes mine seat left new s p o h =
-      subst (λ (x : SessionView). HasServed put_may flush_may z shards x unread start end bytes mine seat left new) s
-      (subst (λ (x : PumpState). HasServed put_may flush_may z shards first x start end bytes mine seat left new) p
-      (subst (λ (x : W). HasServed put_may flush_may z shards first pump x end bytes mine seat left new) o h))
+      (left : PumpState) (taken : Option (Result DumpView View)) (new : W) → first ≡ then → pump ≡ unread
+      → asked ≡ wanted → old ≡ start
+      → HasServed put_may flush_may z shards first pump asked old end bytes mine seat left taken new
+      → HasServed put_may flush_may z shards then unread wanted start end bytes mine seat left taken new
+  served-as {P} z shards first then pump unread asked wanted old start end bytes mine seat left taken new s p a o h =
+      subst (λ (x : SessionView). HasServed put_may flush_may z shards x unread wanted start end bytes mine seat left
+      taken new) s
+      (subst (λ (x : PumpState). HasServed put_may flush_may z shards first x wanted start end bytes mine seat left
+      taken new) p
+      (subst (λ (x : Option (DumpPlan P)). HasServed put_may flush_may z shards first pump x start end bytes mine seat
+      left taken new) a
+      (subst (λ (x : W). HasServed put_may flush_may z shards first pump asked x end bytes mine seat left taken new) o
+      h)))
 
   -- the session ended and its device found the ring closed
-  pub served-beside : (z : Sizes) (shards : ℕ) (first : SessionView) (unread : PumpState) (how : End) (replies : ℕ)
+  pub served-beside : {P : Type 0} (z : Sizes) (shards : ℕ) (first : SessionView) (unread : PumpState)
+      (asked : Option (DumpPlan P)) (how : End) (replies : ℕ)
       (over : View) (list : SessionList) (left : PumpState)
-      (closed : ClosedDriver Sent) (end : SessionEnd) (bytes : ℕ) (mine : SessionList) (seat : View) (pump : PumpState)
+      (closed : ClosedDriver Sent) (came : Option (Result DumpView View))
+      (end : SessionEnd) (bytes : ℕ) (mine : SessionList) (seat : View) (pump : PumpState)
+      (taken : Option (Result DumpView View))
       (flag failed : Bool) (before after : List Sent) (none counted : ℕ) (old new last : W) → IsFresh z first unread
-      → RanToTheEnd z shards first unread how replies over list left closed → flag ≡ false → (before ≡ []) × (none ≡ 0)
+      → RanToTheEnd z shards first unread asked how replies over list left closed came → flag ≡ false
+      → (before ≡ []) × (none ≡ 0)
       → ForwardsOut put_may flush_may flag failed before after none counted old new
       → after ≡ (closed_view closed).posted
       → end ≡ ended_at how left.taken replies failed → bytes ≡ counted → seat ≡ over → mine ≡ list → pump ≡ left
-      → last ≡ new
-      → HasServed put_may flush_may z shards first unread old end bytes mine seat pump last
-  served-beside z shards first unread how replies over list left closed end bytes mine seat pump flag failed before
-      after none counted old new last fresh r unfailed idle out all end_is bytes_is seat_is mine_is pump_is last_is =
+      → taken ≡ came → last ≡ new
+      → HasServed put_may flush_may z shards first unread asked old end bytes mine seat pump taken last
+  served-beside z shards first unread asked how replies over list left closed came end bytes mine seat pump taken flag
+      failed before after none counted old new last fresh r unfailed idle out all end_is bytes_is seat_is mine_is
+      pump_is taken_is last_is =
       let whole : after ≡ r.session.posted = all ∙ r.posted in
       let so : end ≡ ended_at how left.taken (length r.session.posted) failed = end_is
       ∙ ap (λ n. ended_at how left.taken n failed) r.replies_are in
@@ -237,5 +267,6 @@ module _ {W : Type 0} (put_may : W → Bor (List ℕ) → (W × Bool) → Type 0
             (subst (λ p. EndFaults how unread.faults p.faults) (sym pump_is) r.stopped.faults_are);
         to_the_end = λ is. r.stopped.to_the_end (ap (λ (e : SessionEnd). e.end) (sym end_is) ∙ is);
         credits = ap (λ v. v.credits) seat_is ∙ r.left.credits ∙ ap (λ v. v.credits) r.stopped.same.opened;
-        looks = ap (λ l. l.looks) mine_is ∙ ap (λ l. l.looks) r.left.list ∙ r.stopped.same.looks;
+        dump = subst (λ t. DumpCame shards asked t first.pass.list mine) (sym taken_is)
+            (subst (λ l. DumpCame shards asked came first.pass.list l) (sym mine_is) r.dump);
       }

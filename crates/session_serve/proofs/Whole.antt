@@ -205,6 +205,13 @@ module _ {W : Type 0} (put_may : W → Bor (List ℕ) → (W × Bool) → Type 0
       (subst (λ n. SentWhole put_may flush_may between (texts_in after) n start mid) (raised_none bytes _ was.bytes_are)
       (none bytes start was)) flush)
 
+  -- the same of other replies with the same texts
+  pub whole-posted : (failed : Bool) (posted same : List Sent) (bytes : ℕ) (old new : W) → same ≡ posted
+      → SentWhole put_may flush_may failed (texts_in same) bytes old new
+      → SentWhole put_may flush_may failed (texts_in posted) bytes old new
+  whole-posted failed posted same bytes old new is whole =
+      subst (λ (ps : List Sent). SentWhole put_may flush_may failed (texts_in ps) bytes old new) is whole
+
   -- more is counted on top of what was kept
   pub keeps-on : (failed between now : Bool) (before middle after : List Sent) (bytes counted more shown sum : ℕ)
       (old mid new : W) → KeepsWhole put_may flush_may failed between before middle bytes counted old mid

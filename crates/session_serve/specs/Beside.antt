@@ -1,5 +1,5 @@
 -- A session and its device that run beside each other: what each of them does.
-use Rattle.std.specs.Prelude.{◌≡◌, ℕ, Bool, List, ◌++◌, length}
+use Rattle.std.specs.Prelude.{◌≡◌, ℕ, Bool, List, ◌++◌, length, Option, Result}
 use Rattle.std.specs.Borrow.{Bor}
 use Rattle.pin_core.specs.declared.sizes.Sizes.{Sizes}
 use Rattle.pinned_pool.specs.declared.view.View.{View}
@@ -15,8 +15,11 @@ use Rattle.reply_planner.specs.Parcels.{Sent}
 use Rattle.device_model.specs.Devices.{Forwards}
 use Rattle.session_pass.specs.Calls.{KeepsAll, CallPosts, CallRefused}
 use Rattle.session_pass.specs.Views.{SessionView}
+use Rattle.pin_dump.specs.Dumps.{DumpView}
 use Rattle.session_serve.specs.Whole.{KeepsWhole}
 use Rattle.session_serve.specs.Working.{HasStopped, IsLeft}
+use Rattle.session_serve.specs.Dumps.{DumpCame, as_seeing}
+use Rattle.session_serve.specs.declared.dump.DumpPlan.{DumpPlan}
 
 -- the session gave some replies back, and did nothing else
 pub record HasWaited (old new : SessionView) : Type 0 where
@@ -41,15 +44,17 @@ pub record BreaksAtLast (z : Sizes) (shards : ℕ) (command : Command) (old new 
   pub refused : CallRefused z shards command rested new
 
 -- From its first command to its end: its replies were given back, and its ring was closed.
-pub record RanToTheEnd (z : Sizes) (shards : ℕ) (first : SessionView) (unread : PumpState) (how : End) (replies : ℕ)
-    (seat : View) (mine : SessionList) (pump : PumpState) (closed : ClosedDriver Sent) : Type 0 where
-  -- as it stood behind its last call
+pub record RanToTheEnd {P : Type 0} (z : Sizes) (shards : ℕ) (first : SessionView) (unread : PumpState)
+    (asked : Option (DumpPlan P)) (how : End) (replies : ℕ) (seat : View) (mine : SessionList) (pump : PumpState)
+    (closed : ClosedDriver Sent) (taken : Option (Result DumpView View)) : Type 0 where
+  -- as it stood behind its last call and the dump
   pub session : SessionView
-  pub stopped : HasStopped z shards first unread.origin unread.faults how session pump
+  pub stopped : HasStopped z shards (as_seeing session.pass.list first) unread.origin unread.faults how session pump
   pub left : IsLeft session seat mine
   pub replies_are : replies ≡ length session.posted
   pub ring : closed_ring closed ≡ first.ring
   pub posted : (closed_view closed).posted ≡ session.posted
+  pub dump : DumpCame shards asked taken first.pass.list mine
 
 module _ {W : Type 0} (put_may : W → Bor (List ℕ) → (W × Bool) → Type 0) (flush_may : W → (W × Bool) → Type 0) where
   -- some replies more were completed and put, and their bytes were counted, where they were put whole

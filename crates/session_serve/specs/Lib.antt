@@ -1,5 +1,6 @@
 pub mod Wires
 pub mod Whole
 pub mod Working
+pub mod Dumps
 pub mod Served
 pub mod Beside

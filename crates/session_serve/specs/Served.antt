@@ -1,5 +1,5 @@
 -- What serving a session gives.
-use Rattle.std.specs.Prelude.{◌≡◌, ◌≢◌, ℕ, Bool, false, List}
+use Rattle.std.specs.Prelude.{◌≡◌, ◌≢◌, ℕ, Bool, false, List, Option, Result}
 use Rattle.std.specs.Borrow.{Bor}
 use Rattle.flake_base.specs.declared.session.End.TheVariants.{Left}
 use Rattle.flake_base.specs.declared.session.SessionEnd.{SessionEnd}
@@ -12,6 +12,9 @@ use Rattle.any_wire.specs.Texts.{joined}
 use Rattle.session_serve.specs.Whole.{SentWhole}
 use Rattle.session_serve.specs.Wires.{SendsOut}
 use Rattle.session_pass.specs.Views.{SessionView}
+use Rattle.pin_dump.specs.Dumps.{DumpView}
+use Rattle.session_serve.specs.Dumps.{DumpCame}
+use Rattle.session_serve.specs.declared.dump.DumpPlan.{DumpPlan}
 
 module _ {W : Type 0} (put_may : W → Bor (List ℕ) → (W × Bool) → Type 0) (flush_may : W → (W × Bool) → Type 0) where
   -- The session ran on what its source gave, and the texts of its replies were put on its wire, so many bytes of them
@@ -24,11 +27,13 @@ module _ {W : Type 0} (put_may : W → Bor (List ℕ) → (W × Bool) → Type 0
     pub whole : SentWhole put_may flush_may end.failed texts bytes old new
 
   -- and this is true of what it leaves
-  pub record HasServed (z : Sizes) (shards : ℕ) (session : SessionView) (pump : PumpState) (old : W) (end : SessionEnd)
-      (bytes : ℕ) (mine : SessionList) (seat : View) (left : PumpState) (new : W) : Type 0 where
+  pub record HasServed {P : Type 0} (z : Sizes) (shards : ℕ) (session : SessionView) (pump : PumpState)
+      (asked : Option (DumpPlan P))
+      (old : W) (end : SessionEnd) (bytes : ℕ) (mine : SessionList) (seat : View) (left : PumpState)
+      (taken : Option (Result DumpView View)) (new : W) : Type 0 where
     pub served : IsServed z shards session left.given left.ended end bytes mine seat old new
     pub origin : left.origin ≡ pump.origin
     pub reads : EndFaults end.end pump.faults left.faults
     pub to_the_end : end.end ≢ Left
     pub credits : seat.credits ≡ session.opened.credits
-    pub looks : mine.looks ≡ session.pass.list.looks
+    pub dump : DumpCame shards asked taken session.pass.list mine

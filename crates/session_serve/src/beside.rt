@@ -1,8 +1,9 @@
 // A session and its device beside each other.
-ghost use Rattle.std.specs.Prelude.{◌≡◌, ◌≢◌, [], true, false, IfOk, IfErr};
+ghost use Rattle.std.specs.Prelude.{◌≡◌, ◌≢◌, [], true, false, None, IfOk, IfErr};
 ghost use Rattle.command_pump.specs.Pump.{EndFaults, ended_at};
 ghost use Rattle.tx_ring.specs.Shown.{closed_ring, closed_view, device_ring, completed, ended};
 ghost use Rattle.session_serve.specs.Beside.{ForwardsOut, RanToTheEnd};
+ghost use Rattle.session_serve.specs.Dumps.{CanTake, DumpCame};
 ghost use Rattle.session_serve.specs.Served.{IsServed, HasServed};
 ghost use Rattle.session_serve.specs.Working.{IsFresh};
 
@@ -29,7 +30,7 @@ use std::thread::Threads;
 /// Runs the commands of a source in order, each behind the gate, to the source's end or until memory is wanting. The
 /// session's device puts the replies meanwhile, on a thread of its own; where none can be started for it, each reply is
 /// put before the next command is read. Last the wire is flushed. After a failed put or flush nothing more is put, and
-/// all commands are still run.
+/// all commands are still run. The dump that the session is asked for is taken behind the gate of its call, or last.
 pub fn serve_beside<
     R: Threads + Wait + Sync,
     N: BookName,
@@ -54,6 +55,8 @@ pub fn serve_beside<
     requires fresh { IsFresh P.sizes line.session line.pump }
     requires ring { device_ring line.device.end ≡ line.session.ring }
     requires unfailed { line.device.failed ≡ false }
+    requires plan { CanTake P.sizes N.sizes.shards line.dump.plan }
+    requires untried { line.dump.taken ≡ None }
     ensures served { IsServed (λ w p r. PUT.post put.now w p r) (λ w r. FLUSH.post flush.now w r) P.sizes
         N.sizes.shards line.session result.1.pump.given result.1.pump.ended result.1.end result.1.sent
         result.1.mine result.1.seat wire result.0 }
@@ -61,7 +64,7 @@ pub fn serve_beside<
     ensures reads { EndFaults result.1.end.end line.pump.faults result.1.pump.faults }
     ensures to_the_end { result.1.end.end ≢ End.Left }
     ensures credits { result.1.seat.credits ≡ line.session.opened.credits }
-    ensures looks { result.1.mine.looks ≡ line.session.pass.list.looks }
+    ensures dump { DumpCame N.sizes.shards line.dump.plan result.1.dump line.session.pass.list result.1.mine }
 {
     let mut line = line;
     laws::both_ends(&mut line.session, &mut line.device);
@@ -69,11 +72,13 @@ pub fn serve_beside<
         session,
         pump,
         device,
+        dump,
     } = line;
     let session_side = SessionSide {
         session,
         pump,
         room,
+        dump,
     };
     let device_side = DeviceSide {
         device,
@@ -108,10 +113,12 @@ fn serve_sides<
     requires fresh { IsFresh P.sizes session_side.session session_side.pump }
     requires ring { device_ring device_side.device.end ≡ session_side.session.ring }
     requires unfailed { device_side.device.failed ≡ false }
+    requires plan { CanTake P.sizes N.sizes.shards session_side.dump.plan }
+    requires untried { session_side.dump.taken ≡ None }
     requires none { (completed device_side.device.end ≡ []) × (device_side.sent ≡ 0) }
     ensures { HasServed (λ w p r. PUT.post put.now w p r) (λ w r. FLUSH.post flush.now w r) P.sizes N.sizes.shards
-        session_side.session session_side.pump device_side.wire result.1.end result.1.sent result.1.mine result.1.seat
-        result.1.pump result.0 }
+        session_side.session session_side.pump session_side.dump.plan device_side.wire result.1.end result.1.sent
+        result.1.mine result.1.seat result.1.pump result.1.dump result.0 }
 {
     let calls = Calls { put, flush };
     let ((went, came), _) = both_sides(rt, alloc, shop, session_side, gate, device_side, calls);
@@ -162,14 +169,16 @@ fn both_sides<
 )
     requires ready { Q.ready wiring }
     requires fresh { IsFresh P.sizes session_side.session session_side.pump }
+    requires plan { CanTake P.sizes N.sizes.shards session_side.dump.plan }
+    requires untried { session_side.dump.taken ≡ None }
     ensures out { IfOk result.0.0 (λ o. (device_ring o.device.end ≡ device_ring device_side.device.end)
         × (ended o.device.end ≡ true) × ForwardsOut (Q.put_may wiring) (Q.flush_may wiring) device_side.device.failed
         o.device.failed (completed device_side.device.end) (completed o.device.end) device_side.sent o.sent
         device_side.wire o.wire) }
     ensures idle { IfErr result.0.0 (λ o. o ≡ device_side) }
     ensures ran { IfOk result.0.1
-        (λ e. RanToTheEnd P.sizes N.sizes.shards session_side.session session_side.pump e.end e.replies
-        e.remains.seat e.remains.mine e.pump e.remains.closed) }
+        (λ e. RanToTheEnd P.sizes N.sizes.shards session_side.session session_side.pump session_side.dump.plan e.end
+        e.replies e.remains.seat e.remains.mine e.pump e.remains.closed e.dump) }
     ensures back { IfErr result.0.1 (λ i. i ≡ session_side) }
 {
     let start = Start {
@@ -223,6 +232,8 @@ fn together<
 )
     requires ready { Q.ready wiring.now }
     requires fresh { IsFresh P.sizes session_side.session session_side.pump }
+    requires plan { CanTake P.sizes N.sizes.shards session_side.dump.plan }
+    requires untried { session_side.dump.taken ≡ None }
     requires start { (place.now.device_side ≡ device_side) × (place.now.wiring ≡ wiring.now) }
     ensures out { IfOk result.0 (λ o. (device_ring o.device.end ≡ device_ring device_side.device.end)
         × (ended o.device.end ≡ true) × ForwardsOut (Q.put_may wiring.now) (Q.flush_may wiring.now)
@@ -231,8 +242,8 @@ fn together<
         device_side.wire o.wire) }
     ensures idle { IfErr result.0 (λ o. o ≡ device_side) }
     ensures ran { IfOk result.1
-        (λ e. RanToTheEnd P.sizes N.sizes.shards session_side.session session_side.pump e.end e.replies
-        e.remains.seat e.remains.mine e.pump e.remains.closed) }
+        (λ e. RanToTheEnd P.sizes N.sizes.shards session_side.session session_side.pump session_side.dump.plan e.end
+        e.replies e.remains.seat e.remains.mine e.pump e.remains.closed e.dump) }
     ensures back { IfErr result.1 (λ i. i ≡ session_side) }
 {
     let pool = shop.pool;
@@ -249,10 +260,12 @@ fn together<
         { device_side.beside(rt, pool, place, wiring, start_barrier) },
         move || -> Result<Ended<N, P, S>, SessionSide<N, P, S>>
             requires { IsFresh P.sizes session_side.session session_side.pump × Q.ready wiring.now
-                × (place.now.wiring ≡ wiring.now) }
+                × (place.now.wiring ≡ wiring.now) × CanTake P.sizes N.sizes.shards session_side.dump.plan
+                × (session_side.dump.taken ≡ None) }
             ensures { IfOk result
-                (λ e. RanToTheEnd P.sizes N.sizes.shards session_side.session session_side.pump e.end e.replies
-                e.remains.seat e.remains.mine e.pump e.remains.closed) × IfErr result (λ i. i ≡ session_side) }
+                (λ e. RanToTheEnd P.sizes N.sizes.shards session_side.session session_side.pump
+                session_side.dump.plan e.end e.replies e.remains.seat e.remains.mine e.pump e.remains.closed
+                e.dump) × IfErr result (λ i. i ≡ session_side) }
         { session_side.within_reach(rt, shop, gate, place, wiring, start_barrier) },
     )
 }
@@ -280,14 +293,17 @@ fn take_turns<
     requires fresh { IsFresh P.sizes session_side.session session_side.pump }
     requires ring { device_ring device_side.device.end ≡ session_side.session.ring }
     requires unfailed { device_side.device.failed ≡ false }
+    requires plan { CanTake P.sizes N.sizes.shards session_side.dump.plan }
+    requires untried { session_side.dump.taken ≡ None }
     ensures { HasServed (λ w p r. PUT.post put.now w p r) (λ w r. FLUSH.post flush.now w r) P.sizes N.sizes.shards
-        session_side.session session_side.pump device_side.wire result.1.end result.1.sent result.1.mine result.1.seat
-        result.1.pump result.0 }
+        session_side.session session_side.pump session_side.dump.plan device_side.wire result.1.end result.1.sent
+        result.1.mine result.1.seat result.1.pump result.1.dump result.0 }
 {
     let SessionSide {
         session,
         pump,
         room,
+        dump,
     } = session_side;
     let DeviceSide {
         device,
@@ -299,6 +315,7 @@ fn take_turns<
         session,
         pump,
         device,
+        dump,
     };
     serve_in_turns(rt, shop, line, room, gate, wire, put, flush)
 }
@@ -315,6 +332,7 @@ fn settled<N: BookName, P: PoolName + Send, S: Source, W: Drop>(
     ensures mine { result.1.mine ≡ ended.remains.mine }
     ensures sent { result.1.sent ≡ device_side.sent }
     ensures pump { result.1.pump ≡ ended.pump }
+    ensures dump { result.1.dump ≡ ended.dump }
     ensures wire { result.0 ≡ device_side.wire }
 {
     let Ended {
@@ -322,6 +340,7 @@ fn settled<N: BookName, P: PoolName + Send, S: Source, W: Drop>(
         replies,
         remains,
         pump,
+        dump,
     } = ended;
     let Remains {
         seat,
@@ -347,6 +366,7 @@ fn settled<N: BookName, P: PoolName + Send, S: Source, W: Drop>(
         mine,
         sent,
         pump,
+        dump,
     };
     (wire, account)
 }

@@ -4,6 +4,7 @@ ghost use Rattle.command_pump.specs.Pump.{ended_at};
 ghost use Rattle.any_wire.specs.Sends.{Flushes};
 ghost use Rattle.session_serve.specs.Working.{IsGathered, IsLeft};
 
+use crate::dump::DumpTurn;
 use crate::line::{Account, Line};
 use command_exec::Shop;
 use flake_base::{End, SessionEnd, Source};
@@ -28,6 +29,7 @@ impl<N: BookName, P: PoolName + Send, S: Source> Line<N, P, S> {
         ensures end { result.1.end ≡ ended_at end self.pump.taken (length self.session.posted) result.1.end.failed }
         ensures sent { result.1.sent ≡ sent }
         ensures pump { result.1.pump ≡ self.pump }
+        ensures dump { result.1.dump ≡ self.dump.taken }
         ensures flushed { Flushes (λ w r. FLUSH.post flush.now w r) self.device.failed result.1.end.failed wire
             result.0 }
     {
@@ -35,7 +37,9 @@ impl<N: BookName, P: PoolName + Send, S: Source> Line<N, P, S> {
             session,
             pump,
             mut device,
+            dump,
         } = self;
+        let DumpTurn { taken, .. } = dump;
         let replies = session.calls();
         match session.finish(shop) {
             Finish::Done {
@@ -57,6 +61,7 @@ impl<N: BookName, P: PoolName + Send, S: Source> Line<N, P, S> {
                     mine,
                     sent,
                     pump,
+                    dump: taken,
                 };
                 (wire, account)
             }

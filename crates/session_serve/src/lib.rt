@@ -6,6 +6,7 @@ mod beside;
 mod close;
 mod counting;
 mod device_side;
+mod dump;
 pub mod laws;
 mod lending;
 mod line;
@@ -18,5 +19,6 @@ mod waiting;
 mod wiring;
 
 pub use beside::serve_beside;
+pub use dump::{DumpPlan, DumpTaken, DumpTurn};
 pub use line::{Account, Line};
 pub use room::{MOST_FRAGMENTS, MOST_SEGMENTS, Room};

@@ -1,4 +1,5 @@
 // A session between its source and its wire.
+use crate::dump::{DumpTaken, DumpTurn};
 use command_pump::Pump;
 use device_model::Device;
 use flake_base::{SessionEnd, Source};
@@ -17,6 +18,7 @@ where
     pub session: Session<N, P>,
     pub pump: Pump<S>,
     pub device: Device<P>,
+    pub dump: DumpTurn<P>,
 }
 
 /// What a served session leaves.
@@ -29,4 +31,6 @@ pub struct Account<N: BookName, P: PoolName, S: Source> {
     pub sent: u64,
     /// With its source, and what that gave.
     pub pump: Pump<S>,
+    /// What came of the dump, if the session was asked for one.
+    pub dump: Option<DumpTaken<P>>,
 }

@@ -1,7 +1,8 @@
 // A session from its source to its wire.
-ghost use Rattle.std.specs.Prelude.{◌≡◌, ◌≢◌, false};
+ghost use Rattle.std.specs.Prelude.{◌≡◌, ◌≢◌, false, None};
 ghost use Rattle.command_pump.specs.Pump.{EndFaults};
 ghost use Rattle.tx_ring.specs.Shown.{device_ring};
+ghost use Rattle.session_serve.specs.Dumps.{CanTake, DumpCame};
 ghost use Rattle.session_serve.specs.Served.{IsServed};
 ghost use Rattle.session_serve.specs.Working.{IsFresh};
 
@@ -17,7 +18,7 @@ use std::sync::Wait;
 
 /// Runs the commands of a source in order, each behind the gate, and puts each reply before the next command is read,
 /// to the source's end or until memory is wanting; then the wire is flushed. After a failed put or flush nothing more
-/// is put, and all commands are still run.
+/// is put, and all commands are still run. The dump is taken before its call, or last.
 pub(crate) fn serve_in_turns<
     R: Wait,
     N: BookName,
@@ -41,6 +42,8 @@ pub(crate) fn serve_in_turns<
     requires fresh { IsFresh P.sizes line.session line.pump }
     requires ring { device_ring line.device.end ≡ line.session.ring }
     requires unfailed { line.device.failed ≡ false }
+    requires plan { CanTake P.sizes N.sizes.shards line.dump.plan }
+    requires untried { line.dump.taken ≡ None }
     ensures served { IsServed (λ w p r. PUT.post put.now w p r) (λ w r. FLUSH.post flush.now w r) P.sizes
         N.sizes.shards line.session result.1.pump.given result.1.pump.ended result.1.end result.1.sent
         result.1.mine result.1.seat wire result.0 }
@@ -48,7 +51,7 @@ pub(crate) fn serve_in_turns<
     ensures reads { EndFaults result.1.end.end line.pump.faults result.1.pump.faults }
     ensures to_the_end { result.1.end.end ≢ End.Left }
     ensures credits { result.1.seat.credits ≡ line.session.opened.credits }
-    ensures looks { result.1.mine.looks ≡ line.session.pass.list.looks }
+    ensures dump { DumpCame N.sizes.shards line.dump.plan result.1.dump line.session.pass.list result.1.mine }
 {
     let mut line = line;
     let mut room = room;
@@ -63,5 +66,6 @@ pub(crate) fn serve_in_turns<
             Err(end) => break end,
         }
     };
+    line.dump.take(rt, shop, &mut line.session);
     line.close(shop, end, sent, wire, put, flush)
 }

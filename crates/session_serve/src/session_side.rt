@@ -1,13 +1,17 @@
 // A session with its source.
-ghost use Rattle.std.specs.Prelude.{◌≡◌, ◌+◌, ◌≤◌, ℕ, List, length, OnOk, IfOk, IfErr};
+ghost use Rattle.std.specs.Prelude.{◌≡◌, ◌+◌, ◌≤◌, ℕ, List, Option, None, length, OnOk, IfOk, IfErr};
 ghost use Rattle.flake_model.specs.Command.{Command as Meaning};
 ghost use Rattle.flake_model.specs.Resp.{judged_bytes};
 ghost use Rattle.call_model.specs.Outcomes.{Outcomes};
 ghost use Rattle.command_pump.specs.Pump.{Origin};
 ghost use Rattle.session_pass.specs.Views.{SessionView};
 ghost use Rattle.session_serve.specs.Beside.{RanToTheEnd};
+ghost use Rattle.order_book.specs.Pages.{SessionList};
+ghost use Rattle.session_serve.specs.Dumps.{CanTake, IsInTime, Stands, as_seeing};
 ghost use Rattle.session_serve.specs.Working.{IsFresh, IsWorking, CallsMore, HasStopped};
+ghost use Rattle.session_serve.specs.declared.dump.DumpPlan.{DumpPlan as Asked};
 
+use crate::dump::{DumpTaken, DumpTurn};
 use crate::lending::DeviceSlot;
 use crate::room::Room;
 use crate::start_barrier::StartBarrier;
@@ -32,6 +36,7 @@ where
     pub session: Session<N, P>,
     pub pump: Pump<S>,
     pub room: Room,
+    pub dump: DumpTurn<P>,
 }
 
 /// A session that has ended, and how.
@@ -44,10 +49,11 @@ where
     pub replies: u32,
     pub remains: Remains<N, P>,
     pub pump: Pump<S>,
+    pub dump: Option<DumpTaken<P>>,
 }
 
 impl<N: BookName, P: PoolName + Send, S: Source> SessionSide<N, P, S> {
-    // Runs the next command; or says how the session ends.
+    // Runs the next command, and before it takes the dump, if it is to stand there; or says how the session ends.
     fn step<R: Wait, G: Gate, W: Drop, Q: Wiring<W>>(
         &mut self,
         rt: &R,
@@ -59,21 +65,34 @@ impl<N: BookName, P: PoolName + Send, S: Source> SessionSide<N, P, S> {
         requires few { length self.old.session.posted ≤ judged_bytes + 1 }
         requires ready { Q.ready wiring.now }
         requires same { place.now.wiring ≡ wiring.now }
+        requires plan { CanTake P.sizes N.sizes.shards self.old.dump.plan }
+        ensures plan { CanTake P.sizes N.sizes.shards self.new.dump.plan }
+        ensures stands { (asked : Option (Asked P)) (first : SessionList)
+            → Stands N.sizes.shards asked self.old.dump.plan self.old.dump.taken first self.old.session.pass.list
+            → IsInTime asked self.old.dump.plan (length self.old.session.posted)
+            → Stands N.sizes.shards asked self.new.dump.plan self.new.dump.taken first self.new.session.pass.list }
+        ensures in_time { OnOk result ((asked : Option (Asked P)) (first : SessionList)
+            → Stands N.sizes.shards asked self.old.dump.plan self.old.dump.taken first self.old.session.pass.list
+            → IsInTime asked self.old.dump.plan (length self.old.session.posted)
+            → IsInTime asked self.new.dump.plan (length self.new.session.posted)) }
         ensures ring { self.new.session.ring ≡ self.old.session.ring }
         ensures call { OnOk result ((first : SessionView) (origin : Origin) (before : ℕ)
             (given : List Meaning) (calls : List Outcomes)
             → IsWorking P.sizes N.sizes.shards first origin before given calls self.old.session self.old.pump
-            → CallsMore P.sizes N.sizes.shards first origin before given calls self.new.session self.new.pump) }
+            → CallsMore P.sizes N.sizes.shards (as_seeing self.new.session.pass.list first) origin before given calls
+            self.new.session self.new.pump) }
         ensures end { IfErr result (λ end. (first : SessionView) (origin : Origin) (before : ℕ)
             (given : List Meaning) (calls : List Outcomes)
             → IsWorking P.sizes N.sizes.shards first origin before given calls self.old.session self.old.pump
-            → HasStopped P.sizes N.sizes.shards first origin before end self.new.session self.new.pump) }
+            → HasStopped P.sizes N.sizes.shards (as_seeing self.new.session.pass.list first) origin before end
+            self.new.session self.new.pump) }
     {
         let command = match self.pump.next() {
             Ok(command) => command,
             Err(end) => return Err(end),
         };
         gate.before(rt, self.session.number(), self.session.calls());
+        self.dump.take_before_call(rt, shop, &mut self.session);
         let called = call(
             rt,
             shop,
@@ -91,7 +110,8 @@ impl<N: BookName, P: PoolName + Send, S: Source> SessionSide<N, P, S> {
         Ok(())
     }
 
-    // Runs the commands, each behind the gate, to the source's end or until memory is wanting.
+    // Runs the commands, each behind the gate, to the source's end or until memory is wanting. The dump is taken before
+    // its call, or last.
     fn run<R: Wait, G: Gate, W: Drop, Q: Wiring<W>>(
         self,
         rt: &R,
@@ -103,8 +123,10 @@ impl<N: BookName, P: PoolName + Send, S: Source> SessionSide<N, P, S> {
         requires fresh { IsFresh P.sizes self.session self.pump }
         requires ready { Q.ready wiring.now }
         requires same { place.now.wiring ≡ wiring.now }
-        ensures { RanToTheEnd P.sizes N.sizes.shards self.session self.pump result.end result.replies
-            result.remains.seat result.remains.mine result.pump result.remains.closed }
+        requires plan { CanTake P.sizes N.sizes.shards self.dump.plan }
+        requires untried { self.dump.taken ≡ None }
+        ensures { RanToTheEnd P.sizes N.sizes.shards self.session self.pump self.dump.plan result.end result.replies
+            result.remains.seat result.remains.mine result.pump result.remains.closed result.dump }
     {
         let mut session_side = self;
         let end = 'calls: loop {
@@ -113,10 +135,13 @@ impl<N: BookName, P: PoolName + Send, S: Source> SessionSide<N, P, S> {
             }
         };
         let SessionSide {
-            session,
+            mut session,
             pump,
             room: _,
+            mut dump,
         } = session_side;
+        dump.take(rt, shop, &mut session);
+        let DumpTurn { taken, .. } = dump;
         let replies = session.calls();
         let remains = finish(rt, shop, session, place, wiring);
         Ended {
@@ -124,6 +149,7 @@ impl<N: BookName, P: PoolName + Send, S: Source> SessionSide<N, P, S> {
             replies,
             remains,
             pump,
+            dump: taken,
         }
     }
 
@@ -140,8 +166,10 @@ impl<N: BookName, P: PoolName + Send, S: Source> SessionSide<N, P, S> {
         requires fresh { IsFresh P.sizes self.session self.pump }
         requires ready { Q.ready wiring.now }
         requires same { place.now.wiring ≡ wiring.now }
-        ensures ran { IfOk result (λ e. RanToTheEnd P.sizes N.sizes.shards self.session self.pump e.end e.replies
-            e.remains.seat e.remains.mine e.pump e.remains.closed) }
+        requires plan { CanTake P.sizes N.sizes.shards self.dump.plan }
+        requires untried { self.dump.taken ≡ None }
+        ensures ran { IfOk result (λ e. RanToTheEnd P.sizes N.sizes.shards self.session self.pump self.dump.plan e.end
+            e.replies e.remains.seat e.remains.mine e.pump e.remains.closed e.dump) }
         ensures back { IfErr result (λ i. i ≡ self) }
     {
         if !start_barrier.wait(rt) {

@@ -1,13 +1,16 @@
 // One command after another.
-ghost use Rattle.std.specs.Prelude.{◌≡◌, ℕ, List, length, IfOk, IfErr, OnOk, OnErr};
+ghost use Rattle.std.specs.Prelude.{◌≡◌, ℕ, List, Option, length, IfOk, IfErr, OnOk, OnErr};
+ghost use Rattle.order_book.specs.Pages.{SessionList};
 ghost use Rattle.flake_model.specs.Command.{Command as Meaning};
 ghost use Rattle.call_model.specs.Outcomes.{Outcomes};
 ghost use Rattle.command_pump.specs.Pump.{Origin};
 ghost use Rattle.tx_ring.specs.Shown.{completed};
 ghost use Rattle.device_model.specs.Devices.{Forwards};
 ghost use Rattle.session_pass.specs.Views.{SessionView};
+ghost use Rattle.session_serve.specs.Dumps.{CanTake, IsInTime, Stands, as_seeing};
 ghost use Rattle.session_serve.specs.Whole.{SendsMore};
 ghost use Rattle.session_serve.specs.Working.{IsGathered, IsReady, IsWorking, CallsMore, HasStopped, HasOneMore};
+ghost use Rattle.session_serve.specs.declared.dump.DumpPlan.{DumpPlan as Asked};
 
 use crate::counting::whole_bytes;
 use crate::line::Line;
@@ -21,7 +24,7 @@ use std::sync::Wait;
 
 impl<N: BookName, P: PoolName + Send, S: Source> Line<N, P, S> {
     /// Runs the next command and puts its reply, and answers how many bytes were put in a whole reply; or says how the
-    /// session ends.
+    /// session ends. Before the command the dump is taken, if it is to stand there.
     pub(crate) fn turn<
         R: Wait,
         G: Gate,
@@ -41,6 +44,16 @@ impl<N: BookName, P: PoolName + Send, S: Source> Line<N, P, S> {
         requires calls { PUT.IsAlwaysCallable put.now × FLUSH.IsAlwaysCallable flush.now }
         requires gathered { IsGathered self.old.session self.old.device.end }
         requires ready { IsReady self.old.session }
+        requires plan { CanTake P.sizes N.sizes.shards self.old.dump.plan }
+        ensures plan { CanTake P.sizes N.sizes.shards self.new.dump.plan }
+        ensures stands { (asked : Option (Asked P)) (first : SessionList)
+            → Stands N.sizes.shards asked self.old.dump.plan self.old.dump.taken first self.old.session.pass.list
+            → IsInTime asked self.old.dump.plan (length self.old.session.posted)
+            → Stands N.sizes.shards asked self.new.dump.plan self.new.dump.taken first self.new.session.pass.list }
+        ensures in_time { OnOk result.1 ((asked : Option (Asked P)) (first : SessionList)
+            → Stands N.sizes.shards asked self.old.dump.plan self.old.dump.taken first self.old.session.pass.list
+            → IsInTime asked self.old.dump.plan (length self.old.session.posted)
+            → IsInTime asked self.new.dump.plan (length self.new.session.posted)) }
         ensures gathered { IsGathered self.new.session self.new.device.end }
         ensures forwards { Forwards (λ w p r. PUT.post put.now w p r) (λ w r. FLUSH.post flush.now w r)
             self.old.device.failed self.new.device.failed self.old.session.posted self.new.session.posted wire
@@ -55,17 +68,20 @@ impl<N: BookName, P: PoolName + Send, S: Source> Line<N, P, S> {
         ensures call { OnOk result.1 ((first : SessionView) (origin : Origin) (before : ℕ)
             (given : List Meaning) (calls : List Outcomes)
             → IsWorking P.sizes N.sizes.shards first origin before given calls self.old.session self.old.pump
-            → CallsMore P.sizes N.sizes.shards first origin before given calls self.new.session self.new.pump) }
+            → CallsMore P.sizes N.sizes.shards (as_seeing self.new.session.pass.list first) origin before given calls
+            self.new.session self.new.pump) }
         ensures end { IfErr result.1 (λ end. (first : SessionView) (origin : Origin) (before : ℕ)
             (given : List Meaning) (calls : List Outcomes)
             → IsWorking P.sizes N.sizes.shards first origin before given calls self.old.session self.old.pump
-            → HasStopped P.sizes N.sizes.shards first origin before end self.new.session self.new.pump) }
+            → HasStopped P.sizes N.sizes.shards (as_seeing self.new.session.pass.list first) origin before end
+            self.new.session self.new.pump) }
     {
         let command = match self.pump.next() {
             Ok(command) => command,
             Err(end) => return (wire, Err(end)),
         };
         gate.before(rt, self.session.number(), self.session.calls());
+        self.dump.take_before_call(rt, shop, &mut self.session);
         match self
             .session
             .call(rt, shop, &command, &mut room.sent, &mut room.stored)
@@ -93,6 +109,7 @@ impl<N: BookName, P: PoolName + Send, S: Source> Line<N, P, S> {
         ensures session { self.new.session
             ≡ record self.old.session { told = length self.old.session.posted } }
         ensures pump { self.new.pump ≡ self.old.pump }
+        ensures dump { self.new.dump ≡ self.old.dump }
         ensures forwards { Forwards (λ w p r. PUT.post put.now w p r) (λ w r. FLUSH.post flush.now w r)
             self.old.device.failed self.new.device.failed (completed self.old.device.end) self.old.session.posted wire
             result.0 }

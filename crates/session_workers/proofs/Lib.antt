@@ -1,2 +1,3 @@
 mod Many
 mod Sending
+mod Dumps

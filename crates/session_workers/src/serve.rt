@@ -1,15 +1,15 @@
 // All sessions, by some workers.
-ghost use Rattle.std.specs.Prelude.{◌≡◌, ◌<◌, ◌≤◌, All, IfOk, IfErr};
+ghost use Rattle.std.specs.Prelude.{◌≡◌, ◌<◌, ◌≤◌, [], false, All, IfOk, IfErr};
 ghost use Rattle.std.specs.List.{AllZip};
-ghost use Rattle.session_workers.specs.Jobs.{IsNewJob, IsDone};
+ghost use Rattle.session_workers.specs.Jobs.{IsNewJob, IsDone, IsWritten};
 
-use crate::job::{Done, Job};
+use crate::job::{Done, Dumped, Job};
 use command_exec::Shop;
 use flake_base::Source;
 use order_book::BookName;
-use pinned_pool::PoolName;
-use session_pass::Gate;
-use session_serve::serve_beside;
+use pinned_pool::{Pool, PoolName};
+use session_pass::{Gate, Written};
+use session_serve::{DumpTaken, serve_beside};
 use std::alloc::Global;
 use std::sync::Wait;
 use std::thread::Threads;
@@ -38,12 +38,12 @@ pub fn serve_all<
 ) -> Result<Vec<Done<N, P, S, W>>, Vec<Job<N, P, S, W>>>
     requires calls { PUT.IsAlwaysCallable put.now × FLUSH.IsAlwaysCallable flush.now }
     requires workers { (0 < workers) × (workers ≤ 16) }
-    requires fresh { All (λ job. IsNewJob P.sizes job.line.session job.line.pump job.line.device.end
-        job.line.device.failed) jobs.items }
+    requires fresh { All (λ job. IsNewJob P.sizes N.sizes.shards job.line.session job.line.pump job.line.device.end
+        job.line.device.failed job.line.dump.plan job.line.dump.taken job.dump_wire) jobs.items }
     ensures served { IfOk result (λ dones. AllZip (λ job done. IsDone (λ w p r. PUT.post put.now w p r)
-        (λ w r. FLUSH.post flush.now w r) P.sizes N.sizes.shards job.line.session job.line.pump job.wire
-        done.account.end done.account.sent done.account.mine done.account.seat done.account.pump done.wire)
-        jobs.items dones.items) }
+        (λ w r. FLUSH.post flush.now w r) P.sizes N.sizes.shards job.line.session job.line.pump job.line.dump.plan
+        job.wire job.dump_wire done.account.end done.account.sent done.account.mine done.account.seat
+        done.account.pump done.wire done.dump) jobs.items dones.items) }
     ensures back { IfErr result (λ back. back ≡ jobs) }
 {
     let served = jobs_in_workers(
@@ -52,11 +52,13 @@ pub fn serve_all<
         jobs,
         workers,
         &|job: Job<N, P, S, W>| -> Done<N, P, S, W>
-            requires { IsNewJob P.sizes job.line.session job.line.pump job.line.device.end job.line.device.failed
+            requires { IsNewJob P.sizes N.sizes.shards job.line.session job.line.pump job.line.device.end
+                job.line.device.failed job.line.dump.plan job.line.dump.taken job.dump_wire
                 × (PUT.IsAlwaysCallable put.now × FLUSH.IsAlwaysCallable flush.now) }
             ensures { IsDone (λ w p r. PUT.post put.entry.now w p r) (λ w r. FLUSH.post flush.entry.now w r) P.sizes
-                N.sizes.shards job.line.session job.line.pump job.wire result.account.end result.account.sent
-                result.account.mine result.account.seat result.account.pump result.wire }
+                N.sizes.shards job.line.session job.line.pump job.line.dump.plan job.wire job.dump_wire
+                result.account.end result.account.sent result.account.mine result.account.seat result.account.pump
+                result.wire result.dump }
         { serve_job(rt, alloc, shop, job, gate, put, flush) },
     );
     match served {
@@ -65,8 +67,57 @@ pub fn serve_all<
     }
 }
 
-// One session, by the worker that took it.
-fn serve_job<
+// Puts a dump that was taken on its wire, and gives its holds back.
+fn write_dump<
+    P: PoolName + Send,
+    W: Drop,
+    PUT: Fn(W, &[u8]) -> (W, bool),
+    FLUSH: Fn(W) -> (W, bool),
+>(
+    alloc: Global,
+    pool: &Pool<P>,
+    taken: DumpTaken<P>,
+    wire: W,
+    put: &PUT,
+    flush: &FLUSH,
+) -> Dumped<P, W>
+    requires calls { PUT.IsAlwaysCallable put.now × FLUSH.IsAlwaysCallable flush.now }
+    ensures taken { IfOk taken (λ d. IsWritten (λ w p r. PUT.post put.now w p r) (λ w r. FLUSH.post flush.now w r) d
+        wire result.points.items result.taken result.bytes result.failed result.seat result.wire) }
+    ensures untaken { IfErr taken (λ seat. (result.points.items ≡ []) × (result.taken ≡ false) × (result.bytes ≡ 0)
+        × (result.failed ≡ false) × (result.seat ≡ seat) × (result.wire ≡ wire)) }
+{
+    match taken {
+        Ok(dump) => {
+            let (wire, written) = dump.write(pool, wire, put, flush);
+            let Written {
+                points,
+                seat,
+                bytes,
+                failed,
+            } = written;
+            Dumped {
+                points,
+                taken: true,
+                bytes,
+                failed,
+                seat,
+                wire,
+            }
+        }
+        Err(seat) => Dumped {
+            points: Vec::new(alloc),
+            taken: false,
+            bytes: 0,
+            failed: false,
+            seat,
+            wire,
+        },
+    }
+}
+
+/// Serves one session on this thread, and then puts the dump that it was asked for on its wire.
+pub fn serve_job<
     R: Threads + Wait + Sync,
     N: BookName,
     P: PoolName + Send + Sync,
@@ -85,12 +136,28 @@ fn serve_job<
     flush: &FLUSH,
 ) -> Done<N, P, S, W>
     requires calls { PUT.IsAlwaysCallable put.now × FLUSH.IsAlwaysCallable flush.now }
-    requires fresh { IsNewJob P.sizes job.line.session job.line.pump job.line.device.end job.line.device.failed }
+    requires fresh { IsNewJob P.sizes N.sizes.shards job.line.session job.line.pump job.line.device.end
+        job.line.device.failed job.line.dump.plan job.line.dump.taken job.dump_wire }
     ensures { IsDone (λ w p r. PUT.post put.now w p r) (λ w r. FLUSH.post flush.now w r) P.sizes N.sizes.shards
-        job.line.session job.line.pump job.wire result.account.end result.account.sent result.account.mine
-        result.account.seat result.account.pump result.wire }
+        job.line.session job.line.pump job.line.dump.plan job.wire job.dump_wire result.account.end
+        result.account.sent result.account.mine result.account.seat result.account.pump result.wire result.dump }
 {
-    let Job { line, room, wire } = job;
-    let (wire, account) = serve_beside(rt, alloc, shop, line, room, gate, wire, put, flush);
-    Done { account, wire }
+    let Job {
+        line,
+        room,
+        wire,
+        dump_wire,
+    } = job;
+    let (wire, mut account) = serve_beside(rt, alloc, shop, line, room, gate, wire, put, flush);
+    let dump = match (account.dump.take(), dump_wire) {
+        (Some(taken), Some(dump_wire)) => {
+            Some(write_dump(alloc, shop.pool, taken, dump_wire, put, flush))
+        }
+        _ => None,
+    };
+    Done {
+        account,
+        wire,
+        dump,
+    }
 }

@@ -93,6 +93,7 @@ gen|7|--workers|17
 gen|7|--sessions
 gen|7|--sessions|4|--sessions|4
 gen|7|--shards|8
+gen|7|--dump|2
 gen|7|--help
 gen|--session|4|7";
 

@@ -37,6 +37,7 @@ join|64|18446744073709551618|f
 join|f|64|2
 join|64|f|2
 join|--ring|1160|64|2|f
+join|--dump|2|64|2|f
 join|64|2|f|--journal
 join|--help|64|2|f
 Join|64|2|f

@@ -1,7 +1,10 @@
 //! What words ask to serve, and to check.
 use crate::typing::typed;
 use flake_base::Memory;
-use serve_words::{CheckTask, CommandName, ServeTask, Sizes, check_task, command_name, serve_task};
+use serve_words::{
+    CheckTask, CommandName, DriveTask, ServeTask, Sizes, check_task, command_name, drive_task,
+    serve_task,
+};
 use std::alloc::Global;
 use std::process::Abort;
 use std::test::Fail;
@@ -15,8 +18,9 @@ const USUAL: Sizes = Sizes {
     threshold: 512,
 };
 
-/// Sizes, whether the journal is asked for, and lines: words, the files that they ask for, and how many workers.
-static ACCEPTED: [(Sizes, bool, &str); 10] = [
+/// Sizes, whether the journal is asked for, and lines: words, the files that they ask for, how many workers, and the
+/// call before which a dump is taken, if one is.
+static ACCEPTED: [(Sizes, bool, &str); 11] = [
     (
         USUAL,
         false,
@@ -28,6 +32,12 @@ static ACCEPTED: [(Sizes, bool, &str); 10] = [
         USUAL,
         true,
         "serve|--journal|a>a>1\nserve|a|--journal|--workers|2>a>2",
+    ),
+    (
+        USUAL,
+        false,
+        "serve|--dump|2|a>a>1>2\nserve|a|--dump=3|--workers|1|b>a|b>1>3\nserve|a|--dump|0>a>1>0\n\
+         serve|--dump|4294967295|a>a>1>4294967295\nserve|--|--dump|2>--dump|2>2",
     ),
     (
         Sizes {
@@ -144,6 +154,21 @@ serve|--worker|1|a
 serve|--journal
 serve|--journal=true|a
 serve|--journal|--journal|a
+serve|--dump|2
+serve|a|--dump
+serve|--dump||a
+serve|--dump=|a
+serve|--dump|b|a
+serve|--dump|4294967296|a
+serve|--dump|18446744073709551618|a
+serve|--dump|+5|a
+serve|--dump|007|a
+serve|--dump|00|a
+serve|--dump|-0|a
+serve|--dump=-0|a
+serve|--dump|0x2|a
+serve|--dump|2|--dump|2|a
+serve|--dumps|2|a
 check|a|b|c
 serve|--workers|1|--workers|1|a
 serve|a|b|c|d|e|f|g|h|i|j|k|l|m|n|o|p|q";
@@ -184,6 +209,11 @@ fn check_accepted(
     );
     let workers = columns.next().unwrap_or("").parse::<u16>()?;
     assert!(rt; task.workers == workers, "{line}");
+    let dump = match columns.next() {
+        Some(call) => Some(call.parse::<u32>()?),
+        None => None,
+    };
+    assert!(rt; task.dump == dump, "{line}");
     Ok(())
 }
 
@@ -217,13 +247,14 @@ check|--|--journal|i|none>--journal|i|~
 check|j|a|a|b|b|c|c|d|d|e|e|f|f|g|g|h|h|i|i|j|j|k|k|l|l|m|m|n|n|o|o|p|none\
 >j|a|a|b|b|c|c|d|d|e|e|f|f|g|g|h|h|i|i|j|j|k|k|l|l|m|m|n|n|o|o|p|~";
 
-/// No pair, half a pair, an option, and 17 pairs.
+/// No pair, half a pair, options, and 17 pairs.
 const NO_CHECKS: &str = "\
 check
 check|j
 check|j|i
 check|j|i|r|i
 check|--journal|j|i|r
+check|--dump|2|j|i|r
 check|j|a|a|b|b|c|c|d|d|e|e|f|f|g|g|h|h|i|i|j|j|k|k|l|l|m|m|n|n|o|o|p|p|q|q";
 
 // The only call of `check_task`, which has no clauses.
@@ -256,6 +287,29 @@ fn bad_words_of_a_check(rt: HostRuntime) -> Result<(), Fail> {
     for line in NO_CHECKS.split('\n') {
         let words = typed(rt.alloc(), line)?;
         let task = asked_check(rt.alloc(), words.as_slice())?;
+        assert!(rt; task.is_none(), "{line}");
+    }
+    Ok(())
+}
+
+/// No file, and options that `serve` alone has.
+const NO_DRIVES: &str = "\
+drive
+drive|s
+drive|--dump|2|s|a
+drive|--journal|s|a
+drive|--workers|1|s|a";
+
+// The only call of `drive_task`, which has no clauses.
+fn asked_drive<'a>(alloc: Global, words: &'a [String]) -> Result<Option<DriveTask<'a>>, Memory> {
+    drive_task(alloc, words)
+}
+
+#[test]
+fn bad_words_of_a_drive(rt: HostRuntime) -> Result<(), Fail> {
+    for line in NO_DRIVES.split('\n') {
+        let words = typed(rt.alloc(), line)?;
+        let task = asked_drive(rt.alloc(), words.as_slice())?;
         assert!(rt; task.is_none(), "{line}");
     }
     Ok(())

@@ -83,7 +83,7 @@ fn waiting_wire(
 /// Holds call 0 of the session `first` until the other's wire got a put, and call 1 of the other one until that of
 /// `first` got one.
 #[derive(Drop)]
-struct CrossedGate {
+pub(super) struct CrossedGate {
     first: u16,
     firsts_puts: Shared,
     others_puts: Shared,
@@ -108,13 +108,13 @@ const TWO_PINGS: &[u8] = b"*1\r\n$4\r\nPING\r\n*1\r\n$4\r\nPING\r\n";
 
 /// The puts on the wire of the session that is held first, those on the other one's, and the waits that found nothing.
 #[derive(Drop)]
-struct Crossing {
+pub(super) struct Crossing {
     firsts_puts: Shared,
     others_puts: Shared,
     limits: Shared,
 }
 
-fn make_crossing(alloc: Global) -> Result<Crossing, Fail> {
+pub(super) fn make_crossing(alloc: Global) -> Result<Crossing, Fail> {
     Ok(Crossing {
         firsts_puts: shared(alloc)?,
         others_puts: shared(alloc)?,
@@ -122,7 +122,7 @@ fn make_crossing(alloc: Global) -> Result<Crossing, Fail> {
     })
 }
 
-fn crossed_gate(crossing: &Crossing, first: u16) -> Result<CrossedGate, Fail> {
+pub(super) fn crossed_gate(crossing: &Crossing, first: u16) -> Result<CrossedGate, Fail> {
     Ok(CrossedGate {
         first,
         firsts_puts: Arc::try_clone(&crossing.firsts_puts)?,
@@ -140,7 +140,7 @@ fn add_wire(
     Ok(())
 }
 
-fn crossed_wires(
+pub(super) fn crossed_wires(
     alloc: Global,
     crossing: &Crossing,
     first: u16,
@@ -159,6 +159,14 @@ fn crossed_wires(
     Ok(wires)
 }
 
+pub(super) fn expect_crossed(rt: &impl Abort, crossing: &Crossing) {
+    assert_eq!(rt;
+        crossing.limits.load(Ordering::SeqCst),
+        0,
+        "a wait found nothing"
+    );
+}
+
 // Two sessions of two PINGs each, of which `first` is held at its first call.
 fn check_crossed<R: Abort + Threads + Wait + Sync>(
     rt: &R,
@@ -172,11 +180,7 @@ fn check_crossed<R: Abort + Threads + Wait + Sync>(
     let words = ["serve", "in0.resp", "in1.resp", "--workers", "2"];
     let seen = ran_behind(rt, alloc, &words, &mut host, wires, &gate)?;
     assert_eq!(rt; seen.status, 0);
-    assert_eq!(rt;
-        crossing.limits.load(Ordering::SeqCst),
-        0,
-        "a wait found nothing"
-    );
+    expect_crossed(rt, &crossing);
     expect_sent(rt, &seen, b"+PONG\r\n+PONG\r\n");
     Ok(())
 }

@@ -12,16 +12,16 @@ use Rattle.flake_run.proofs.CheckedAll.{checked_all, refused_memory, refused_wor
 use Rattle.flake_run.proofs.CheckedFiles.{as_many_files}
 use Rattle.flake_run.proofs.check.check.Goals as goal
 
-pub returns-in-Ok-None : goal.returns-in-Ok-None
-returns-in-Ok-None g c =
+pub returns-in-Ok-None-clause-does : goal.returns-in-Ok-None-clause-does
+returns-in-Ok-None-clause-does g c =
     refused_words _ _ _ _ (sym c.in-Ok-None.ensures.value ∙ ap (option_map shown_check) c.in-Ok-None.field-0-is)
-    c.refuse.ensures
+    c.refuse.ensures.does
 
-pub returns-in-Err : goal.returns-in-Err
-returns-in-Err g c = refused_memory _ _ _ _ c.refuse-in-Err.ensures
+pub returns-in-Err-clause-does : goal.returns-in-Err-clause-does
+returns-in-Err-clause-does g c = refused_memory _ _ _ _ c.refuse-in-Err.ensures.does
 
-pub returns-in_default : goal.returns-in_default
-returns-in_default g c = refused_memory _ _ _ _ c.refuse-in_default.ensures
+pub returns-in_default-clause-does : goal.returns-in_default-clause-does
+returns-in_default-clause-does g c = refused_memory _ _ _ _ c.refuse-in_default.ensures.does
 
 pub opened_of-requires-clause-room : goal.opened_of-requires-clause-room
 opened_of-requires-clause-room g c =
@@ -47,8 +47,8 @@ opened_of-requires-clause-few g c =
     in
     omega (arith, few, count, most)
 
-pub returns : goal.returns
-returns g c =
+pub returns-clause-does : goal.returns-clause-does
+returns-clause-does g c =
     let task = c.in-Ok-Some.task in
     let files = c.check_named-answer.result.1.items in
     let words : map named c.as_slice.result.now ≡ shown_check task = ap (map named) c.as_slice.ensures.value in

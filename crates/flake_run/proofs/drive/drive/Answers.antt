@@ -1,4 +1,4 @@
-use Rattle.std.proofs.Common.{◌≡◌, Bor, List, ℕ, Some, [], ◌∷◌, length, map, arith, refl, sym, ap, ◌∙◌, subst}
+use Rattle.std.proofs.Common.{◌≡◌, Bor, List, ℕ, Some, None, [], ◌∷◌, length, map, arith, refl, sym, ap, ◌∙◌, subst}
 use Rattle.std.specs.List.{AllByRecursion, range_with_len}
 use Rattle.std.specs.Option.{option_map}
 use Rattle.std.proofs.lemmas.List.{length-map}
@@ -14,20 +14,20 @@ use Rattle.flake_run.proofs.DroveAll.{drove_opened, drove_refused, drove_unopene
 use Rattle.flake_run.proofs.Numbers.{are_numbered, field_of}
 use Rattle.flake_run.proofs.drive.drive.Goals as goal
 
-pub returns-in-Ok-None : goal.returns-in-Ok-None
-returns-in-Ok-None g c =
+pub returns-in-Ok-None-clause-does : goal.returns-in-Ok-None-clause-does
+returns-in-Ok-None-clause-does g c =
     let before = outside (g.H.Host.host_told c.args.host.now) c.args.wires.items
     (λ w. (g.dyn-1.0.entry w.vtable).1.wire_told w.value) in
     drove_refused _ _ _ _
     (subst (λ t. IsUndrivable t before)
     (ap (option_map drive_job)
-    (ap (option_map shown_drive) (sym c.in-Ok-None.field-0-is) ∙ c.in-Ok-None.ensures.value)) tt) c.refuse.ensures
+    (ap (option_map shown_drive) (sym c.in-Ok-None.field-0-is) ∙ c.in-Ok-None.ensures.value)) tt) c.refuse.ensures.does
 
-pub returns-in-Err : goal.returns-in-Err
-returns-in-Err g c = drove_wanting _ _ _ _ c.refuse-in-Err.ensures
+pub returns-in-Err-clause-does : goal.returns-in-Err-clause-does
+returns-in-Err-clause-does g c = drove_wanting _ _ _ _ c.refuse-in-Err.ensures.does
 
-pub returns-then-len-count : goal.returns-then-len-count
-returns-then-len-count g c =
+pub returns-then-len-count-clause-does : goal.returns-then-len-count-clause-does
+returns-then-len-count-clause-does g c =
     let task = c.in-Ok-Some.task in
     let job = shown_job task in
     let before = outside (g.H.Host.host_told c.args.host.now) c.args.wires.items
@@ -46,10 +46,10 @@ returns-then-len-count g c =
       behind_one job.names,
       c.args.wires.ok.0,
       task.files.ok.0,
-    ))) c.refuse-then-len-count.ensures
+    ))) c.refuse-then-len-count.ensures.does
 
-pub returns-in_default : goal.returns-in_default
-returns-in_default g c = drove_wanting _ _ _ _ c.refuse-in_default.ensures
+pub returns-in_default-clause-does : goal.returns-in_default-clause-does
+returns-in_default-clause-does g c = drove_wanting _ _ _ _ c.refuse-in_default.ensures.does
 
 pub drive_opened-requires-clause-unread : goal.drive_opened-requires-clause-unread
 drive_opened-requires-clause-unread g c =
@@ -62,8 +62,8 @@ drive_opened-requires-clause-unread g c =
     c.remove-schedule.ensures.items in
     λ _ _. subst (λ ss. AllByRecursion IsUntouched (map tells ss)) split c.in-Ok.ensures.opened.unread
 
-pub returns-in-Ok : goal.returns-in-Ok
-returns-in-Ok g c =
+pub returns-in-Ok-clause-does : goal.returns-in-Ok-clause-does
+returns-in-Ok-clause-does g c =
     let task = c.in-Ok-Some.task in
     let job = shown_job task in
     let host = g.H.Host.host_told c.args.host.now in
@@ -104,12 +104,12 @@ returns-in-Ok g c =
     })
     (map tells (c.remove-schedule.result ∷ behind)) told
     (subst (λ ss. AreOpened job.names host mid (map tells ss)) split opened)
-    (subst (λ ns. CameOf (run_sizes task.sizes) (g.H.In.Source.name c.remove-schedule.result ∷ ns)
+    (subst (λ ns. CameOf (run_sizes None task.sizes) (g.H.In.Source.name c.remove-schedule.result ∷ ns)
     (map (λ t. t.whole) (map tells (c.remove-schedule.result ∷ behind)))
     (outside mid c.args.wires.items (λ w. (g.dyn-1.0.entry w.vtable).1.wire_told w.value))
     (outside now so.wires.items (λ w. (g.dyn-1.0.entry w.vtable).1.wire_told w.value)) told)
     (sym (field_of tells (λ t. t.name) (map tells behind) behind refl))
-    (subst (λ ws. CameOf (run_sizes task.sizes)
+    (subst (λ ws. CameOf (run_sizes None task.sizes)
     (g.H.In.Source.name c.remove-schedule.result ∷ map (λ s. g.H.In.Source.name s) behind)
     (g.H.In.Source.whole c.remove-schedule.result ∷ ws)
     (outside mid c.args.wires.items (λ w. (g.dyn-1.0.entry w.vtable).1.wire_told w.value))
@@ -120,10 +120,10 @@ returns-in-Ok g c =
     (g.H.In.Source.whole c.remove-schedule.result ∷ map (λ s. g.H.In.Source.whole s) behind)
     (outside mid c.args.wires.items (λ w. (g.dyn-1.0.entry w.vtable).1.wire_told w.value))
     (outside now so.wires.items (λ w. (g.dyn-1.0.entry w.vtable).1.wire_told w.value)) told)
-    c.sizes_of-sizes.ensures c.drive_opened.ensures)))
+    c.sizes_of-sizes.ensures c.drive_opened.ensures.does)))
 
-pub returns : goal.returns
-returns g c =
+pub returns-clause-does : goal.returns-clause-does
+returns-clause-does g c =
     let task = c.in-Ok-Some.task in
     let job = shown_job task in
     let host = g.H.Host.host_told c.args.host.now in

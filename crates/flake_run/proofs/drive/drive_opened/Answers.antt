@@ -27,8 +27,8 @@ drive_by-requires-clause-unread g c =
     g.H.In.Source.read_faults in
     λ _ _. none_given tells c.args.sources.items c.requires.unread.1
 
-pub returns-in-Ok : goal.returns-in-Ok
-returns-in-Ok g c =
+pub returns-in-Ok-clause-does : goal.returns-in-Ok-clause-does
+returns-in-Ok-clause-does g c =
     let driven = c.in-Ok.driven in
     let said = c.in-Ok.ensures in
     let tells = source_told g.H.In.Source.name g.H.In.Source.whole g.H.In.Source.given g.H.In.Source.ended
@@ -96,8 +96,8 @@ returns-in-Ok g c =
       some = omega (arith, c.requires.sized.count_is.0, as_many, length-map driven.sources.items tells);
     })
 
-pub returns-in-Err : goal.returns-in-Err
-returns-in-Err g c =
+pub returns-in-Err-clause-does : goal.returns-in-Err-clause-does
+returns-in-Err-clause-does g c =
     let said = c.in-Err.ensures in
     let so = c.conclude-outcome.result in
     let tells = source_told g.H.In.Source.name g.H.In.Source.whole g.H.In.Source.given g.H.In.Source.ended

@@ -10,30 +10,30 @@ use Rattle.flake_run.specs.Outside.{outside}
 use Rattle.flake_run.proofs.Requested.{Reported, answered_all, refused_all, refused_as, wanting_all}
 use Rattle.flake_run.proofs.generated.generate.Goals as goal
 
-pub returns-in-Err : goal.returns-in-Err
-returns-in-Err g c = wanting_all _ _ _ _ c.refuse-in-Err.ensures
+pub returns-in-Err-clause-does : goal.returns-in-Err-clause-does
+returns-in-Err-clause-does g c = wanting_all _ _ _ _ c.refuse-in-Err.ensures.does
 
-pub returns-in_default : goal.returns-in_default
-returns-in_default g c = wanting_all _ _ _ _ c.refuse-in_default.ensures
+pub returns-in_default-clause-does : goal.returns-in_default-clause-does
+returns-in_default-clause-does g c = wanting_all _ _ _ _ c.refuse-in_default.ensures.does
 
-pub returns : goal.returns
-returns g c =
+pub returns-clause-does : goal.returns-clause-does
+returns-clause-does g c =
     wanting_all _ _ _ _ (refused_as _ _ _ _ _ _ _ _ c.in-Err-Memory-default.ensures.back
-    c.refuse-in-Err-Memory-default.ensures)
+    c.refuse-in-Err-Memory-default.ensures.does)
 
-pub returns-in-Err-TooMuch-default : goal.returns-in-Err-TooMuch-default
-returns-in-Err-TooMuch-default g c =
+pub returns-in-Err-TooMuch-default-clause-does : goal.returns-in-Err-TooMuch-default-clause-does
+returns-in-Err-TooMuch-default-clause-does g c =
     let before = outside (g.H.Host.host_told c.args.host.now) c.args.wires.items
     (λ w. (g.dyn-1.0.entry w.vtable).1.wire_told w.value) in
     let task_is : generated_task_of (word_texts c.args.words.now) ≡ Some c.in-Ok-Some.task =
     sym c.in-Ok-Some.ensures.value ∙ c.in-Ok-Some.field-0-is in
     refused_all _ _ _ _ (refused_as _ _ _ _ _ _ _ _ c.in-Err-TooMuch-default.ensures.back
-    c.refuse-in-Err-TooMuch-default.ensures)
+    c.refuse-in-Err-TooMuch-default.ensures.does)
     (subst (λ t. IsUngenerated t before) (sym task_is)
     (inr (c.in-Err-TooMuch-default.ensures.too_much c.in-Err-TooMuch-default.field-0-0-is)))
 
-pub returns-in-Ok-serve_requests : goal.returns-in-Ok-serve_requests
-returns-in-Ok-serve_requests g c =
+pub returns-in-Ok-serve_requests-clause-does : goal.returns-in-Ok-serve_requests-clause-does
+returns-in-Ok-serve_requests-clause-does g c =
     let task = c.in-Ok-Some.task in
     let ran = c.in-Ok-serve_requests.ran in
     let said = c.in-Ok-serve_requests.ensures in

@@ -13,23 +13,23 @@ use Rattle.flake_run.proofs.JoinedAll.{with_sources}
 use Rattle.flake_run.proofs.OpenedFiles.{at_each}
 use Rattle.flake_run.proofs.join.join.Goals as goal
 
-pub returns-in-Ok-None : goal.returns-in-Ok-None
-returns-in-Ok-None g c =
+pub returns-in-Ok-None-clause-does : goal.returns-in-Ok-None-clause-does
+returns-in-Ok-None-clause-does g c =
     let before = outside (g.H.Host.host_told c.args.host.now) c.args.wires.items
     (λ w. (g.dyn-1.0.entry w.vtable).1.wire_told w.value) in
     let none : join_of (word_texts c.args.words.now) ≡ None =
     sym c.in-Ok-None.ensures.value ∙ ap (option_map shown_join) c.in-Ok-None.field-0-is in
     join_refused _ _ _ _ (subst (λ t. IfSome t (λ job. AreJoinNumbers job.mtu job.calls)) (sym none) tt)
-    (subst (λ t. IsUnjoinable t before) (sym none) tt) c.refuse.ensures
+    (subst (λ t. IsUnjoinable t before) (sym none) tt) c.refuse.ensures.does
 
-pub returns-in-Err : goal.returns-in-Err
-returns-in-Err g c = join_wanting _ _ _ _ c.refuse-in-Err.ensures
+pub returns-in-Err-clause-does : goal.returns-in-Err-clause-does
+returns-in-Err-clause-does g c = join_wanting _ _ _ _ c.refuse-in-Err.ensures.does
 
-pub returns-in_default : goal.returns-in_default
-returns-in_default g c = join_wanting _ _ _ _ c.refuse-in_default.ensures
+pub returns-in_default-clause-does : goal.returns-in_default-clause-does
+returns-in_default-clause-does g c = join_wanting _ _ _ _ c.refuse-in_default.ensures.does
 
-pub returns-then-is_empty : goal.returns-then-is_empty
-returns-then-is_empty g c =
+pub returns-then-is_empty-clause-does : goal.returns-then-is_empty-clause-does
+returns-then-is_empty-clause-does g c =
     let task = c.in-Ok-Some.task in
     let job = shown_join task in
     let before = outside (g.H.Host.host_told c.args.host.now) c.args.wires.items
@@ -42,10 +42,10 @@ returns-then-is_empty g c =
     let empty = eqb-true (vec_len c.args.wires) 0 (sym c.is_empty.ensures ∙ c.if-is_empty.true) in
     omega (arith, empty, c.args.wires.ok.0) in
     join_refused _ _ _ _ (subst (λ t. IfSome t (λ job. AreJoinNumbers job.mtu job.calls)) (sym task_is) numbers)
-    (subst (λ t. IsUnjoinable t before) (sym task_is) none) c.refuse-then-is_empty.ensures
+    (subst (λ t. IsUnjoinable t before) (sym task_is) none) c.refuse-then-is_empty.ensures.does
 
-pub returns-in-Ok-open : goal.returns-in-Ok-open
-returns-in-Ok-open g c =
+pub returns-in-Ok-open-clause-does : goal.returns-in-Ok-open-clause-does
+returns-in-Ok-open-clause-does g c =
     let task = c.in-Ok-Some.task in
     let job = shown_join task in
     let host = g.H.Host.host_told c.args.host.now in
@@ -72,10 +72,10 @@ returns-in-Ok-open g c =
     subst (λ t. Joined t (outside host c.args.wires.items (λ w. (g.dyn-1.0.entry w.vtable).1.wire_told w.value))
     (outside now so.wires.items (λ w. (g.dyn-1.0.entry w.vtable).1.wire_told w.value)) told) (sym task_is)
     (join_opened (λ w. (g.dyn-1.0.entry w.vtable).1.wire_told w.value) job host mid now c.args.wires.items
-    so.wires.items numbers some (tells source) opened told c.join_opened.ensures)
+    so.wires.items numbers some (tells source) opened told c.join_opened.ensures.does)
 
-pub returns-in-Err-open : goal.returns-in-Err-open
-returns-in-Err-open g c =
+pub returns-in-Err-open-clause-does : goal.returns-in-Err-open-clause-does
+returns-in-Err-open-clause-does g c =
     let task = c.in-Ok-Some.task in
     let job = shown_join task in
     let host = g.H.Host.host_told c.args.host.now in

@@ -19,8 +19,8 @@ put_on_first-failed-requires-clause-whole g c =
     let joined = c.in-Ok.ensures.joined.joined in
     subst (IsWhole c.in-Ok.joiner.frames) (sym joined.calls_are) joined.whole
 
-pub returns-in-Ok : goal.returns-in-Ok
-returns-in-Ok g c =
+pub returns-in-Ok-clause-does : goal.returns-in-Ok-clause-does
+returns-in-Ok-clause-does g c =
     let tells = source_told g.H.In.Source.name g.H.In.Source.whole g.H.In.Source.given g.H.In.Source.ended
     g.H.In.Source.read_faults in
     let host = g.H.Host.host_told c.args.host.now in
@@ -48,8 +48,8 @@ returns-in-Ok g c =
           (said.status ∙ c.put_status.ensures) said.detail said.ends (ap histories said.journal) said.held said.pool);
     }
 
-pub returns-in-Err : goal.returns-in-Err
-returns-in-Err g c =
+pub returns-in-Err-clause-does : goal.returns-in-Err-clause-does
+returns-in-Err-clause-does g c =
     let tells = source_told g.H.In.Source.name g.H.In.Source.whole g.H.In.Source.given g.H.In.Source.ended
     g.H.In.Source.read_faults in
     let host = g.H.Host.host_told c.args.host.now in

@@ -24,6 +24,26 @@ open_passes-requires-clause-room g c =
     let many = new_count _ _ c.name-book.ensures.sessions ∙ c.requires.book.2.1 in
     (c.in_ok-passes.ensures.items, omega (arith, many, c.in_ok-passes.ensures.exact))
 
+pub open_store-requires-clause-credits : goal.open_store-requires-clause-credits
+open_store-requires-clause-credits g c =
+    let many = new_count _ _ c.name-book.ensures.sessions ∙ c.requires.book.2.1 in
+    omega (
+      arith,
+      c.in_ok-pool.ensures.main.1,
+      ap (λ (z : Sizes). z.credits) c.requires.pool.2,
+      ap (λ (n : ℕ). 8192 * n) many,
+    )
+
+pub open_session_slots-requires-clause-passes : goal.open_session_slots-requires-clause-passes
+open_session_slots-requires-clause-passes g c κs within = λ k d small. (c.in_ok-pool.ensures.passes k d small).0
+
+pub open_session_slots-requires-clause-room : goal.open_session_slots-requires-clause-room
+open_session_slots-requires-clause-room g c κs within =
+    let numbers = pass_numbers _ c.in_ok-pool.field-0.passes.items _ c.name-book.ensures.sessions
+    c.in_ok-pool.ensures.lists in
+    let many = count_of c.in_ok-pool.field-0.passes.items (λ (p : PassView). p.list.number) _ numbers in
+    (c.in_ok-slots.ensures.items, omega (arith, many, c.requires.book.2.1, c.in_ok-slots.ensures.exact))
+
 pub open_session_slots-requires-clause-numbers : goal.open_session_slots-requires-clause-numbers
 open_session_slots-requires-clause-numbers g c = λ _ _.
     let numbers = pass_numbers _ c.in_ok-pool.field-0.passes.items _ c.name-book.ensures.sessions

@@ -1,9 +1,11 @@
-use Rattle.std.proofs.Common.{◌≢◌, arith, subst, sym}
+use Rattle.std.proofs.Common.{◌≢◌, ap, arith, subst, sym}
 use Rattle.std.proofs.lemmas.List.Elements.{recursion_from_All}
 use Rattle.flake_base.specs.declared.session.End.TheVariants.{Left}
 use Rattle.flake_base.specs.declared.session.SessionEnd.{SessionEnd}
 use Rattle.flake_base.specs.Histories.{histories}
-use Rattle.run_resources.specs.Opened.{HasRunSizes}
+use Rattle.run_resources.specs.Opened.{HasRunSizes, dump_wires}
+use Rattle.run_resources.specs.declared.sizes.Sizes.{Sizes}
+use Rattle.serve_inputs.specs.Dumped.{dump_told}
 use Rattle.serve_generated.proofs.Inputs.{unread}
 use Rattle.serve_generated.proofs.Ran.{ran_generated}
 use Rattle.serve_generated.proofs.serve.serve_generated.Goals as goal
@@ -18,13 +20,19 @@ serve_inputs-requires-clause-unread g c κs within =
     c.in-Ok.ensures.inputs
 
 pub serve_inputs-requires-clause-wires : goal.serve_inputs-requires-clause-wires
-serve_inputs-requires-clause-wires g c κs within = omega (arith, c.in-Ok.ensures.many, c.requires.wires)
+serve_inputs-requires-clause-wires g c κs within =
+    omega (
+      arith,
+      c.in-Ok.ensures.many,
+      c.requires.wires,
+      ap (λ (s : Sizes). dump_wires s.dump) c.in-Some.ensures.sizes,
+    )
 
 pub returns-in-Ok-serve_inputs-clause-ran : goal.returns-in-Ok-serve_inputs-clause-ran
 returns-in-Ok-serve_inputs-clause-ran g c =
     let served = c.in-Ok-serve_inputs.served in
     ran_generated _ _ c.args.task.now c.in-Some.sizes c.in-Ok.sources.items served.sources.items served.ends.items
-    served.sent.items (histories served.journal.items) served.pool
+    served.sent.items (histories served.journal.items) served.pool (dump_told served.dump)
     c.args.wires.items served.wires.items c.requires.task.sessions.1 c.requires.task.requests.1 c.in-Some.ensures.sizes
     c.in-Ok.ensures.inputs
     c.in-Ok-serve_inputs.ensures.ran c.in-Ok-serve_inputs.ensures.wholes c.in-Ok-serve_inputs.ensures.reads

@@ -1,4 +1,4 @@
-use Rattle.std.proofs.Common.{◌≡◌, [], ◌∷◌, ◌++◌, map, length, refl, ap, sym, ◌∙◌, append-nil, arith}
+use Rattle.std.proofs.Common.{◌≡◌, [], ◌∷◌, ◌++◌, None, map, length, refl, ap, sym, ◌∙◌, append-nil, arith}
 use Rattle.std.proofs.lemmas.List.{nil_from_length}
 use Rattle.std.specs.Vec.Iter.{into_iter_items}
 use Rattle.session_workers.specs.Jobs.{IsNewJob}
@@ -19,8 +19,10 @@ loop-slot-init g c =
     record {
       all = gives.0;
       left = omega (arith, gives.1, long, c.args.slots.ok.0);
-      fresh = all_of_none c.args.jobs.items (λ job. IsNewJob g.P.PoolName.sizes job.line.session job.line.pump
-          job.line.device.end job.line.device.failed) none;
+      fresh = all_of_none c.args.jobs.items (λ job. IsNewJob g.P.PoolName.sizes g.N.BookName.sizes.shards
+          job.line.session job.line.pump job.line.device.end job.line.device.failed job.line.dump.plan
+          job.line.dump.taken job.dump_wire) none;
+      unasked = all_of_none c.args.jobs.items (λ job. job.line.dump.plan ≡ None) none;
       sessions = rw none refl;
       names = rw none (ap (map (λ s. g.S.Source.name s)) sources);
       wholes = rw none (ap (map (λ s. g.S.Source.whole s)) sources);
@@ -38,6 +40,7 @@ loop-slot-init g c =
 pub loop-slot-preserved : goal.loop-slot-preserved
 loop-slot-preserved g c =
     let z = g.P.PoolName.sizes in
+    let shards = g.N.BookName.sizes.shards in
     let before = c.loop-slot.invariant in
     let jobs = c.loop-slot.jobs.items in
     let slot = c.in-Some.slot in
@@ -52,10 +55,11 @@ loop-slot-preserved g c =
     record {
       all = given_on c.loop-slot.yielded _ _ _ _ before.all steps.0;
       left = omega (arith, before.left, steps.1, ap length steps.0);
-      fresh = all_more jobs _ _ (λ job. IsNewJob z job.line.session job.line.pump job.line.device.end
-          job.line.device.failed) items before.fresh
-          (new_job z slot.session slot.device.end slot.device.failed c.new-pump.result _ _ is
-          c.new-pump.ensures.pump own.0 own.2);
+      fresh = all_more jobs _ _ (λ job. IsNewJob z shards job.line.session job.line.pump job.line.device.end
+          job.line.device.failed job.line.dump.plan job.line.dump.taken job.dump_wire) items before.fresh
+          (new_job z shards slot.session slot.device.end slot.device.failed c.new-pump.result _ _ _ _ None is
+          c.new-pump.ensures.pump own.0 own.2 c.new-dump.ensures.plan c.new-dump.ensures.taken refl);
+      unasked = all_more jobs _ _ (λ job. job.line.dump.plan ≡ None) items before.unasked c.new-dump.ensures.plan;
       sessions = both_more jobs _ _ c.loop-slot.yielded slot (λ job. job.line.session)
           (λ d. d.session) items
           before.sessions refl;

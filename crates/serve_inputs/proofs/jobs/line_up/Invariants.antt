@@ -1,4 +1,4 @@
-use Rattle.std.proofs.Common.{◌≡◌, ◌+◌, ◌≤◌, ◌++◌, [], All, length, map, vec_len, vec_capacity}
+use Rattle.std.proofs.Common.{◌≡◌, ◌+◌, ◌≤◌, ◌++◌, [], None, All, length, map, vec_len, vec_capacity}
 use Rattle.std.specs.Vec.Iter.{into_iter_items, into_iter_len}
 use Rattle.session_workers.specs.Jobs.{IsNewJob}
 use Rattle.run_resources.specs.Opened.{IsSessionSlot}
@@ -6,8 +6,9 @@ use Rattle.serve_inputs.proofs.jobs.line_up.Given as goal
 
 abbrev pub invariant-loop-slot : goal.invariant-loop-slot
 invariant-loop-slot g l = record {
-  fresh : All (λ job. IsNewJob g.P.PoolName.sizes job.line.session job.line.pump job.line.device.end
-      job.line.device.failed) l.jobs.items;
+  fresh : All (λ job. IsNewJob g.P.PoolName.sizes g.N.BookName.sizes.shards job.line.session job.line.pump
+      job.line.device.end job.line.device.failed job.line.dump.plan job.line.dump.taken job.dump_wire) l.jobs.items;
+  unasked : All (λ job. job.line.dump.plan ≡ None) l.jobs.items;
   sessions : map (λ job. job.line.session) l.jobs.items ≡ map (λ d. d.session) l.yielded;
   names : map (λ job. job.line.pump.origin.name) l.jobs.items
       ++ map (λ s. g.S.Source.name s) (into_iter_items l.more_sources)

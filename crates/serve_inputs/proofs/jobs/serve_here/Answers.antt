@@ -3,40 +3,25 @@ use Rattle.session_workers.specs.Jobs.{IsNewJob}
 use Rattle.run_resources.proofs.Lists.{all_first, all_rest, all_as, all_given, given_on, zip_more, zip_as}
 use Rattle.serve_inputs.proofs.jobs.serve_here.Goals as goal
 
-pub serve_beside-wire-requires-clause-fresh : goal.serve_beside-wire-requires-clause-fresh
-serve_beside-wire-requires-clause-fresh g c = λ _ _.
-    (all_first _ _ c.in-Some.job (λ job. IsNewJob g.P.PoolName.sizes job.line.session job.line.pump
-    job.line.device.end job.line.device.failed) c.in-Some.ensures.steps.0 c.loop-job.invariant.rest).fresh
-
-pub serve_beside-wire-requires-clause-ring : goal.serve_beside-wire-requires-clause-ring
-serve_beside-wire-requires-clause-ring g c = λ _ _.
-    (all_first _ _ c.in-Some.job (λ job. IsNewJob g.P.PoolName.sizes job.line.session job.line.pump
-    job.line.device.end job.line.device.failed) c.in-Some.ensures.steps.0 c.loop-job.invariant.rest).ring
-
-pub serve_beside-wire-requires-clause-unfailed : goal.serve_beside-wire-requires-clause-unfailed
-serve_beside-wire-requires-clause-unfailed g c = λ _ _.
-    (all_first _ _ c.in-Some.job (λ job. IsNewJob g.P.PoolName.sizes job.line.session job.line.pump
-    job.line.device.end job.line.device.failed) c.in-Some.ensures.steps.0 c.loop-job.invariant.rest).unfailed
+pub serve_job-requires-clause-fresh : goal.serve_job-requires-clause-fresh
+serve_job-requires-clause-fresh g c = λ _ _.
+    all_first _ _ c.in-Some.job (λ job. IsNewJob g.P.PoolName.sizes g.N.BookName.sizes.shards job.line.session
+    job.line.pump job.line.device.end job.line.device.failed job.line.dump.plan job.line.dump.taken job.dump_wire)
+    c.in-Some.ensures.steps.0 c.loop-job.invariant.rest
 
 pub loop-job-preserved : goal.loop-job-preserved
 loop-job-preserved g c =
     let before = c.loop-job.invariant in
     let steps = c.in-Some.ensures.steps in
-    let is = c.serve_beside-wire.ensures in
+    let is = c.serve_job.ensures in
     record {
       all = given_on c.loop-job.yielded _ _ _ _ before.all steps.0;
       left = omega (arith, before.left, steps.1, ap length steps.0);
       done = zip_more c.loop-job.yielded c.loop-job.dones.items _ c.in-Some.job _ _ c.push_reserved.ensures.items
-          before.done (record {
-            served = is.served;
-            origin = is.origin;
-            reads = is.reads;
-            to_the_end = is.to_the_end;
-            credits = is.credits;
-            looks = is.looks;
-          });
-      rest = all_rest _ _ c.in-Some.job (λ job. IsNewJob g.P.PoolName.sizes job.line.session job.line.pump
-          job.line.device.end job.line.device.failed) steps.0 before.rest;
+          before.done is;
+      rest = all_rest _ _ c.in-Some.job (λ job. IsNewJob g.P.PoolName.sizes g.N.BookName.sizes.shards
+          job.line.session job.line.pump job.line.device.end job.line.device.failed job.line.dump.plan
+          job.line.dump.taken job.dump_wire) steps.0 before.rest;
       room = omega (
         arith,
         before.room,
@@ -60,7 +45,8 @@ loop-job-init g c =
       all = gives.0;
       left = omega (arith, gives.1, long, c.args.jobs.ok.0);
       done = rw c.requires.room.0 tt;
-      rest = all_as _ c.args.jobs.items (λ job. IsNewJob g.P.PoolName.sizes job.line.session job.line.pump
-          job.line.device.end job.line.device.failed) gives.0 c.requires.fresh;
+      rest = all_as _ c.args.jobs.items (λ job. IsNewJob g.P.PoolName.sizes g.N.BookName.sizes.shards
+          job.line.session job.line.pump job.line.device.end job.line.device.failed job.line.dump.plan
+          job.line.dump.taken job.dump_wire) gives.0 c.requires.fresh;
       room = omega (arith, long, c.requires.room.1, ap length c.requires.room.0, c.args.dones.ok.0);
     }

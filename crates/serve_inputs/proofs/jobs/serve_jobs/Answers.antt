@@ -1,4 +1,13 @@
+use Rattle.std.proofs.Common.{ap}
+use Rattle.session_workers.specs.Jobs.{IsNewJob}
+use Rattle.run_resources.proofs.Lists.{all_as}
 use Rattle.serve_inputs.proofs.jobs.serve_jobs.Goals as goal
 
 pub returns-in-Err : goal.returns-in-Err
 returns-in-Err g c = rw (← c.in-Err.ensures.back) c.serve_here.ensures
+
+pub serve_here-requires-clause-fresh : goal.serve_here-requires-clause-fresh
+serve_here-requires-clause-fresh g c = λ _ _.
+    all_as c.in-Err.jobs.items c.args.jobs.items (λ job. IsNewJob g.P.PoolName.sizes g.N.BookName.sizes.shards
+    job.line.session job.line.pump job.line.device.end job.line.device.failed job.line.dump.plan job.line.dump.taken
+    job.dump_wire) (ap (λ jobs. jobs.items) c.in-Err.ensures.back) c.requires.fresh

@@ -21,6 +21,7 @@ invariant-loop-done g l = record {
   list_room : length (into_iter_items l.done-iterator) ≤ l.lists.spare;
   sent_room : vec_len l.sent + length (into_iter_items l.done-iterator) ≤ vec_capacity l.sent;
   source_room : vec_len l.sources + length (into_iter_items l.done-iterator) ≤ vec_capacity l.sources;
+  wire_capacity : vec_capacity l.wires ≡ vec_capacity l.fn.results.wires;
   wire_room : vec_len l.wires + length (into_iter_items l.done-iterator) + length (into_iter_items l.past)
       ≤ vec_capacity l.wires;
 }

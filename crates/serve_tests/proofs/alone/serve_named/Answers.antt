@@ -1,6 +1,6 @@
 use Rattle.std.proofs.Common.{◌≡◌, ◌+◌, Some, arith}
 use Rattle.std.proofs.lemmas.List.Elements.{All-pop}
-use Rattle.run_resources.specs.Opened.{IsSessionSlot}
+use Rattle.run_resources.specs.Opened.{IsSessionSlot, dump_credits}
 use Rattle.run_resources.proofs.SessionSlots.{fresh, slot_credits}
 use Rattle.serve_tests.proofs.alone.serve_named.Goals as goal
 
@@ -26,7 +26,8 @@ pub close_one-requires-clause-credits : goal.close_one-requires-clause-credits
 close_one-requires-clause-credits g c =
     let is = (All-pop (λ d. IsSessionSlot g.P.PoolName.sizes d.session d.device.end d.device.failed) _ _
     (Some c.in-Some.slot) c.in-Some.ensures.items c.in_ok-pool.ensures.slots).1 in
-    let all : g.P.PoolName.sizes.credits ≡ 8192 + c.args.sizes.now.shards + 1 = λ i. (c.requires.pool.2 i).credits in
+    let all : g.P.PoolName.sizes.credits ≡ 8192 + c.args.sizes.now.shards + 1 + dump_credits c.args.sizes.now =
+    λ i. (c.requires.pool.2 i).credits in
     omega (
       arith,
       c.in_ok-pool.ensures.main.1,
