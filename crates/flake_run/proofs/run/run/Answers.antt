@@ -14,8 +14,8 @@ returns-in-Drive g c =
 
 pub returns-in-Gen : goal.returns-in-Gen
 returns-in-Gen g c =
-    run_generates c.args.words.now _ _ _ _ _ _ _ _ _ _ c.generate.ensures.dump (sym c.command_name.ensures ∙ c.in-Gen.is)
-    c.generate.ensures.does
+    run_generates c.args.words.now _ _ _ _ _ _ _ _ _ _ c.generate.ensures.dump
+    (sym c.command_name.ensures ∙ c.in-Gen.is) c.generate.ensures.does
 
 pub returns-in-Join : goal.returns-in-Join
 returns-in-Join g c =
