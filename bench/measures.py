@@ -156,10 +156,11 @@ def in_turns(ways, turns):
     return costs
 
 
-def counted(path, folder, name, options=()):
-    """The instructions that serve a file, and how often memory is taken, by callgrind."""
+def counted(path, folder, name, options=(), command=("serve",)):
+    """The instructions that serve a file, or do with it what a command does, and how often memory is taken, by
+    callgrind."""
     remove_replies(folder)
-    command = ["valgrind", "--tool=callgrind", "--callgrind-out-file=counts", path, "serve", *options, name]
+    command = ["valgrind", "--tool=callgrind", "--callgrind-out-file=counts", path, *command, *options, name]
     subprocess.run(command, cwd=folder, check=True, stdout=subprocess.DEVNULL, stderr=subprocess.DEVNULL)
     with open(os.path.join(folder, "counts"), encoding="utf-8", errors="replace") as file:
         return Count(*read_counts(file))
@@ -181,12 +182,12 @@ def read_counts(file):
     return instructions, taken
 
 
-def each(path, folder, before, asked, few, many, options=()):
+def each(path, folder, before, asked, few, many, options=(), command=("serve",)):
     """What one more such request takes: the difference of two files that have few and many of them."""
     counts = []
     for number in (few, many):
         write(folder, "asked.resp", [before, *(asked[at % len(asked)] for at in range(number))])
-        counts.append(counted(path, folder, "asked.resp", options))
+        counts.append(counted(path, folder, "asked.resp", options, command))
     return Count(*((more - less) / (many - few) for less, more in zip(*counts)))
 
 

@@ -1,6 +1,7 @@
 # Sourced by the scripts that check ./vepkhundi, behind counted.sh: a clone whose toolchain is a stand-in, which proves
-# nothing. Its program writes its folder and its words, copies the first FILE line by line to out0.resp for `serve FILE..`
-# and `drive SCHEDULE FILE..`, the second to out1.resp and so on, and ends with status ENDS, which is 7 if it isn't set.
+# nothing. Its program writes its folder and its words, copies the first FILE line by line to out0.resp for `serve FILE..`,
+# `frames M FILE..` and `drive SCHEDULE FILE..`, the second to out1.resp and so on, and ends with status ENDS, which is 7 if
+# it isn't set. WIRE is what it writes to out0.resp in the place of the first.
 # OPENED names a file that gets the program's open files, and IGNORED one that gets the signals that it ignores. SAYS is
 # what it says in the place of its folder and words. DUMPS is written behind these, to the file of the next number. WAITS
 # names a file that it writes before it waits for a minute.
@@ -22,8 +23,11 @@ printf "${SAYS-}"
 [ -z "${WAITS-}" ] || { echo waits >"$WAITS"; exec sleep 60; }
 [ -z "${IGNORED-}" ] || grep SigIgn /proc/$$/status >"$IGNORED"
 [ -z "${OPENED-}" ] || (ls -l "/proc/$$/fd" >"$OPENED")
-if [ "$1" = serve ] || [ "$1" = drive ]; then
-  [ "$1" = serve ] || { shift; [ -f "${1-}" ] || set -- missing; }
+if [ "$1" = serve ] || [ "$1" = drive ] || [ "$1" = frames ]; then
+  case $1 in
+    drive) shift; [ -f "${1-}" ] || set -- missing ;;
+    frames) shift ;;
+  esac
   shift
   [ "$1" != -- ] || shift
   session=0
@@ -34,6 +38,7 @@ if [ "$1" = serve ] || [ "$1" = drive ]; then
     session=$((session + 1))
   done
   [ -z "${DUMPS-}" ] || printf -- "$DUMPS" >>out$session.resp
+  [ -z "${WIRE-}" ] || printf -- "$WIRE" >out0.resp
 fi
 exit "${ENDS-7}"
 END

@@ -7,7 +7,7 @@ from launcher import faults
 from launcher.opening import first_unopened, is_file, read_again
 from launcher.place import tool
 from launcher.schedule import MOST, first_bad, why_bad
-from launcher.table import CHECK, DRIVE, GEN, JOIN, SERVE
+from launcher.table import CHECK, DRIVE, FRAMES, GEN, JOIN, SERVE
 from launcher.voice import quoted
 from plain.inputs import CLEAN, CUT, INLINE, TOO_LONG, how_it_ends
 
@@ -22,7 +22,14 @@ def after(ran, task):
     """Returns lines; none where the program's own say all."""
     if ran.status == 2:
         return [cannot_open(task)]
-    of_command = {SERVE: of_served, GEN: of_generated, DRIVE: of_driven, CHECK: of_checked, JOIN: of_joined}
+    of_command = {
+        SERVE: of_served,
+        FRAMES: of_served,
+        GEN: of_generated,
+        DRIVE: of_driven,
+        CHECK: of_checked,
+        JOIN: of_joined,
+    }
     return list(of_command[task.command](ran, task))
 
 

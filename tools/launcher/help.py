@@ -46,7 +46,7 @@ def of_all():
     for command in COMMANDS.values():
         lines += [line_of(command), *(f"    {it}" for it in command.what.split("\n")), ""]
     lines += ["OPTIONS stand before the command:", "", *rows([(it.shown(), it.what) for it in OWN_OPTIONS]), ""]
-    lines += ["SIZES stand behind serve and drive; help COMMAND shows what else does:", "", *rows([(it.shown(), limits(it)) for it in SIZES]), ""]
+    lines += ["SIZES stand behind serve, frames and drive; help COMMAND shows what else does:", "", *rows([(it.shown(), limits(it)) for it in SIZES]), ""]
     lines += ["Statuses:", "", *rows(STATUSES), "", *rows(TOOLS), ""]
     lines += ["The program is proved and built first, where it wasn't proved from the sources as they stand."]
     return "\n".join(lines) + "\n"

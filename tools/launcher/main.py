@@ -92,7 +92,7 @@ def folder_of_replies(task, own):
     if own.out is None:
         return ""
     if task.command == CHECK:
-        raise Refused("bad words: check writes no replies, so --out stands before serve, drive, gen or join", 1, "bad words")
+        raise Refused("bad words: check writes no replies, so --out stands before serve, drive, gen, frames or join", 1, "bad words")
     if not os.path.isdir(own.out):
         why = "it is no folder" if os.path.lexists(own.out) else "there is no such folder"
         raise Refused(f"--out {quoted(own.out)}: {why}. Nothing was run")

@@ -29,6 +29,6 @@ def manual():
         own = [it for it in command.options if it not in SIZES]
         if own:
             lines += [f".SH OPTIONS OF {command.name.upper()}", *listed((it.shown(), limits(it)) for it in own)]
-    lines += [".SH SIZES", "They stand behind serve and drive.", *listed((it.shown(), limits(it)) for it in SIZES)]
+    lines += [".SH SIZES", "They stand behind serve, frames and drive.", *listed((it.shown(), limits(it)) for it in SIZES)]
     lines += [".SH EXIT STATUS", *listed(STATUSES), ".SH SEE ALSO", *listed(TOOLS)]
     return "\n".join(lines) + "\n"

@@ -7,8 +7,10 @@ import os
 import re
 
 from launcher.opening import is_file, read_again
+from launcher.table import FRAMES
 from launcher.voice import escaped
 from launcher.wanted import sizes_for
+from plain.frames import HEADER, cut
 from plain.requests import requests
 from plain.shown import shortened, typed
 
@@ -64,15 +66,27 @@ def behind(text, at):
     return at
 
 
-def errors_of(file):
+def errors_of(file, are_frames):
     """Returns the errors of a file of replies, or None where it has none. Most have none, which is seen at once."""
     if not is_file(file) or os.stat(file).st_size == 0:
         return None
     with open(file, "rb") as it, mmap.mmap(it.fileno(), 0, access=mmap.ACCESS_READ) as text:
-        if text[:1] != b"-" and text.find(b"\r\n-") < 0:
+        if shows_none(text, are_frames):
             return None
-        errors = Errors(text)
+        errors = Errors(whole(text) if are_frames else text)
     return errors if errors.counts else None
+
+
+def shows_none(text, are_frames):
+    """Whether no reply of a file begins as an error does. A frame's header ends with two bytes 0."""
+    if are_frames:
+        return text.find(b"\0\0-") < 0
+    return text[:1] != b"-" and text.find(b"\r\n-") < 0
+
+
+def whole(frames):
+    """Returns the replies whose frames stand in a file in their order."""
+    return b"".join(each[HEADER.size :] for each in cut(frames))
 
 
 def request_at(file, call):
@@ -101,8 +115,8 @@ def line_of(session, errors, file):
 
 def refused_commands(task):
     """Returns a line for each session that has errors, with what to do behind the last one."""
-    files = task.files
-    found = {session: errors_of(name) for session, name in enumerate(task.replies)}
+    files, are_frames = task.files, task.command == FRAMES
+    found = {session: errors_of(name, are_frames) for session, name in enumerate(task.replies)}
     found = {session: errors for session, errors in found.items() if errors}
     every = set().union(*(errors.counts for errors in found.values()))
     lines = [line_of(session, errors, files[session] if files else None) for session, errors in found.items()]

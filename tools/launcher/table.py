@@ -1,6 +1,6 @@
 """The commands and their options: help, completion, the manual and the judge of words are all made of this table."""
 
-SERVE, CHECK, GEN, DRIVE, JOIN = "serve", "check", "gen", "drive", "join"
+SERVE, CHECK, GEN, DRIVE, FRAMES, JOIN = "serve", "check", "gen", "drive", "frames", "join"
 MOST_FILES = 16
 STAGE = 128  # small buffers that each session has for itself
 
@@ -99,6 +99,13 @@ COMMANDS = {
             "lines what came of it. The lines are `call N`: session N runs its next command, `gather N`: its next\n"
             "reply is sent, and `reap N`: the next of those is taken back. Replies that are left are sent at the end.",
             SIZES,
+        ),
+        Command(
+            FRAMES,
+            "[SIZES] M FILE..",
+            "Serves 1 to 16 files of requests at once, as serve does, but each reply goes to out0.resp, out1.resp, .. in\n"
+            "frames of at most M bytes, 64 to 9216. join puts the replies of one file together again.",
+            (*SIZES, WORKERS),
         ),
         Command(
             JOIN,

@@ -4,7 +4,7 @@ import os
 
 from launcher.generated import MOST_LARGE, MOST_SMALL, demand_of
 from launcher.replies import replies_of
-from launcher.table import CHECK, COMMANDS, DRIVE, GEN, JOIN, MOST_FILES, OWN_OPTIONS, SERVE, STAGE
+from launcher.table import CHECK, COMMANDS, DRIVE, FRAMES, GEN, JOIN, MOST_FILES, OWN_OPTIONS, SERVE, STAGE
 from launcher.voice import quoted
 
 MOST_NUMBER = 2**32 - 1
@@ -27,7 +27,7 @@ class Task:
         self.folder = ""
         is_driven = self.command == DRIVE
         self.schedule_place = places[0] if is_driven else None
-        self.file_places = {SERVE: places, DRIVE: places[1:]}.get(self.command, [])
+        self.file_places = {SERVE: places, FRAMES: places, DRIVE: places[1:]}.get(self.command, [])
         of_files = 1 if self.command == JOIN else len(self.file_places)
         self.sessions = value_or_usual(given, GEN, "--sessions") if self.command == GEN else of_files
 
@@ -95,8 +95,15 @@ def read_task(words):
     given, places = read_words(words, command)
     if sum(words[place] == "-" for place in places) > 1:
         raise BadWords("-: standard input is read once")
-    fit = {SERVE: fit_files, DRIVE: fit_driven, CHECK: fit_pairs, GEN: fit_number, JOIN: fit_join}[words[0]]
-    return Task(words, given, fit(words, given, places))
+    fit = {
+        SERVE: fit_files,
+        FRAMES: fit_frames,
+        DRIVE: fit_driven,
+        CHECK: fit_pairs,
+        GEN: fit_number,
+        JOIN: fit_join,
+    }
+    return Task(words, given, fit[words[0]](words, given, places))
 
 
 def unknown(words):
@@ -165,6 +172,14 @@ def fit_driven(words, given, places):
     return fit_count("drive behind the schedule", given, places, len(places) - 1)
 
 
+def fit_frames(words, given, places):
+    """The places of files of requests, behind the most bytes of a frame."""
+    if not places:
+        raise BadWords("frames takes a frame's most bytes, and then 1 to 16 files")
+    judge_number("M", words[places[0]], FRAME)
+    return fit_count("frames behind M", given, places[1:], len(places) - 1)
+
+
 def fit_count(what, given, places, count):
     small = value_or_usual(given, SERVE, "--small")
     if count == 0:
@@ -204,6 +219,11 @@ def fit_join(words, _given, places):
     if len(places) != 3:
         raise BadWords(f"{len(places)} words: join takes a frame's most bytes, the number of calls and a file")
     for place, name, limits in zip(places, ("M", "CALLS"), (FRAME, (0, MOST_NUMBER))):
-        if not is_plain(words[place], *limits):
-            raise BadWords(f"{name} {quoted(words[place])}: {limits[0]} to {limits[1]}, as a plain number")
+        judge_number(name, words[place], limits)
     return places[2:]
+
+
+def judge_number(name, text, limits):
+    """Refuses what is no plain number within these limits."""
+    if not is_plain(text, *limits):
+        raise BadWords(f"{name} {quoted(text)}: {limits[0]} to {limits[1]}, as a plain number")

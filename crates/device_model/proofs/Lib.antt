@@ -1,3 +1,4 @@
 pub mod Puts
 pub mod Forwarding
 pub mod Cutting
+pub mod Framed

@@ -1,9 +1,10 @@
 -- What a device does to its ring and to a wire.
-use Rattle.std.specs.Prelude.{◌≡◌, ℕ, Bool, true, false, List, [], ◌∷◌, ◌++◌, Some, length}
+use Rattle.std.specs.Prelude.{◌≡◌, ℕ, ◌≤◌, Bool, true, false, List, [], ◌∷◌, ◌++◌, Option, None, Some, length}
 use Rattle.std.specs.List.{flat_map, slice_get}
 use Rattle.std.specs.Borrow.{Bor}
 use Rattle.flake_base.specs.declared.segment.Seg.{Seg}
 use Rattle.any_wire.specs.Sends as wire
+use Rattle.mtu_frames.specs.Frames.{framed}
 use Rattle.reply_planner.specs.Parcels.{Sent}
 use Rattle.tx_descriptor.specs.declared.framed.Framed.{Ghosts}
 use Rattle.tx_ring.specs.Shown.{completed, blanks, ended, device_told, FindsNone, FindsClosed}
@@ -19,17 +20,41 @@ HasSegment segments segment = (i : ℕ) × (slice_get segments i ≡ Some segmen
 abbrev pub sent_texts : List Sent → List ℕ
 sent_texts replies = flat_map (λ (reply : Sent). reply.text) replies
 
+-- a reply as it is sent: its text, or, where frames have at most so many bytes, its frames
+abbrev pub as_sent : Option ℕ → Sent → List ℕ
+as_sent None reply = reply.text
+as_sent (Some mtu) reply = framed reply.text reply.call mtu
+
+-- replies as they are sent, joined
+abbrev pub sent_as : Option ℕ → List Sent → List ℕ
+sent_as None replies = sent_texts replies
+sent_as (Some mtu) replies = flat_map (λ (reply : Sent). framed reply.text reply.call mtu) replies
+
+-- frames may have at most so many bytes, where there are to be frames
+abbrev pub CanFrame : Option ℕ → Type 0
+CanFrame None = Unit {0}
+CanFrame (Some mtu) = (64 ≤ mtu) × (mtu ≤ 9216)
+
 module _ {W : Type 0} (put_may : W → Bor (List ℕ) → (W × Bool) → Type 0) where
   -- the text is put, and nothing is flushed
   abbrev pub PutsText : Bool → Bool → List ℕ → W → W → Type 0
   PutsText = wire.Sends put_may (λ w r. ⊥)
 
-module _ {W : Type 0} (put_may : W → Bor (List ℕ) → (W × Bool) → Type 0) (flush_may : W → (W × Bool) → Type 0) where
-  -- some replies more were completed, and their texts alone were put, in order, until a put or a flush failed
-  pub record Forwards (failed now : Bool) (before after : List Sent) (old new : W) : Type 0 where
+module _
+    {W : Type 0}
+    (mtu : Option ℕ)
+    (put_may : W → Bor (List ℕ) → (W × Bool) → Type 0)
+    (flush_may : W → (W × Bool) → Type 0) where
+  -- some replies more were completed, and they alone were put, in order, until a put or a flush failed
+  pub record ForwardsAs (failed now : Bool) (before after : List Sent) (old new : W) : Type 0 where
     pub taken : List Sent
     pub in_order : after ≡ before ++ taken
-    pub sends : wire.Sends put_may flush_may failed now (sent_texts taken) old new
+    pub sends : wire.Sends put_may flush_may failed now (sent_as mtu taken) old new
+
+module _ {W : Type 0} (put_may : W → Bor (List ℕ) → (W × Bool) → Type 0) (flush_may : W → (W × Bool) → Type 0) where
+  -- so it is of their texts
+  abbrev pub Forwards : Bool → Bool → List Sent → List Sent → W → W → Type 0
+  Forwards = ForwardsAs None put_may flush_may
 
 -- a reply was taken, and this is so
 abbrev pub IfTaken : Gathered → Type 0 → Type 0
@@ -45,10 +70,14 @@ IfIdle (found.Dropped call bytes) F = Unit {0}
 IfIdle found.Empty F = F
 IfIdle found.Closed F = F
 
-module _ {W : Type 0} (put_may : W → Bor (List ℕ) → (W × Bool) → Type 0) where
+module _ {W : Type 0} (mtu : Option ℕ) (put_may : W → Bor (List ℕ) → (W × Bool) → Type 0) where
   -- the same, and nothing is flushed
+  abbrev pub PutsAs : Bool → Bool → List Sent → List Sent → W → W → Type 0
+  PutsAs = ForwardsAs mtu put_may (λ w r. ⊥)
+
+module _ {W : Type 0} (put_may : W → Bor (List ℕ) → (W × Bool) → Type 0) where
   abbrev pub PutsTexts : Bool → Bool → List Sent → List Sent → W → W → Type 0
-  PutsTexts = Forwards put_may (λ w r. ⊥)
+  PutsTexts = PutsAs None put_may
 
 module _ {g : Ghosts Sent} where
   -- the next reply was completed, with this call's number and so many bytes

@@ -1,10 +1,12 @@
 // The device.
-ghost use Rattle.std.specs.Prelude.{◌≡◌, false, length};
+ghost use Rattle.std.specs.Prelude.{◌≡◌, Some, false, length};
 ghost use Rattle.tx_ring.specs.Shown.{closed_ring, closed_view, device_ring, device_view, completed, IsResting};
 ghost use Rattle.any_wire.specs.Sends.{Flushes};
-ghost use Rattle.device_model.specs.Devices.{Forwards, IfIdle, IfTaken, IsFound, PutsTexts};
+ghost use Rattle.device_model.specs.Devices.{CanFrame, Forwards, ForwardsAs, IfIdle, IfTaken, IsFound, PutsAs};
+ghost use Rattle.device_model.specs.Devices.{PutsTexts};
 ghost use Rattle.device_model.specs.Pieces.{PutsPieces};
 
+use crate::framing::send_framed;
 use crate::gathered::Gathered;
 use crate::sending::send_frame;
 use any_wire::{MOST_PUT, flush_unless_failed};
@@ -93,6 +95,61 @@ impl<N: PoolName + Send> Device<N> {
                     &mut self.room,
                     wire,
                     self.failed,
+                    put,
+                );
+                self.failed = failed;
+                self.end.complete(job);
+                if failed {
+                    (wire, Gathered::Dropped { call, bytes })
+                } else {
+                    (wire, Gathered::Sent { call, bytes })
+                }
+            }
+            Next::Empty { .. } => {
+                let (wire, failed) = flush_unless_failed(wire, self.failed, flush);
+                self.failed = failed;
+                (wire, Gathered::Empty)
+            }
+            Next::Closed => {
+                let (wire, failed) = flush_unless_failed(wire, self.failed, flush);
+                self.failed = failed;
+                (wire, Gathered::Closed)
+            }
+        }
+    }
+
+    /// Gathers the next reply and puts it as frames of at most `mtu` bytes, in pieces of at most 512 bytes; a frame's
+    /// header and its first bytes are one piece. All else is as in [`Device::gather`]; `bytes` is the text's length.
+    pub fn gather_framed<W: Drop, P: Fn(W, &[u8]) -> (W, bool), F: Fn(W) -> (W, bool)>(
+        &mut self,
+        pool: &Pool<N>,
+        wire: W,
+        mtu: u16,
+        put: &P,
+        flush: &F,
+    ) -> (W, Gathered)
+        requires calls { P.IsAlwaysCallable put.now × F.IsAlwaysCallable flush.now }
+        requires mtu { CanFrame (Some mtu) }
+        ensures ring { device_ring self.new.end ≡ device_ring self.old.end }
+        ensures found { IsFound result.1 self.new.failed self.old.end self.new.end }
+        ensures put { IfTaken result.1 (PutsAs (Some mtu) (λ w p r. P.post put.now w p r) self.old.failed
+            self.new.failed (completed self.old.end) (completed self.new.end) wire result.0) }
+        ensures flushed { IfIdle result.1 (Flushes (λ w r. F.post flush.now w r) self.old.failed self.new.failed wire
+            result.0) }
+        ensures forwards { ForwardsAs (Some mtu) (λ w p r. P.post put.now w p r) (λ w r. F.post flush.now w r)
+            self.old.failed self.new.failed (completed self.old.end) (completed self.new.end) wire result.0 }
+    {
+        match self.end.next() {
+            Next::Frame(job) => {
+                let mut job = job;
+                let call = job.frame().call();
+                let (wire, failed, bytes) = send_framed(
+                    pool,
+                    &mut job,
+                    &mut self.room,
+                    wire,
+                    self.failed,
+                    mtu,
                     put,
                 );
                 self.failed = failed;

@@ -2,6 +2,7 @@
 #![tactic(auto)]
 
 mod device;
+mod framing;
 mod gathered;
 pub mod laws;
 mod sending;

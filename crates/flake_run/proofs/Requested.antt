@@ -67,7 +67,8 @@ as_many_replies commands journal number (session ∷ sessions) =
 module _ {W : Type 0} (put_may : W → Bor (List ℕ) → (W × Bool) → Type 0) (flush_may : W → (W × Bool) → Type 0)
     (told : W → WireTold) (says : AreTold put_may flush_may told) where
   whole_told : (replies : Bool × List (List ℕ)) (shown : ℕ) (old new : W)
-      → SentWhole put_may flush_may replies.0 replies.1 shown old new → IsExact replies shown (told old) (told new)
+      → SentWhole put_may flush_may replies.0 replies.1 replies.1 shown old new → IsExact replies shown (told old)
+      (told new)
   whole_told replies shown old new is =
       let before = sent_by_puts put_may flush_may told says false _ old is.grew.middle is.grew.before in
       let behind = sent_by_puts put_may flush_may told says replies.0 _ is.grew.middle new is.grew.behind in
@@ -83,7 +84,7 @@ module _ {W : Type 0} (put_may : W → Bor (List ℕ) → (W × Bool) → Type 0
       }
 
   all_told : (replies : List (Bool × List (List ℕ))) (shown : List ℕ) (olds news : List W)
-      → AllWhole put_may flush_may replies shown olds news
+      → AllWhole None put_may flush_may replies shown olds news
       → drop (length replies) news ≡ drop (length replies) olds
       → AreExact replies shown (map told olds) (map told news)
   all_told [] shown olds news is past = record {

@@ -1,6 +1,6 @@
 -- Served sources are a served run of their sessions.
-use Rattle.std.proofs.Common.{◌≡◌, ℕ, ◌+◌, ◌++◌, Bool, true, false, if◌then◌else◌, List, [], ◌∷◌, Option, None, length}
-use Rattle.std.proofs.Common.{map, drop, refl, sym, ap, ◌∙◌, subst, append-nil}
+use Rattle.std.proofs.Common.{◌≡◌, ℕ, ◌+◌, ◌++◌, Bool, true, false, if◌then◌else◌, List, [], ◌∷◌, Option, Some, None}
+use Rattle.std.proofs.Common.{length, map, drop, refl, sym, ap, ◌∙◌, subst, append-nil}
 use Rattle.std.specs.Borrow.{Bor}
 use Rattle.std.proofs.lemmas.List.{length-map, map-append}
 use Rattle.flake_base.specs.Growth.{Grew}
@@ -20,6 +20,8 @@ use Rattle.serve_model.specs.Shown.{WasRun}
 use Rattle.wire_told.specs.Sent.{WasSent, AreTold}
 use Rattle.wire_told.proofs.Sent.{sends_told, flush_told}
 use Rattle.flake_run.specs.Dumping.{dump_failed, puts_failed}
+use Rattle.serve_inputs.specs.Wires.{framed_wire, sent_on_wires}
+use Rattle.serve_model.specs.Replies.{all_replies_from}
 use Rattle.flake_run.specs.Serving.{IsServedRun, IsDumpingRun}
 
 -- what each change of a wire says of something that the wire tells, by something of its session
@@ -53,6 +55,22 @@ failed_are : (commands : List (List Command)) (journal : List (List Entry)) (num
 failed_are commands journal number [] = refl
 failed_are commands journal number (session ∷ sessions) = ap (λ (rest : List Bool). session.end.failed ∷ rest)
     (failed_are commands journal (number + 1) sessions)
+
+-- so it is where frames were sent
+failed_framed : (mtu : ℕ) (commands : List (List Command)) (journal : List (List Entry)) (number : ℕ)
+    (sessions : List Session)
+    → map (λ (text : Bool × List ℕ). text.0)
+    (map (framed_wire mtu) (all_replies_from commands journal number sessions))
+    ≡ map (λ (end : SessionEnd). end.failed) (map (λ (session : Session). session.end) sessions)
+failed_framed mtu commands journal number [] = refl
+failed_framed mtu commands journal number (session ∷ sessions) =
+    ap (λ (rest : List Bool). session.end.failed ∷ rest) (failed_framed mtu commands journal (number + 1) sessions)
+
+failed_on : (mtu : Option ℕ) (sessions : List Session) (journal : List (List Entry))
+    → map (λ (text : Bool × List ℕ). text.0) (sent_on_wires mtu sessions journal)
+    ≡ map (λ (end : SessionEnd). end.failed) (map (λ (session : Session). session.end) sessions)
+failed_on None sessions journal = failed_are (all_commands sessions) journal 0 sessions
+failed_on (Some mtu) sessions journal = failed_framed mtu (all_commands sessions) journal 0 sessions
 
 -- whether that of a dump did
 dump_fails : (commands : List (List Command)) (journal : List (List Entry)) (dump : DumpTold)
@@ -130,7 +148,7 @@ module _ {W : Type 0} (put_may : W → Bor (List ℕ) → (W × Bool) → Type 0
 
   pub served_to : (z : Sizes) (givens : List (List ℕ)) (endeds : List Bool) (ends : List SessionEnd) (counts : List ℕ)
       (journal : List (List Entry)) (pool : End) (olds news : List W)
-      → RanAll put_may flush_may z givens endeds ends counts journal pool None no_dump olds news
+      → RanAll None put_may flush_may z givens endeds ends counts journal pool None no_dump olds news
       → IsServedRun z givens endeds ends journal pool olds news told
   served_to z givens endeds ends counts journal pool olds news ran =
       run_told z givens endeds ends journal pool olds news ran.ran
@@ -139,7 +157,7 @@ module _ {W : Type 0} (put_may : W → Bor (List ℕ) → (W × Bool) → Type 0
 
   pub served_sessions : (z : Sizes) (givens : List (List ℕ)) (endeds : List Bool) (ends : List SessionEnd)
       (counts : List ℕ) (journal : List (List Entry)) (pool : End) (olds news : List W)
-      → (ran : RanAll put_may flush_may z givens endeds ends counts journal pool None no_dump olds news)
+      → (ran : RanAll None put_may flush_may z givens endeds ends counts journal pool None no_dump olds news)
       → (served_to z givens endeds ends counts journal pool olds news ran).run.sessions ≡ ran.ran.served.sessions
   unfolding served_to
   served_sessions z givens endeds ends counts journal pool olds news ran =
@@ -148,20 +166,20 @@ module _ {W : Type 0} (put_may : W → Bor (List ℕ) → (W × Bool) → Type 0
       (append-nil (wire_texts ran.ran.served.sessions journal)) ran.sends)
 
   -- with what a dump was sent behind them
-  pub dumping_to : (z : Sizes) (givens : List (List ℕ)) (endeds : List Bool) (ends : List SessionEnd)
+  pub dumping_to : (mtu : Option ℕ) (z : Sizes) (givens : List (List ℕ)) (endeds : List Bool) (ends : List SessionEnd)
       (counts : List ℕ) (journal : List (List Entry)) (pool : End) (asked : Option ℕ) (dump : DumpTold)
-      (olds news : List W) → RanAll put_may flush_may z givens endeds ends counts journal pool asked dump olds news
-      → IsDumpingRun z givens endeds ends journal pool asked dump olds news told
-  dumping_to z givens endeds ends counts journal pool asked dump olds news ran =
+      (olds news : List W) → RanAll mtu put_may flush_may z givens endeds ends counts journal pool asked dump olds news
+      → IsDumpingRun z givens endeds ends journal pool asked mtu dump olds news told
+  dumping_to mtu z givens endeds ends counts journal pool asked dump olds news ran =
       let was = ran.ran.served in
-      let first = wire_texts was.sessions journal in
+      let first = sent_on_wires mtu was.sessions journal in
       let behind = dump_texts (all_commands was.sessions) journal dump in
       let texts = first ++ behind in
       let each : EachWire (WasPut told) texts olds news = all_put texts olds news ran.sends in
       let failed : map (λ (text : Bool × List ℕ). text.0) texts ≡ puts_failed ends dump =
       map-append (λ (text : Bool × List ℕ). text.0) first behind
       ∙ ap (λ (fs : List Bool). fs ++ map (λ (text : Bool × List ℕ). text.0) behind)
-      (failed_are (all_commands was.sessions) journal 0 was.sessions
+      (failed_on mtu was.sessions journal
       ∙ ap (map (λ (end : SessionEnd). end.failed)) was.ends_are)
       ∙ ap (λ (fs : List Bool). map (λ (end : SessionEnd). end.failed) ends ++ fs)
       (dump_fails (all_commands was.sessions) journal dump) in

@@ -8,7 +8,7 @@ use Rattle.serve_words.specs.Join.{join_of}
 use Rattle.serve_words.specs.Named.{name_of}
 use Rattle.serve_words.specs.Task.{word_texts}
 use Rattle.serve_words.specs.declared.named.CommandName.{CommandName}
-use Rattle.serve_words.specs.declared.named.CommandName.TheVariants.{Serve, Check, Gen, Drive, Join}
+use Rattle.serve_words.specs.declared.named.CommandName.TheVariants.{Serve, Frames, Check, Gen, Drive, Join}
 use Rattle.flake_run.specs.Task.{RunTask, run_task_of}
 use Rattle.flake_run.specs.DriveTask.{drive_job_of}
 use Rattle.flake_run.specs.Outside.{Outside}
@@ -23,7 +23,7 @@ use Rattle.flake_run.specs.Generated.{Generated}
 use Rattle.flake_run.specs.Drove.{Drove}
 use Rattle.flake_run.specs.Joined.{Joined}
 
--- what `serve` does
+-- what `serve` does, and `frames`, whose task has a bound of frames
 pub record ServeDoes {W : Type 0} (task : RunTask) (before after : Outside W) (done : RunOutcome) : Type 0 where
   -- the headline, where something was served
   pub served : done.ends ≢ [] → Served task before after done
@@ -40,6 +40,7 @@ pub record ServeDoes {W : Type 0} (task : RunTask) (before after : Outside W) (d
 abbrev pub CommandDoes : {W : Type 0} → CommandName → List (String Global) → Outside W → Outside W → RunOutcome
     → Type 0
 CommandDoes Serve words before after done = ServeDoes (run_task_of words) before after done
+CommandDoes Frames words before after done = ServeDoes (run_task_of words) before after done
 CommandDoes Check words before after done =
     Checked (check_of (word_texts words)) before after done × (done.dump ≡ no_dump)
 CommandDoes Gen words before after done =

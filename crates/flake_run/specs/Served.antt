@@ -2,7 +2,7 @@
 use Rattle.std.specs.Prelude.{◌≡◌, ◌≢◌, ◌≤◌, ◌++◌, Some, length, drop, All}
 use Rattle.std.specs.List.{range_with_len}
 use Rattle.flake_base.specs.declared.session.End.TheVariants.{Left}
-use Rattle.flake_model.specs.Run.{WasServed, all_commands, missing_writes, wire_texts}
+use Rattle.flake_model.specs.Run.{WasServed, all_commands, missing_writes}
 use Rattle.flake_model.specs.Wire.{FaultsAre, KeptAre, WiresGrew}
 use Rattle.pin_core.specs.declared.class.Class.{Class}
 use Rattle.pinned_pool.specs.Claims.{count_of}
@@ -12,8 +12,9 @@ use Rattle.serve_model.specs.Shown.{IsCounted}
 use Rattle.check_files.specs.Named.{counted_times}
 use Rattle.flake_run.specs.Opening.{AreOfFiles}
 use Rattle.serve_inputs.specs.Dumped.{IsDumpTold, dump_texts}
+use Rattle.serve_inputs.specs.Wires.{sent_on_wires}
 use Rattle.flake_run.specs.Dumping.{puts_failed}
-use Rattle.flake_run.specs.Task.{RunTask, dump_of, names_of, pool_of, shards_of}
+use Rattle.flake_run.specs.Task.{RunTask, dump_of, mtu_of, names_of, pool_of, shards_of}
 use Rattle.flake_run.specs.Outside.{Outside, put_on, kept_by, wire_faults}
 use Rattle.flake_run.specs.Outcome.{RunOutcome, ways, files_of, sources_of, givens_of, endeds_of}
 
@@ -25,9 +26,10 @@ pub record Served {W : Type 0} (task : RunTask) (before after : Outside W) (done
   -- a dump that was taken is of the journal, at a point of each shard: there the first session had made the calls below
   -- the one that was asked for, and no other
   pub dumped : IsDumpTold (dump_of task) (all_commands run.sessions) done.journal done.dump
-  -- what was put on a wire grew by the texts of its session's replies, which the journal gives, and what was put on the
-  -- wire behind them by that of the dump; or by a front of them, where it failed
-  pub wires : WiresGrew (wire_texts run.sessions done.journal
+  -- what was put on a wire grew by the texts of its session's replies, which the journal gives, or by the frames of
+  -- these texts, where the words ask for them, and what was put on the wire behind them by the dump's text; or by a
+  -- front of them, where it failed
+  pub wires : WiresGrew (sent_on_wires (mtu_of task) run.sessions done.journal
       ++ dump_texts (all_commands run.sessions) done.journal done.dump) (put_on before) (put_on after)
   -- what the closed pool shows by the journal: a buffer is held for each fragment of a final value, as many were
   -- claimed as the commands may claim at most, and a write without an entry found no free buffer

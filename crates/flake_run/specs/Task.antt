@@ -5,7 +5,11 @@ use Rattle.std.specs.Option.{option_and_then, option_map, option_map_or}
 use Rattle.pin_core.specs.declared.sizes.Sizes as pool
 use Rattle.run_resources.specs.Opened.{dump_wires, pool_sizes}
 use Rattle.run_resources.specs.declared.sizes.Sizes.{Sizes}
+use Rattle.serve_words.specs.Frames.{FramesRequest, frames_request_of}
+use Rattle.serve_words.specs.Named.{name_of}
 use Rattle.serve_words.specs.Task as words
+use Rattle.serve_words.specs.declared.named.CommandName.{CommandName}
+use Rattle.serve_words.specs.declared.named.CommandName.TheVariants.{Frames}
 use Rattle.serve_words.specs.declared.sizes.Sizes as typed
 use Rattle.flake_run.specs.declared.words.FilesTask.{FilesTask}
 
@@ -29,7 +33,12 @@ run_sizes dump sizes = record {
   ring = sizes.ring;
   threshold = sizes.threshold;
   dump = dump;
+  mtu = None;
 }
+
+-- those of a run whose replies go as frames of at most so many bytes
+abbrev pub framed_sizes : ℕ → typed.Sizes → Sizes
+framed_sizes mtu sizes = record (run_sizes None sizes) { mtu = Some mtu }
 
 abbrev pub job_of : words.Task → Job
 job_of task = record {
@@ -39,8 +48,21 @@ job_of task = record {
   journal = task.journal;
 }
 
+abbrev pub framed_job_of : FramesRequest → Job
+framed_job_of task = record {
+  names = task.files;
+  sizes = framed_sizes task.mtu task.sizes;
+  workers = task.workers;
+  journal = false;
+}
+
+-- by the command that the words name, which is `frames` or else `serve`
+abbrev pub task_named : CommandName → List (List ℕ) → RunTask
+task_named Frames typed = option_map framed_job_of (frames_request_of typed)
+task_named _ typed = option_map job_of (words.task_of typed)
+
 abbrev pub run_task_of : List (String Global) → RunTask
-run_task_of typed = option_map job_of (words.task_of (words.word_texts typed))
+run_task_of typed = task_named (name_of (words.word_texts typed)) (words.word_texts typed)
 
 -- the task, as the code holds it
 abbrev pub shown_task : FilesTask → Job
@@ -66,6 +88,10 @@ shards_of task = option_map_or (λ (job : Job). job.sizes.shards) task 0
 -- before which call of the first session all shards are dumped, if they are
 abbrev pub dump_of : RunTask → Option ℕ
 dump_of task = option_and_then (λ (job : Job). job.sizes.dump) task
+
+-- how many bytes a frame has at most, if replies go as frames
+abbrev pub mtu_of : RunTask → Option ℕ
+mtu_of task = option_and_then (λ (job : Job). job.sizes.mtu) task
 
 -- how many wires are needed: one for each file, and one for the dump
 abbrev pub wires_of : Job → ℕ

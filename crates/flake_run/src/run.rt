@@ -19,8 +19,9 @@ use std::thread::Threads;
 
 /// Does what the first word names: `serve` serves the files that the words name, with the sizes and by as many workers
 /// as they ask for, and the replies to a file's requests go to the wire at its place, and the dump that they ask for to
-/// the wire behind these; `drive` serves them as a schedule asks, and says what happens; `check` judges replies by a
-/// journal; `gen` serves requests that are generated from a number; `join` puts replies together from their frames.
+/// the wire behind these; `frames` does so with the replies as frames; `drive` serves them as a schedule asks, and says
+/// what happens; `check` judges replies by a journal; `gen` serves requests that are generated from a number; `join`
+/// puts replies together from their frames.
 pub fn run<R: Threads + Wait + Sync, H: Host, G: Gate>(
     rt: &R,
     alloc: Global,
@@ -38,6 +39,7 @@ pub fn run<R: Threads + Wait + Sync, H: Host, G: Gate>(
 {
     match command_name(words) {
         CommandName::Serve => serve(rt, alloc, words, host, wires, gate),
+        CommandName::Frames => serve(rt, alloc, words, host, wires, gate),
         CommandName::Check => check(alloc, words, host, wires),
         CommandName::Drive => drive(rt, alloc, words, host, wires),
         CommandName::Gen => generate(rt, alloc, words, host, wires, gate),

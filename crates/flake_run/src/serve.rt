@@ -1,4 +1,4 @@
-// The command `serve`, over any host and any wires.
+// The commands `serve` and `frames`, over any host and any wires.
 ghost use Rattle.flake_run.specs.Does.{ServeDoes};
 ghost use Rattle.serve_inputs.specs.Dumped.{dump_told};
 ghost use Rattle.flake_run.specs.Outcome.{done_with, opened_told, source_told};
@@ -18,7 +18,8 @@ use std::sync::Wait;
 use std::thread::Threads;
 
 /// Serves the files that the words name, with the sizes and by as many workers as they ask for: the replies to a file's
-/// requests go to the wire at its place, and the dump that they ask for to the wire behind these.
+/// requests go to the wire at its place, as they are or as frames, and the dump that they ask for to the wire behind
+/// these.
 pub fn serve<R: Threads + Wait + Sync, H: Host, G: Gate>(
     rt: &R,
     alloc: Global,

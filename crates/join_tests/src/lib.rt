@@ -1,4 +1,4 @@
-//! Tests of frames that are put together again, over memory.
+//! Tests of replies that go out as frames, and of frames that are put together again, over memory.
 #![tactic(auto)]
 
 #[cfg(test)]

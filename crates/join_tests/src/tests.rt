@@ -1,5 +1,6 @@
-// Frames of a file that are put together, over memory.
+// Replies that go out as frames, and frames of a file that are put together, over memory.
 mod framed;
+mod made;
 mod refused;
 mod wires;
 

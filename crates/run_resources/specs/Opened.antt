@@ -9,6 +9,7 @@ use Rattle.order_book.specs.declared.rule.Sizes as book
 use Rattle.tx_descriptor.specs.declared.framed.Framed.{Ghosts}
 use Rattle.reply_planner.specs.Parcels.{Sent}
 use Rattle.reply_planner.specs.Stages.{IsStageOpened}
+use Rattle.device_model.specs.Devices.{CanFrame}
 use Rattle.shard_core.specs.ShardMaps.{IsBare}
 use Rattle.command_exec.specs.Passes.{PassView}
 use Rattle.serve_model.specs.Demand.{stage_row}
@@ -26,6 +27,7 @@ pub record HasRunSizes (count : ℕ) (sizes : Sizes) : Type 0 where
   pub large : (1 ≤ sizes.large) × (sizes.large ≤ 16_384)
   pub ring : (sizes.ring % 8 ≡ 0) × (1160 ≤ sizes.ring) × (sizes.ring ≤ 4096)
   pub threshold : (1 ≤ sizes.threshold) × (sizes.threshold ≤ 512)
+  pub can_frame : CanFrame sizes.mtu
 
 -- the credits of a session, and those of a pool without a dump: the sessions', one for each shard, and one that the
 -- opening keeps

@@ -1,8 +1,9 @@
 -- What is shown of wires and reads behind a run.
-use Rattle.std.specs.Prelude.{◌≡◌, ℕ, Bool, false, List, [], ◌∷◌}
+use Rattle.std.specs.Prelude.{◌≡◌, ℕ, Bool, false, List, [], ◌∷◌, Option}
 use Rattle.std.specs.Borrow.{Bor}
 use Rattle.flake_base.specs.declared.session.SessionEnd.{SessionEnd}
 use Rattle.command_pump.specs.Pump.{EndFaults}
+use Rattle.session_serve.specs.Forms.{all_as_sent}
 use Rattle.session_serve.specs.Whole.{SentWhole}
 use Rattle.session_serve.specs.Wires.{SendsOut}
 
@@ -24,11 +25,17 @@ module _ {W : Type 0} (put_may : W → Bor (List ℕ) → (W × Bool) → Type 0
   AllSent (sent ∷ texts) (old ∷ olds) (new ∷ news) =
       SendsOut put_may flush_may false sent.0 sent.1 old new × AllSent texts olds news
 
-  -- So many bytes of each one's replies were put on its wire in whole replies.
+module _
+    {W : Type 0}
+    (mtu : Option ℕ)
+    (put_may : W → Bor (List ℕ) → (W × Bool) → Type 0)
+    (flush_may : W → (W × Bool) → Type 0) where
+  -- So many bytes of each one's replies were put on its wire in whole replies, each as it is sent.
   abbrev pub AllWhole : List (Bool × List (List ℕ)) → List ℕ → List W → List W → Type 0
   AllWhole [] counts olds news = counts ≡ []
   AllWhole (sent ∷ replies) [] olds news = ⊥
   AllWhole (sent ∷ replies) (count ∷ counts) [] news = ⊥
   AllWhole (sent ∷ replies) (count ∷ counts) (old ∷ olds) [] = ⊥
   AllWhole (sent ∷ replies) (count ∷ counts) (old ∷ olds) (new ∷ news) =
-      SentWhole put_may flush_may sent.0 sent.1 count old new × AllWhole replies counts olds news
+      SentWhole put_may flush_may sent.0 (all_as_sent mtu sent.1) sent.1 count old new
+      × AllWhole replies counts olds news

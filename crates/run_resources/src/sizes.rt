@@ -13,6 +13,8 @@ pub struct Sizes {
     pub threshold: u32,
     /// Before which call of the first session all shards are dumped, if they are.
     pub dump: Option<u32>,
+    /// How many bytes a frame has at most, if replies go as frames.
+    pub mtu: Option<u16>,
 }
 
 impl Sizes {

@@ -32,5 +32,6 @@ pub(crate) fn sizes_for(task: &GenTask) -> Option<Sizes>
         ring: 1160,
         threshold: 512,
         dump: None,
+        mtu: None,
     })
 }

@@ -122,12 +122,13 @@ module _ {W : Type 0} (put_may : W → Bor (List ℕ) → (W × Bool) → Type 0
   )
 
 module _ {J D P W : Type 0} (put_may : W → Bor (List ℕ) → (W × Bool) → Type 0) (flush_may : W → (W × Bool) → Type 0)
-    (z : Sizes) (shards : ℕ) (session : J → SessionView) (pump : J → PumpState) (plan : J → Option (DumpPlan P))
+    (z : Sizes) (shards : ℕ) (mtu : J → Option ℕ) (session : J → SessionView) (pump : J → PumpState)
+    (plan : J → Option (DumpPlan P))
     (old : J → W) (dump_wire : J → Option W) (end : D → SessionEnd) (bytes : D → ℕ) (mine : D → SessionList)
     (seat : D → View) (left : D → PumpState) (new : D → W) (dumped : D → Option (Dumped P W)) where
   abbrev pub IsDoneBy : J → D → Type 0
   IsDoneBy =
-      WasDone put_may flush_may z shards session pump plan old dump_wire end bytes mine seat left new dumped
+      WasDone put_may flush_may z shards mtu session pump plan old dump_wire end bytes mine seat left new dumped
 
   first_untaken : (jobs : List J) (dones : List D) → AllZip IsDoneBy jobs dones
       → Each IsUnasked (map (λ (j : J). (plan j, dump_wire j)) jobs) → first_or_none (map dumped dones) ≡ None

@@ -112,3 +112,15 @@ all_with_both seats one two main is = let has = joins_add (one ∷ seats) main t
   looks = λ b. omega (arith, has.looks b, total-append (λ (l : ℕ × ℕ). same l.0 b) one.looks two.looks);
   returns = omega (arith, has.returns);
 }
+
+-- what all of some have at a field, those have that have the same fields
+pub each_as : {X Y : Type 0} (xs ys : List X) (field : X → Y) (common : Y) → map field xs ≡ map field ys
+    → All (λ (y : X). field y ≡ common) ys → Each (λ (x : X). field x ≡ common) xs
+each_as [] ys field common same all = tt
+each_as (x ∷ xs) [] field common same all = absurd (cc)
+each_as {X} (x ∷ xs) (y ∷ ys) field common same all =
+    let first : field x ≡ field y = cc in
+    let rest : map field xs ≡ map field ys = cc in (
+      first ∙ All-head (λ (z : X). field z ≡ common) y ys all,
+      each_as xs ys field common rest (All-tail (λ (z : X). field z ≡ common) y ys all),
+    )

@@ -12,6 +12,7 @@ use Rattle.std.proofs.Common.{
   [],
   ◌∷◌,
   ◌++◌,
+  false,
   All,
   map,
   length,
@@ -21,7 +22,7 @@ use Rattle.std.proofs.Common.{
   arith,
 }
 use Rattle.std.specs.Borrow.{Bor}
-use Rattle.std.specs.List.{AllZip, flat_map, range_with_len}
+use Rattle.std.specs.List.{AllZip, range_with_len}
 use Rattle.std.proofs.lemmas.List.Elements.{All-nil, All-cons}
 use Rattle.view_sums.specs.Total.{total, Each}
 use Rattle.flake_base.specs.declared.session.End.TheVariants.{Left}
@@ -31,7 +32,11 @@ use Rattle.pinned_pool.specs.declared.view.View.{View}
 use Rattle.order_book.specs.Pages.{SessionList}
 use Rattle.command_pump.specs.Pump.{PumpState}
 use Rattle.serve_model.specs.Handed.{SessionHasRun, OneRun, AllRun}
+use Rattle.any_wire.specs.Texts.{joined}
 use Rattle.session_pass.specs.Views.{SessionView}
+use Rattle.session_serve.specs.Forms.{all_as_sent}
+use Rattle.session_serve.specs.Whole.{SentWhole}
+use Rattle.session_serve.specs.Wires.{SendsOut}
 use Rattle.session_serve.specs.declared.dump.DumpPlan.{DumpPlan}
 use Rattle.session_workers.specs.Jobs.{IsDone}
 use Rattle.session_workers.specs.declared.job.Dumped.{Dumped}
@@ -40,12 +45,14 @@ use Rattle.run_resources.specs.Ran.{AreReads, AllSent, AllWhole}
 use Rattle.run_resources.proofs.SessionSlots.{number_of, HasCredits}
 
 module _ {J D P W : Type 0} (put_may : W → Bor (List ℕ) → (W × Bool) → Type 0) (flush_may : W → (W × Bool) → Type 0)
-    (z : Sizes) (shards : ℕ) (session : J → SessionView) (pump : J → PumpState) (plan : J → Option (DumpPlan P))
+    (z : Sizes) (shards : ℕ) (mtu : J → Option ℕ) (session : J → SessionView) (pump : J → PumpState)
+    (plan : J → Option (DumpPlan P))
     (old : J → W) (dump_wire : J → Option W) (end : D → SessionEnd) (bytes : D → ℕ) (mine : D → SessionList)
     (seat : D → View) (left : D → PumpState) (new : D → W) (dumped : D → Option (Dumped P W)) where
   abbrev pub WasDone : J → D → Type 0
   WasDone j d =
-      IsDone put_may flush_may z shards (session j) (pump j) (plan j) (old j) (dump_wire j) (end d) (bytes d) (mine d)
+      IsDone (mtu j) put_may flush_may z shards (session j) (pump j) (plan j) (old j) (dump_wire j) (end d) (bytes d)
+      (mine d)
       (seat d) (left d) (new d) (dumped d)
 
   abbrev pub runs_of : (jobs : List J) (dones : List D) → AllZip WasDone jobs dones → List OneRun
@@ -129,24 +136,33 @@ module _ {J D P W : Type 0} (put_may : W → Bor (List ℕ) → (W × Bool) → 
       )
 
   -- with more texts on the wires behind those of the sessions
-  pub all_sent : (more : List (Bool × List ℕ)) (olds news : List W) → AllSent put_may flush_may more olds news
+  pub all_sent : (common : Option ℕ) (more : List (Bool × List ℕ)) (olds news : List W) → AllSent put_may flush_may
+      more olds news
       → (jobs : List J) (dones : List D) (is : AllZip WasDone jobs dones)
-      → AllSent put_may flush_may
-      (map (λ (one : OneRun). (one.end.failed, flat_map (λ text. text) one.texts)) (runs_of jobs dones is) ++ more)
+      → Each (λ (j : J). mtu j ≡ common) jobs → AllSent put_may flush_may
+      (map (λ (one : OneRun). (one.end.failed, joined (all_as_sent common one.texts))) (runs_of jobs dones is) ++ more)
       (map old jobs ++ olds) (map new dones ++ news)
-  all_sent more olds news sent [] [] is = sent
-  all_sent more olds news sent [] (d ∷ dones) is = absurd is
-  all_sent more olds news sent (j ∷ jobs) [] is = absurd is
-  all_sent more olds news sent (j ∷ jobs) (d ∷ dones) is =
-      (is.0.served.sends, all_sent more olds news sent jobs dones is.1)
+  all_sent common more olds news sent [] [] is same = sent
+  all_sent common more olds news sent [] (d ∷ dones) is same = absurd is
+  all_sent common more olds news sent (j ∷ jobs) [] is same = absurd is
+  all_sent common more olds news sent (j ∷ jobs) (d ∷ dones) is same = (
+    subst (λ (m : Option ℕ). SendsOut put_may flush_may false (end d).failed
+        (joined (all_as_sent m is.0.served.texts)) (old j) (new d)) same.0 is.0.served.sends,
+    all_sent common more olds news sent jobs dones is.1 same.1,
+  )
 
-  pub all_whole : (olds news : List W) (jobs : List J) (dones : List D) (is : AllZip WasDone jobs dones)
-      → AllWhole put_may flush_may (map (λ (one : OneRun). (one.end.failed, one.texts)) (runs_of jobs dones is))
+  pub all_whole : (common : Option ℕ) (olds news : List W) (jobs : List J) (dones : List D)
+      (is : AllZip WasDone jobs dones) → Each (λ (j : J). mtu j ≡ common) jobs
+      → AllWhole common put_may flush_may (map (λ (one : OneRun). (one.end.failed, one.texts)) (runs_of jobs dones is))
       (map bytes dones) (map old jobs ++ olds) (map new dones ++ news)
-  all_whole olds news [] [] is = refl
-  all_whole olds news [] (d ∷ dones) is = absurd is
-  all_whole olds news (j ∷ jobs) [] is = absurd is
-  all_whole olds news (j ∷ jobs) (d ∷ dones) is = (is.0.served.whole, all_whole olds news jobs dones is.1)
+  all_whole common olds news [] [] is same = refl
+  all_whole common olds news [] (d ∷ dones) is same = absurd is
+  all_whole common olds news (j ∷ jobs) [] is same = absurd is
+  all_whole common olds news (j ∷ jobs) (d ∷ dones) is same = (
+    subst (λ (m : Option ℕ). SentWhole put_may flush_may (end d).failed (all_as_sent m is.0.served.texts)
+        is.0.served.texts (bytes d) (old j) (new d)) same.0 is.0.served.whole,
+    all_whole common olds news jobs dones is.1 same.1,
+  )
 
   pub all_reads : (jobs : List J) (dones : List D) → AllZip WasDone jobs dones
       → AreReads (map end dones) (map (λ (j : J). (pump j).faults) jobs) (map (λ (d : D). (left d).faults) dones)

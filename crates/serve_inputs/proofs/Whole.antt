@@ -11,6 +11,8 @@ use Rattle.std.proofs.Common.{
   ◌∷◌,
   ◌++◌,
   Option,
+  None,
+  Some,
   All,
   map,
   length,
@@ -24,12 +26,14 @@ use Rattle.std.proofs.Common.{
 use Rattle.std.specs.Borrow.{Bor}
 use Rattle.std.specs.List.{AllZip, range_with_len}
 use Rattle.std.proofs.lemmas.List.{length-map}
+use Rattle.std.proofs.lemmas.Simd.{map-map}
 use Rattle.std.proofs.lemmas.List.Elements.{All-head, All-tail}
 use Rattle.std.proofs.lemmas.List.FromFn.{length-range_with_len}
 use Rattle.view_sums.specs.Total.{Each}
 use Rattle.flake_base.specs.declared.session.End.TheVariants.{Left}
 use Rattle.flake_base.specs.declared.journal.Entry.{Entry}
-use Rattle.flake_model.specs.Run.{all_commands}
+use Rattle.flake_model.specs.Run.{all_commands, wire_texts}
+use Rattle.flake_model.specs.Session.{Session}
 use Rattle.flake_base.specs.declared.session.SessionEnd.{SessionEnd}
 use Rattle.pin_core.specs.declared.sizes.Sizes.{Sizes}
 use Rattle.pinned_pool.specs.Ends.{End}
@@ -38,7 +42,10 @@ use Rattle.order_book.specs.Pages.{SessionList}
 use Rattle.command_pump.specs.Pump.{PumpState}
 use Rattle.serve_model.specs.Handed.{OneRun}
 use Rattle.serve_model.specs.Seats.{HasAll, IsSpare}
+use Rattle.any_wire.specs.Texts.{joined}
+use Rattle.serve_model.specs.Replies.{all_replies}
 use Rattle.session_pass.specs.Views.{SessionView}
+use Rattle.session_serve.specs.Forms.{all_as_sent}
 use Rattle.session_serve.specs.declared.dump.DumpPlan.{DumpPlan}
 use Rattle.session_workers.specs.declared.job.Dumped.{Dumped}
 use Rattle.run_resources.specs.Opened.{session_credits}
@@ -47,40 +54,58 @@ use Rattle.run_resources.specs.Together.{AreRuns, HaveShown}
 use Rattle.run_resources.proofs.SessionSlots.{number_of, HasCredits}
 use Rattle.serve_inputs.specs.Dumped.{DumpTold, dump_texts}
 use Rattle.serve_inputs.specs.Ran.{RanAll}
+use Rattle.serve_inputs.specs.Wires.{framed_wire, sent_on_wires}
 use Rattle.serve_inputs.proofs.Dumping.{CameBack}
 use Rattle.serve_inputs.proofs.Runs as runs
 use Rattle.serve_inputs.proofs.Runs.{WasDone}
 use Rattle.serve_inputs.proofs.Told.{MakesDumps, is_sent, is_told}
 
+-- what the wires are sent, by the sessions' texts
+wires_are : (common : Option ℕ) (each : List OneRun) (sessions : List Session) (journal : List (List Entry))
+    → wire_texts sessions journal ≡ map (λ (one : OneRun). (one.end.failed, joined one.texts)) each
+    → all_replies sessions journal ≡ map (λ (one : OneRun). (one.end.failed, one.texts)) each
+    → sent_on_wires common sessions journal
+    ≡ map (λ (one : OneRun). (one.end.failed, joined (all_as_sent common one.texts))) each
+wires_are None each sessions journal texts replies = texts
+wires_are (Some mtu) each sessions journal texts replies =
+    ap (map (framed_wire mtu)) replies
+    ∙ map-map (framed_wire mtu) (λ (one : OneRun). (one.end.failed, one.texts)) each
+
 pub ran_all : {J D P W : Type 0} (jobs : List J) (dones : List D)
     (put_may : W → Bor (List ℕ) → (W × Bool) → Type 0) (flush_may : W → (W × Bool) → Type 0) (z y : Sizes)
-    (shards : ℕ) (session : J → SessionView) (pump : J → PumpState) (plan : J → Option (DumpPlan P)) (old : J → W)
+    (shards : ℕ) (mtu : J → Option ℕ) (session : J → SessionView) (pump : J → PumpState) (plan : J → Option (DumpPlan
+    P)) (old : J → W)
     (dump_wire : J → Option W) (end : D → SessionEnd) (bytes : D → ℕ) (mine : D → SessionList) (seat : D → View)
     (left : D → PumpState) (new : D → W) (dumped : D → Option (Dumped P W)) (givens : List (List ℕ))
     (endeds : List Bool) (ends : List SessionEnd) (counts : List ℕ) (lists : List SessionList)
     (journal : List (List Entry)) (closed : End) (main last : View) (wires finals : List W) (asked : Option ℕ)
-    (most : ℕ) (dump : DumpTold)
-    → (is : AllZip (WasDone put_may flush_may z shards session pump plan old dump_wire end bytes mine seat left new
+    (most : ℕ) (dump : DumpTold) (common : Option ℕ)
+    → (is : AllZip (WasDone put_may flush_may z shards mtu session pump plan old dump_wire end bytes mine seat left new
     dumped)
     jobs dones) → z ≡ y → map number_of (map session jobs) ≡ range_with_len 0 (length jobs) → lists ≡ map mine dones
-    → CameBack put_may flush_may z shards session pump plan old dump_wire end bytes mine seat left new dumped
+    → CameBack put_may flush_may z shards mtu session pump plan old dump_wire end bytes mine seat left new dumped
     asked most jobs dones wires finals main last dump
     → ((each : List OneRun) → AreRuns z shards each lists last → HaveShown z each journal closed)
     → length journal ≡ shards
     → givens ≡ map (λ (d : D). (left d).given) dones → endeds ≡ map (λ (d : D). (left d).ended) dones
-    → ends ≡ map end dones → counts ≡ map bytes dones
-    → RanAll put_may flush_may y givens endeds ends counts journal closed asked dump wires finals
-ran_all {J} {D} {P} {W} jobs dones put_may flush_may z y shards session pump plan old dump_wire end bytes mine seat left
-    new dumped givens endeds ends counts lists journal closed main last wires finals asked most dump is same numbers
-    lists_is back shown long givens_is endeds_is ends_is counts_is =
-    let each : List OneRun = runs.runs_of put_may flush_may z shards session pump plan old dump_wire end bytes mine seat
+    → ends ≡ map end dones → counts ≡ map bytes dones → Each (λ (j : J). mtu j ≡ common) jobs
+    → RanAll common put_may flush_may y givens endeds ends counts journal closed asked dump wires finals
+ran_all {J} {D} {P} {W} jobs dones put_may flush_may z y shards mtu session pump plan old dump_wire end bytes mine
+    seat left
+    new dumped givens endeds ends counts lists journal closed main last wires finals asked most dump common is same
+    numbers lists_is back shown long givens_is endeds_is ends_is counts_is bounds =
+    let each : List OneRun = runs.runs_of put_may flush_may z shards mtu session pump plan old dump_wire end bytes
+    mine seat
     left new dumped jobs dones is in
-    let seats = runs.seats_are put_may flush_may z shards session pump plan old dump_wire end bytes mine seat left new
+    let seats = runs.seats_are put_may flush_may z shards mtu session pump plan old dump_wire end bytes mine seat left
+    new
     dumped jobs dones is in
-    let lists_each = runs.lists_are put_may flush_may z shards session pump plan old dump_wire end bytes mine seat left
+    let lists_each = runs.lists_are put_may flush_may z shards mtu session pump plan old dump_wire end bytes mine seat
+    left
     new dumped jobs dones is in
     let are : AreRuns z shards each lists last = record {
-      all = runs.all_ran put_may flush_may z shards session pump plan old dump_wire end bytes mine seat left new dumped
+      all = runs.all_ran put_may flush_may z shards mtu session pump plan old dump_wire end bytes mine seat left new
+          dumped
           0 jobs dones is numbers;
       lists_are = lists_is ∙ sym lists_each;
       spare = back.spare;
@@ -91,19 +116,21 @@ ran_all {J} {D} {P} {W} jobs dones put_may flush_may z y shards session pump pla
     let commands = all_commands has.ran.served.sessions in
     let makes : MakesDumps (map mine dones) commands journal =
     λ first others lists_are. has.dumps first others (lists_each ∙ lists_are) in
-    let a = runs.givens_are put_may flush_may z shards session pump plan old dump_wire end bytes mine seat left new
+    let a = runs.givens_are put_may flush_may z shards mtu session pump plan old dump_wire end bytes mine seat left new
     dumped jobs dones is ∙ sym givens_is in
-    let b = runs.endeds_are put_may flush_may z shards session pump plan old dump_wire end bytes mine seat left new
+    let b = runs.endeds_are put_may flush_may z shards mtu session pump plan old dump_wire end bytes mine seat left new
     dumped jobs dones is ∙ sym endeds_is in
-    let e = runs.ends_are put_may flush_may z shards session pump plan old dump_wire end bytes mine seat left new dumped
+    let e = runs.ends_are put_may flush_may z shards mtu session pump plan old dump_wire end bytes mine seat left new
+    dumped
     jobs dones is ∙ sym ends_is in
     let behind = is_sent put_may flush_may asked shards (map mine dones) back.olds back.news dump commands journal long
     makes back.told in
-    let sent = runs.all_sent put_may flush_may z shards session pump plan old dump_wire end bytes mine seat left new
-    dumped (dump_texts commands journal dump) back.olds back.news behind jobs dones is in
-    let whole = runs.all_whole put_may flush_may z shards session pump plan old dump_wire end bytes mine seat left new
-    dumped back.olds back.news jobs dones is in
-    let own : RanAll put_may flush_may z (map (λ (one : OneRun). one.given) each)
+    let sent = runs.all_sent put_may flush_may z shards mtu session pump plan old dump_wire end bytes mine seat left new
+    dumped common (dump_texts commands journal dump) back.olds back.news behind jobs dones is bounds in
+    let whole = runs.all_whole put_may flush_may z shards mtu session pump plan old dump_wire end bytes mine seat left
+    new
+    dumped common back.olds back.news jobs dones is bounds in
+    let own : RanAll common put_may flush_may z (map (λ (one : OneRun). one.given) each)
     (map (λ (one : OneRun). one.ended) each) (map (λ (one : OneRun). one.end) each) (map bytes dones) journal closed
     asked dump (map old jobs ++ back.olds) (map new dones ++ back.news) = record {
       ran = has.ran;
@@ -111,76 +138,91 @@ ran_all {J} {D} {P} {W} jobs dones put_may flush_may z y shards session pump pla
           makes back.told;
       sends = subst (λ (texts : List (Bool × List ℕ)). AllSent put_may flush_may
           (texts ++ dump_texts commands journal dump) (map old jobs ++ back.olds) (map new dones ++ back.news))
-          (sym has.texts_are) sent;
-      wholes = subst (λ (replies : List (Bool × List (List ℕ))). AllWhole put_may flush_may replies (map bytes dones)
+          (sym (wires_are common each has.ran.served.sessions journal has.texts_are has.replies_are)) sent;
+      wholes = subst (λ (replies : List (Bool × List (List ℕ))). AllWhole common put_may flush_may replies (map bytes
+          dones)
           (map old jobs ++ back.olds) (map new dones ++ back.news)) (sym has.replies_are) whole;
     } in
     subst (λ (q : Sizes × List (List ℕ) × List Bool × List SessionEnd × List ℕ × List W × List W).
-    RanAll put_may flush_may q.0 q.1 q.2 q.3 q.4 journal closed asked dump q.5 q.6)
+    RanAll common put_may flush_may q.0 q.1 q.2 q.3 q.4 journal closed asked dump q.5 q.6)
     (λ i. (same i, a i, b i, e i, sym counts_is i, back.olds_are i, sym back.news_are i)) own
 
 pub names_kept : {J D P W : Type 0} (jobs : List J) (dones : List D)
     (put_may : W → Bor (List ℕ) → (W × Bool) → Type 0) (flush_may : W → (W × Bool) → Type 0) (z : Sizes) (shards : ℕ)
-    (session : J → SessionView) (pump : J → PumpState) (plan : J → Option (DumpPlan P)) (old : J → W)
+    (mtu : J → Option ℕ) (session : J → SessionView) (pump : J → PumpState) (plan : J → Option (DumpPlan P)) (old : J
+    → W)
     (dump_wire : J → Option W) (end : D → SessionEnd) (bytes : D → ℕ) (mine : D → SessionList) (seat : D → View)
     (left : D → PumpState) (new : D → W) (dumped : D → Option (Dumped P W)) (befores nows : List (List ℕ))
-    → AllZip (WasDone put_may flush_may z shards session pump plan old dump_wire end bytes mine seat left new dumped)
+    → AllZip (WasDone put_may flush_may z shards mtu session pump plan old dump_wire end bytes mine seat left new
+    dumped)
     jobs dones
     → map (λ (j : J). (pump j).origin.name) jobs ≡ befores → nows ≡ map (λ (d : D). (left d).origin.name) dones
     → nows ≡ befores
-names_kept jobs dones put_may flush_may z shards session pump plan old dump_wire end bytes mine seat left new dumped
+names_kept jobs dones put_may flush_may z shards mtu session pump plan old dump_wire end bytes mine seat left new dumped
     befores nows is
     befores_are nows_are =
-    nows_are ∙ runs.names_kept put_may flush_may z shards session pump plan old dump_wire end bytes mine seat left new
+    nows_are ∙ runs.names_kept put_may flush_may z shards mtu session pump plan old dump_wire end bytes mine seat left
+    new
     dumped jobs dones is
     ∙ befores_are
 
 pub wholes_kept : {J D P W : Type 0} (jobs : List J) (dones : List D)
     (put_may : W → Bor (List ℕ) → (W × Bool) → Type 0) (flush_may : W → (W × Bool) → Type 0) (z : Sizes) (shards : ℕ)
-    (session : J → SessionView) (pump : J → PumpState) (plan : J → Option (DumpPlan P)) (old : J → W)
+    (mtu : J → Option ℕ) (session : J → SessionView) (pump : J → PumpState) (plan : J → Option (DumpPlan P)) (old : J
+    → W)
     (dump_wire : J → Option W) (end : D → SessionEnd) (bytes : D → ℕ) (mine : D → SessionList) (seat : D → View)
     (left : D → PumpState) (new : D → W) (dumped : D → Option (Dumped P W)) (befores nows : List (Option (List ℕ)))
-    → AllZip (WasDone put_may flush_may z shards session pump plan old dump_wire end bytes mine seat left new dumped)
+    → AllZip (WasDone put_may flush_may z shards mtu session pump plan old dump_wire end bytes mine seat left new
+    dumped)
     jobs dones
     → map (λ (j : J). (pump j).origin.whole) jobs ≡ befores → nows ≡ map (λ (d : D). (left d).origin.whole) dones
     → nows ≡ befores
-wholes_kept jobs dones put_may flush_may z shards session pump plan old dump_wire end bytes mine seat left new dumped
+wholes_kept jobs dones put_may flush_may z shards mtu session pump plan old dump_wire end bytes mine seat left new
+    dumped
     befores nows is
     befores_are nows_are =
-    nows_are ∙ runs.wholes_kept put_may flush_may z shards session pump plan old dump_wire end bytes mine seat left new
+    nows_are ∙ runs.wholes_kept put_may flush_may z shards mtu session pump plan old dump_wire end bytes mine seat
+    left new
     dumped jobs dones is
     ∙ befores_are
 
 pub all_reads : {J D P W : Type 0} (jobs : List J) (dones : List D)
     (put_may : W → Bor (List ℕ) → (W × Bool) → Type 0) (flush_may : W → (W × Bool) → Type 0) (z : Sizes) (shards : ℕ)
-    (session : J → SessionView) (pump : J → PumpState) (plan : J → Option (DumpPlan P)) (old : J → W)
+    (mtu : J → Option ℕ) (session : J → SessionView) (pump : J → PumpState) (plan : J → Option (DumpPlan P)) (old : J
+    → W)
     (dump_wire : J → Option W) (end : D → SessionEnd) (bytes : D → ℕ) (mine : D → SessionList) (seat : D → View)
     (left : D → PumpState) (new : D → W) (dumped : D → Option (Dumped P W)) (befores nows : List ℕ) (ends : List
     SessionEnd)
-    → AllZip (WasDone put_may flush_may z shards session pump plan old dump_wire end bytes mine seat left new dumped)
+    → AllZip (WasDone put_may flush_may z shards mtu session pump plan old dump_wire end bytes mine seat left new
+    dumped)
     jobs dones
     → map (λ (j : J). (pump j).faults) jobs ≡ befores → nows ≡ map (λ (d : D). (left d).faults) dones
     → ends ≡ map end dones → AreReads ends befores nows
-all_reads jobs dones put_may flush_may z shards session pump plan old dump_wire end bytes mine seat left new dumped
+all_reads jobs dones put_may flush_may z shards mtu session pump plan old dump_wire end bytes mine seat left new dumped
     befores nows ends is
     befores_is nows_is ends_is =
     subst (λ (q : List SessionEnd × List ℕ × List ℕ). AreReads q.0 q.1 q.2)
     (λ i. (sym ends_is i, befores_is i, sym nows_is i))
-    (runs.all_reads put_may flush_may z shards session pump plan old dump_wire end bytes mine seat left new dumped jobs
+    (runs.all_reads put_may flush_may z shards mtu session pump plan old dump_wire end bytes mine seat left new dumped
+    jobs
     dones is)
 
 pub all_ended : {J D P W : Type 0} (jobs : List J) (dones : List D)
     (put_may : W → Bor (List ℕ) → (W × Bool) → Type 0) (flush_may : W → (W × Bool) → Type 0) (z : Sizes) (shards : ℕ)
-    (session : J → SessionView) (pump : J → PumpState) (plan : J → Option (DumpPlan P)) (old : J → W)
+    (mtu : J → Option ℕ) (session : J → SessionView) (pump : J → PumpState) (plan : J → Option (DumpPlan P)) (old : J
+    → W)
     (dump_wire : J → Option W) (end : D → SessionEnd) (bytes : D → ℕ) (mine : D → SessionList) (seat : D → View)
     (left : D → PumpState) (new : D → W) (dumped : D → Option (Dumped P W)) (ends : List SessionEnd)
-    → AllZip (WasDone put_may flush_may z shards session pump plan old dump_wire end bytes mine seat left new dumped)
+    → AllZip (WasDone put_may flush_may z shards mtu session pump plan old dump_wire end bytes mine seat left new
+    dumped)
     jobs dones
     → ends ≡ map end dones → All (λ (e : SessionEnd). e.end ≢ Left) ends
-all_ended jobs dones put_may flush_may z shards session pump plan old dump_wire end bytes mine seat left new dumped ends
+all_ended jobs dones put_may flush_may z shards mtu session pump plan old dump_wire end bytes mine seat left new
+    dumped ends
     is ends_is =
     subst (All (λ (e : SessionEnd). e.end ≢ Left)) (sym ends_is)
-    (runs.all_ended put_may flush_may z shards session pump plan old dump_wire end bytes mine seat left new dumped jobs
+    (runs.all_ended put_may flush_may z shards mtu session pump plan old dump_wire end bytes mine seat left new dumped
+    jobs
     dones is)
 
 numbers_in : {K : Type 0} (own : K → SessionView) (slots : List K)
@@ -208,19 +250,23 @@ credits_of P own is (k ∷ slots) all =
 pub credits_are : {J D K Q W : Type 0} (jobs : List J) (dones : List D) (slots : List K) (P : K → Type 0)
     (own : K → SessionView) (put_may : W → Bor (List ℕ) → (W × Bool) → Type 0)
     (flush_may : W → (W × Bool) → Type 0) (z : Sizes) (shards : ℕ)
-    (session : J → SessionView) (pump : J → PumpState) (plan : J → Option (DumpPlan Q)) (old : J → W)
+    (mtu : J → Option ℕ) (session : J → SessionView) (pump : J → PumpState) (plan : J → Option (DumpPlan Q)) (old : J
+    → W)
     (dump_wire : J → Option W) (end : D → SessionEnd) (bytes : D → ℕ) (mine : D → SessionList) (seat : D → View)
     (left : D → PumpState) (new : D → W) (dumped : D → Option (Dumped Q W)) (spare main : View)
-    → AllZip (WasDone put_may flush_may z shards session pump plan old dump_wire end bytes mine seat left new dumped)
+    → AllZip (WasDone put_may flush_may z shards mtu session pump plan old dump_wire end bytes mine seat left new
+    dumped)
     jobs dones
     → ((k : K) → P k → HasCredits (own k)) → All P slots → map session jobs ≡ map own slots
     → HasAll (spare ∷ map seat dones) main → main.credits ≡ spare.credits + session_credits * length slots
-credits_are jobs dones slots P own put_may flush_may z shards session pump plan old dump_wire end bytes mine seat left
+credits_are jobs dones slots P own put_may flush_may z shards mtu session pump plan old dump_wire end bytes mine seat
+    left
     new dumped
     spare main
     is
     each all same has =
-    let credits = runs.all_credits put_may flush_may z shards session pump plan old dump_wire end bytes mine seat left
+    let credits = runs.all_credits put_may flush_may z shards mtu session pump plan old dump_wire end bytes mine seat
+    left
     new dumped jobs dones
     is
     (subst (Each HasCredits) (sym same) (credits_of P own each slots all)) in
@@ -230,12 +276,15 @@ credits_are jobs dones slots P own put_may flush_may z shards session pump plan 
 
 pub as_many : {J D P W : Type 0} (jobs : List J) (dones : List D)
     (put_may : W → Bor (List ℕ) → (W × Bool) → Type 0) (flush_may : W → (W × Bool) → Type 0) (z : Sizes) (shards : ℕ)
-    (session : J → SessionView) (pump : J → PumpState) (plan : J → Option (DumpPlan P)) (old : J → W)
+    (mtu : J → Option ℕ) (session : J → SessionView) (pump : J → PumpState) (plan : J → Option (DumpPlan P)) (old : J
+    → W)
     (dump_wire : J → Option W) (end : D → SessionEnd) (bytes : D → ℕ) (mine : D → SessionList) (seat : D → View)
     (left : D → PumpState) (new : D → W) (dumped : D → Option (Dumped P W))
-    → AllZip (WasDone put_may flush_may z shards session pump plan old dump_wire end bytes mine seat left new dumped)
+    → AllZip (WasDone put_may flush_may z shards mtu session pump plan old dump_wire end bytes mine seat left new
+    dumped)
     jobs dones
     → length dones ≡ length jobs
-as_many jobs dones put_may flush_may z shards session pump plan old dump_wire end bytes mine seat left new dumped is =
-    runs.as_many put_may flush_may z shards session pump plan old dump_wire end bytes mine seat left new dumped jobs
+as_many jobs dones put_may flush_may z shards mtu session pump plan old dump_wire end bytes mine seat left new dumped
+    is =
+    runs.as_many put_may flush_may z shards mtu session pump plan old dump_wire end bytes mine seat left new dumped jobs
     dones is

@@ -1,4 +1,5 @@
 pub mod Ran
 pub mod Dumped
 pub mod Orders
+pub mod Wires
 pub use Rattle.session_serve.specs.Whole

@@ -2,6 +2,7 @@
 ghost use Rattle.std.specs.Prelude.{◌≡◌, ◌<◌, ◌≤◌, ◌++◌, [], None, All, length, map, vec_capacity};
 ghost use Rattle.std.specs.List.{AllZip};
 ghost use Rattle.std.specs.Vec.Iter.{into_iter_items};
+ghost use Rattle.device_model.specs.Devices.{CanFrame};
 ghost use Rattle.session_workers.specs.Jobs.{IsNewJob, IsDone};
 ghost use Rattle.run_resources.specs.Opened.{IsSessionSlot};
 
@@ -19,9 +20,11 @@ use std::sync::Wait;
 use std::thread::Threads;
 use std::vec::IntoIter;
 
-/// Each session slot gets the source and the wire at its place. Wires past them are left.
+/// Each session slot gets the source and the wire at its place, and puts frames of at most so many bytes, if there is
+/// a bound. Wires past them are left.
 pub(crate) fn line_up<N: BookName, P: PoolName + Send, S: Source + Drop, W: Drop>(
     alloc: Global,
+    mtu: Option<u16>,
     slots: Vec<SessionSlot<N, P>>,
     sources: Vec<S>,
     wires: Vec<W>,
@@ -32,9 +35,11 @@ pub(crate) fn line_up<N: BookName, P: PoolName + Send, S: Source + Drop, W: Drop
     requires unread { All (λ s. S.given s ≡ []) sources.items }
     requires wires { length slots.items ≤ length wires.items }
     requires room { (jobs.items ≡ []) × (length slots.items ≤ vec_capacity jobs) }
+    requires mtu { CanFrame mtu }
     ensures fresh { All (λ job. IsNewJob P.sizes N.sizes.shards job.line.session job.line.pump job.line.device.end
-        job.line.device.failed job.line.dump.plan job.line.dump.taken job.dump_wire) result.0.items }
+        job.line.device.failed job.line.mtu job.line.dump.plan job.line.dump.taken job.dump_wire) result.0.items }
     ensures unasked { All (λ job. job.line.dump.plan ≡ None) result.0.items }
+    ensures mtus { All (λ job. job.line.mtu ≡ mtu) result.0.items }
     ensures sessions { map (λ job. job.line.session) result.0.items ≡ map (λ d. d.session) slots.items }
     ensures names { map (λ job. job.line.pump.origin.name) result.0.items ≡ map (λ s. S.name s) sources.items }
     ensures wholes { map (λ job. job.line.pump.origin.whole) result.0.items ≡ map (λ s. S.whole s) sources.items }
@@ -63,6 +68,7 @@ pub(crate) fn line_up<N: BookName, P: PoolName + Send, S: Source + Drop, W: Drop
             pump,
             device,
             dump,
+            mtu,
         };
         jobs.push_reserved(Job {
             line,
@@ -96,9 +102,9 @@ fn serve_here<
 ) -> Vec<Done<N, P, S, W>>
     requires calls { PUT.IsAlwaysCallable put.now × FLUSH.IsAlwaysCallable flush.now }
     requires fresh { All (λ job. IsNewJob P.sizes N.sizes.shards job.line.session job.line.pump job.line.device.end
-        job.line.device.failed job.line.dump.plan job.line.dump.taken job.dump_wire) jobs.items }
+        job.line.device.failed job.line.mtu job.line.dump.plan job.line.dump.taken job.dump_wire) jobs.items }
     requires room { (dones.items ≡ []) × (length jobs.items ≤ vec_capacity dones) }
-    ensures { AllZip (λ job done. IsDone (λ w p r. PUT.post put.now w p r)
+    ensures { AllZip (λ job done. IsDone job.line.mtu (λ w p r. PUT.post put.now w p r)
         (λ w r. FLUSH.post flush.now w r) P.sizes N.sizes.shards job.line.session job.line.pump job.line.dump.plan
         job.wire job.dump_wire done.account.end done.account.sent done.account.mine done.account.seat
         done.account.pump done.wire done.dump) jobs.items result.items }
@@ -134,9 +140,9 @@ pub(crate) fn serve_jobs<
     requires calls { PUT.IsAlwaysCallable put.now × FLUSH.IsAlwaysCallable flush.now }
     requires workers { (0 < workers) × (workers ≤ 16) }
     requires fresh { All (λ job. IsNewJob P.sizes N.sizes.shards job.line.session job.line.pump job.line.device.end
-        job.line.device.failed job.line.dump.plan job.line.dump.taken job.dump_wire) jobs.items }
+        job.line.device.failed job.line.mtu job.line.dump.plan job.line.dump.taken job.dump_wire) jobs.items }
     requires room { (dones.items ≡ []) × (length jobs.items ≤ vec_capacity dones) }
-    ensures { AllZip (λ job done. IsDone (λ w p r. PUT.post put.now w p r)
+    ensures { AllZip (λ job done. IsDone job.line.mtu (λ w p r. PUT.post put.now w p r)
         (λ w r. FLUSH.post flush.now w r) P.sizes N.sizes.shards job.line.session job.line.pump job.line.dump.plan
         job.wire job.dump_wire done.account.end done.account.sent done.account.mine done.account.seat
         done.account.pump done.wire done.dump) jobs.items result.items }

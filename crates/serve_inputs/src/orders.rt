@@ -61,14 +61,15 @@ pub(crate) fn ask_first<N: BookName, P: PoolName + Send, S: Source + Drop, W: Dr
     requires order { IfSome order (λ o. CanKeepAll P.sizes N.sizes.shards o.plan.seat) }
     requires one { 0 < length jobs.old.items }
     requires fresh { All (λ job. IsNewJob P.sizes N.sizes.shards job.line.session job.line.pump job.line.device.end
-        job.line.device.failed job.line.dump.plan job.line.dump.taken job.dump_wire) jobs.old.items }
+        job.line.device.failed job.line.mtu job.line.dump.plan job.line.dump.taken job.dump_wire) jobs.old.items }
     requires unasked { All (λ job. job.line.dump.plan ≡ None) jobs.old.items }
     ensures fresh { All (λ job. IsNewJob P.sizes N.sizes.shards job.line.session job.line.pump job.line.device.end
-        job.line.device.failed job.line.dump.plan job.line.dump.taken job.dump_wire) jobs.new.items }
+        job.line.device.failed job.line.mtu job.line.dump.plan job.line.dump.taken job.dump_wire) jobs.new.items }
     ensures asked { IsFirstAsked order (map (λ job. (job.line.dump.plan, job.dump_wire)) jobs.new.items) }
     ensures sessions { map (λ job. job.line.session) jobs.new.items ≡ map (λ job. job.line.session) jobs.old.items }
     ensures pumps { map (λ job. job.line.pump) jobs.new.items ≡ map (λ job. job.line.pump) jobs.old.items }
     ensures wires { map (λ job. job.wire) jobs.new.items ≡ map (λ job. job.wire) jobs.old.items }
+    ensures mtus { map (λ job. job.line.mtu) jobs.new.items ≡ map (λ job. job.line.mtu) jobs.old.items }
 {
     let Some(order) = order else {
         return;

@@ -49,7 +49,8 @@ fn serve_named<
         × IsPool (length sources.items) sizes.now P.sizes }
     requires book { (N.table ≡ book.table) × (N.sizes ≡ book.sizes)
         × IsBook (length sources.items) sizes.now N.sizes }
-    ensures ran { IfOk result (λ r. RanAll (λ w p r. PUT.post put.now w p r) (λ w r. FLUSH.post flush.now w r)
+    ensures ran { IfOk result (λ r. RanAll sizes.now.mtu (λ w p r. PUT.post put.now w p r)
+        (λ w r. FLUSH.post flush.now w r)
         (pool_sizes (length sources.items) sizes.now) (map (λ s. S.given s) r.sources.items)
         (map (λ s. S.ended s) r.sources.items) r.ends.items r.sent.items (histories r.journal.items) r.pool
         sizes.now.dump (dump_told r.dump) wires.items r.wires.items) }
@@ -98,7 +99,8 @@ pub fn serve_inputs<
     requires workers { (0 < workers) × (workers ≤ 16) }
     requires unread { All (λ s. S.given s ≡ []) sources.items }
     requires wires { length sources.items + dump_wires sizes.now.dump ≤ length wires.items }
-    ensures ran { IfOk result (λ r. RanAll (λ w p r. PUT.post put.now w p r) (λ w r. FLUSH.post flush.now w r)
+    ensures ran { IfOk result (λ r. RanAll sizes.now.mtu (λ w p r. PUT.post put.now w p r)
+        (λ w r. FLUSH.post flush.now w r)
         (pool_sizes (length sources.items) sizes.now) (map (λ s. S.given s) r.sources.items)
         (map (λ s. S.ended s) r.sources.items) r.ends.items r.sent.items (histories r.journal.items) r.pool
         sizes.now.dump (dump_told r.dump) wires.items r.wires.items) }

@@ -83,7 +83,7 @@ pub(crate) fn serve_opened<
     requires lists { (space.results.lists.items ≡ []) × (length sources.items ≤ space.results.lists.spare) }
     requires room { (space.results.sources.items ≡ []) × (length sources.items ≤ vec_capacity space.results.sources) }
     requires wire_room { (space.results.wires.items ≡ []) × (length wires.items ≤ vec_capacity space.results.wires) }
-    ensures ran { RanAll (λ w p r. PUT.post put.now w p r) (λ w r. FLUSH.post flush.now w r)
+    ensures ran { RanAll sizes.now.mtu (λ w p r. PUT.post put.now w p r) (λ w r. FLUSH.post flush.now w r)
         (pool_sizes (length sources.items) sizes.now) (map (λ s. S.given s) result.sources.items)
         (map (λ s. S.ended s) result.sources.items) result.ends.items result.sent.items
         (histories result.journal.items) result.pool sizes.now.dump (dump_told result.dump) wires.items
@@ -110,7 +110,7 @@ pub(crate) fn serve_opened<
     let mut wires = wires;
     let count = sources.len();
     let order = split_order(&pool, &mut main, sizes, count, &mut wires);
-    let (mut jobs, past) = line_up(alloc, slots, sources, wires, jobs);
+    let (mut jobs, past) = line_up(alloc, sizes.mtu, slots, sources, wires, jobs);
     ask_first(alloc, &mut jobs, order);
     let shop = Shop {
         pool: &pool,

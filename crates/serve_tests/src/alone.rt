@@ -86,6 +86,7 @@ fn serve_named<R: Threads + Wait + Sync, N: BookName, P: PoolName + Send + Sync>
         pump: Pump::new(alloc, source),
         device: slot.device,
         dump: DumpTurn::new(alloc, None),
+        mtu: None,
     };
     let room = Room::new(alloc)?;
     let (wire, account) = serve_beside(rt, alloc, &shop, line, room, &NoGate, wire, &put, &flush);
@@ -106,6 +107,7 @@ fn served<R: Threads + Wait + Sync>(
         ring: 1160,
         threshold: 512,
         dump: None,
+        mtu: None,
     };
     let input = source(alloc, lines, b"", 4096)?;
     let wire = wires_of(alloc, 1, fails)?.pop().ok_or("no wire")?;

@@ -39,6 +39,7 @@ fn driven<R: Wait>(
         ring: 1160,
         threshold: 512,
         dump: None,
+        mtu: None,
     };
     let schedule = read_schedule(alloc, schedule.as_bytes(), count as u16)?;
     let lines = schedule.as_slice();

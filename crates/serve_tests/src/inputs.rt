@@ -35,6 +35,7 @@ fn served<R: Threads + Wait + Sync>(
         ring: 1160,
         threshold: 512,
         dump: None,
+        mtu: None,
     };
     let Ok(served) = serve_inputs(
         rt, alloc, &sizes, workers, sources, wires, &NoGate, &put, &flush,

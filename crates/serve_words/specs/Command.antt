@@ -1,4 +1,4 @@
--- The command lines of `serve`, `drive`, `check` and `join`, as commands of the kit's `clap`.
+-- The command lines of `serve`, `frames`, `drive`, `check` and `join`, as commands of the kit's `clap`.
 use Rattle.std.specs.Prelude.{ℕ, List, Option, Some, None, codes, if◌then◌else◌, true}
 use Rattle.clap.specs.Walk.{Row, Rule, is_empty}
 use Rattle.clap.specs.Simple.{App, matches_of, new_app, new_rule, on_top, with_rule}
@@ -32,6 +32,10 @@ sized_command name = with_rule (with_rule (with_rule (with_rule (with_rule (bare
 abbrev pub serve_command : App
 serve_command = with_rule (with_rule (with_rule (with_rule (sized_command (codes "serve"))
     (option_rule (codes "workers"))) (option_rule (codes "dump"))) (flag_rule (codes "journal"))) file_rule
+
+-- `frames`: the sizes, an option more, and a number and files, which are told apart by their places
+abbrev pub frames_command : App
+frames_command = with_rule (with_rule (sized_command (codes "frames")) (option_rule (codes "workers"))) file_rule
 
 -- `drive`: the sizes, and files
 abbrev pub drive_command : App

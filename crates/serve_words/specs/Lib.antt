@@ -5,3 +5,4 @@ pub mod Sizes
 pub mod Task
 pub mod Drive
 pub mod Join
+pub mod Frames

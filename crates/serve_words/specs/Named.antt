@@ -2,7 +2,7 @@
 use Rattle.std.specs.Prelude.{ℕ, Bool, false, List, [], ◌∷◌, codes, if◌then◌else◌}
 use Rattle.std.specs.Str.{bytes_eq}
 use Rattle.serve_words.specs.declared.named.CommandName.{CommandName}
-use Rattle.serve_words.specs.declared.named.CommandName.TheVariants.{Serve, Check, Gen, Drive, Join}
+use Rattle.serve_words.specs.declared.named.CommandName.TheVariants.{Serve, Check, Gen, Drive, Join, Frames}
 
 -- the first word is this one
 abbrev pub begins_with : List ℕ → List (List ℕ) → Bool
@@ -16,4 +16,5 @@ name_of (command ∷ words) =
     if bytes_eq command (codes "check") then Check else
     if bytes_eq command (codes "gen") then Gen else
     if bytes_eq command (codes "drive") then Drive else
-    if bytes_eq command (codes "join") then Join else Serve
+    if bytes_eq command (codes "join") then Join else
+    if bytes_eq command (codes "frames") then Frames else Serve

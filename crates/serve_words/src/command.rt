@@ -5,7 +5,8 @@ ghost use Rattle.clap.specs.Matches.{found_of};
 ghost use Rattle.clap.specs.Simple.{app_of, is_simple};
 ghost use Rattle.clap.specs.Walk.{rows_of, rule_of};
 ghost use Rattle.serve_words.specs.Command.{bare_command, check_command, drive_command, file_rule, flag_rule};
-ghost use Rattle.serve_words.specs.Command.{join_command, option_rule, rows_by, serve_command, sized_command};
+ghost use Rattle.serve_words.specs.Command.{frames_command, join_command, option_rule, rows_by, serve_command};
+ghost use Rattle.serve_words.specs.Command.{sized_command};
 ghost use Rattle.serve_words.specs.Task.{word_texts};
 
 use clap::error::ErrorKind;
@@ -22,6 +23,17 @@ pub(crate) fn serve_matches<'a>(
         ≡ rows_by serve_command (word_texts words.entry.now)) }
 {
     matches_by(serve_command(alloc)?, words)
+}
+
+/// What the words say to `frames`, by the names of the options; none where they don't fit the command.
+pub(crate) fn frames_matches<'a>(
+    alloc: Global,
+    words: &'a [String],
+) -> Result<Option<ArgMatches<'a>>, Memory>
+    ensures { IfOk result (λ matches. option_map (λ m. rows_of (found_of m)) matches
+        ≡ rows_by frames_command (word_texts words.entry.now)) }
+{
+    matches_by(frames_command(alloc)?, words)
 }
 
 /// What the words say to `check`; none where they don't fit the command.
@@ -83,6 +95,15 @@ fn serve_command<'a>(alloc: Global) -> Result<Command<'a>, AllocError>
         .arg(number_option(alloc, "workers"))?
         .arg(number_option(alloc, "dump"))?
         .arg(flag(alloc, "journal"))?
+        .arg(files(alloc))?;
+    Ok(command)
+}
+
+fn frames_command<'a>(alloc: Global) -> Result<Command<'a>, AllocError>
+    ensures { IfOk result (λ command. app_of command ≡ frames_command) }
+{
+    let command = sized_command(alloc, "frames")?
+        .arg(number_option(alloc, "workers"))?
         .arg(files(alloc))?;
     Ok(command)
 }

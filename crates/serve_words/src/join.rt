@@ -10,9 +10,9 @@ use flake_base::Memory;
 use std::alloc::Global;
 
 /// The least and the most bytes of a frame.
-const LEAST_MTU: u32 = 64;
+pub(crate) const LEAST_MTU: u32 = 64;
 
-const MOST_MTU: u32 = 9216;
+pub(crate) const MOST_MTU: u32 = 9216;
 
 /// The file whose frames are to be put together.
 #[derive(Clone, Copy, Debug)]

@@ -11,6 +11,7 @@ pub enum CommandName {
     Gen,
     Drive,
     Join,
+    Frames,
 }
 
 /// The command that the words behind the program's name ask for.
@@ -22,6 +23,7 @@ pub fn command_name(words: &[String]) -> CommandName
         [command, ..] if command.as_str() == "gen" => CommandName::Gen,
         [command, ..] if command.as_str() == "drive" => CommandName::Drive,
         [command, ..] if command.as_str() == "join" => CommandName::Join,
+        [command, ..] if command.as_str() == "frames" => CommandName::Frames,
         _ => CommandName::Serve,
     }
 }

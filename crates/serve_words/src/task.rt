@@ -73,8 +73,8 @@ pub(crate) fn files_in<'a>(
     }
 }
 
-// There are 1 to 16 files, and 128 small buffers for each.
-fn fits(files: &[&str], sizes: &Sizes) -> bool
+/// There are 1 to 16 files, and 128 small buffers for each.
+pub(crate) fn fits(files: &[&str], sizes: &Sizes) -> bool
     ensures { result ≡ fits_files (map (λ file. file.now) files.now) sizes.now }
 {
     match files.len() {

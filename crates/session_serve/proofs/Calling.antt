@@ -21,7 +21,9 @@ use Rattle.serve_model.proofs.Going.{going_starts, going_on, going_ends, going_b
 use Rattle.session_pass.specs.Calls.{CallPosts, CallRefused}
 use Rattle.session_pass.specs.Kept.{holds_paid}
 use Rattle.session_pass.specs.Views.{SessionView}
+use Rattle.session_serve.specs.Forms.{AreNumberedByPlace}
 use Rattle.session_serve.specs.Working.{IsFresh, IsWorking, CallsMore, HasStopped, run_of}
+use Rattle.session_serve.proofs.Forms.{numbered-none, numbered-more}
 
 -- the command behind the first ones
 next_is : (given : List Command) (command : Command) (more : List Command)
@@ -38,6 +40,7 @@ work-starts z shards first pump fresh =
     record {
       pump_is = fresh.unread;
       count = ap length fresh.none_posted;
+      numbered = numbered-none first.posted fresh.none_posted;
       going = subst (λ (posted : List Sent). model.IsGoing z shards n [] [] (texts_in posted)
           (holds_paid posted) first.pass.list.told seat seat)
           (sym fresh.none_posted)
@@ -55,6 +58,7 @@ pub work-told : (z : Sizes) (shards : ℕ) (first : SessionView) (origin : Origi
 work-told z shards first origin before given calls session told pump w = record {
   pump_is = w.pump_is;
   count = w.count;
+  numbered = w.numbered;
   going = w.going;
   same = record { number = w.same.number; looks = w.same.looks; stage = w.same.stage; opened = w.same.opened };
 }
@@ -79,6 +83,7 @@ work-ends z shards first origin before given calls how session old new w e = rec
   is_session = λ failed. subst
       (λ (n : ℕ). IsSession (session_at new.given new.ended (given ++ e.more) (ended_at how new.taken n failed) 0))
       (sym w.count) (e.session failed);
+  numbered = w.numbered;
   same = w.same;
 }
 
@@ -130,6 +135,7 @@ work-breaks z shards first origin before given calls command old new pump after 
           (stopped_at after.given after.ended (given ++ command ∷ []) after.taken (length given) (length r.outcomes)
           failed m (omega (arith, length-append given (command ∷ [])))
           (subst (λ ps. (length r.outcomes ≡ 0) ⊎ (length r.outcomes < length ps)) (sym next) r.cut.short)));
+      numbered = subst AreNumberedByPlace (sym r.posted) w.numbered;
       same = record {
         number = r.rest.number ∙ w.same.number;
         looks = r.rest.looks ∙ w.same.looks;
@@ -178,6 +184,8 @@ work-goes-on z shards first origin before given calls command old new pump after
           length-append
               given (command ∷ []),
         );
+        numbered = subst AreNumberedByPlace (sym posts.posted)
+            (numbered-more old.posted reply w.numbered (posts.numbered ∙ posts.call_is));
         going = subst
             (λ (ps : List Sent). model.IsGoing z shards n (given ++ command ∷ []) (calls ++ posts.outcomes ∷ [])
             (texts_in ps) (holds_paid ps) new.pass.list.told first.pass.seat new.pass.seat)

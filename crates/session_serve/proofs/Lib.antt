@@ -1,4 +1,5 @@
 pub mod Gathering
+pub mod Forms
 pub mod Between
 pub mod Calling
 pub mod Seeing

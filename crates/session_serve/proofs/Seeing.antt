@@ -20,6 +20,7 @@ use Rattle.session_pass.specs.Calls.{CallPosts, CallRefused}
 use Rattle.session_pass.specs.Kept.{holds_paid}
 use Rattle.session_pass.specs.Views.{SessionView}
 use Rattle.session_serve.specs.Dumps.{IsSeeing, as_seeing}
+use Rattle.session_serve.specs.Forms.{AreNumberedByPlace}
 use Rattle.session_serve.specs.Working.{IsFresh, IsGathered, HasOneMore, IsWorking, CallsMore, HasStopped, run_of}
 use Rattle.session_serve.proofs.Calling.{work-ends, work-breaks, work-goes-on}
 
@@ -33,6 +34,7 @@ work-sees z shards first origin before given calls old new pump sees w =
     record {
       pump_is = w.pump_is;
       count = ap (λ (s : SessionView). length s.posted) sees.rest ∙ w.count;
+      numbered = subst (λ (s : SessionView). AreNumberedByPlace s.posted) (sym sees.rest) w.numbered;
       going = subst (λ (told : SessionDeeds). model.IsGoing z shards n given calls (texts_in new.posted)
           (holds_paid new.posted) told first.pass.seat new.pass.seat) (sym sees.deeds.told)
           (subst (λ (s : SessionView). model.IsGoing z shards n given calls (texts_in s.posted)
@@ -93,6 +95,7 @@ stopped-sees z shards first origin before how old new pump sees s =
           old.pass.seat (s.ended failed)));
       is_session = λ failed. subst (λ (v : SessionView). IsSession (session_of pump.given pump.ended (run v failed)))
           (sym sees.rest) (s.is_session failed);
+      numbered = subst (λ (v : SessionView). AreNumberedByPlace v.posted) (sym sees.rest) s.numbered;
       same = record {
         number = sees.deeds.number ∙ s.same.number;
         looks = refl;

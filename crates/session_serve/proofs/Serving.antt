@@ -1,8 +1,7 @@
 -- What a served session hands up.
 use Rattle.std.proofs.Common.{◌≡◌, ℕ, Bool, true, false, List, [], ◌∷◌, ◌++◌, length, refl, ap, sym, ◌∙◌, subst}
-use Rattle.std.proofs.Common.{append-nil, arith}
+use Rattle.std.proofs.Common.{Option, append-nil, arith}
 use Rattle.std.specs.Borrow.{Bor}
-use Rattle.std.proofs.lemmas.List.Folds.{flat_map-map}
 use Rattle.view_sums.specs.Total.{total}
 use Rattle.pin_core.specs.Holding.{Holding}
 use Rattle.pin_core.specs.declared.sizes.Sizes.{Sizes}
@@ -15,7 +14,8 @@ use Rattle.any_wire.specs.Sends.{Sends, Flushes}
 use Rattle.any_wire.proofs.Sending.{sends-none, sends-on, sends-same, sends-flush}
 use Rattle.reply_planner.specs.Owned.{bare_all, fresh_all}
 use Rattle.reply_planner.specs.Parcels.{Sent, texts_in}
-use Rattle.device_model.specs.Devices.{sent_texts, Forwards}
+use Rattle.device_model.specs.Devices.{sent_as, ForwardsAs}
+use Rattle.device_model.proofs.Forwarding.{as-none}
 use Rattle.any_wire.specs.Texts.{joined}
 use Rattle.call_model.specs.Outcomes.{SessionDeeds}
 use Rattle.serve_model.specs.Going.{CallsNoMore}
@@ -24,10 +24,12 @@ use Rattle.serve_model.proofs.Going.{session_ran}
 use Rattle.session_pass.specs.Kept.{holds_paid}
 use Rattle.session_pass.specs.Views.{SessionView}
 use Rattle.session_serve.specs.Dumps.{as_seeing}
+use Rattle.session_serve.specs.Forms.{all_as_sent, each_as_sent}
 use Rattle.session_serve.specs.Served.{IsServed}
 use Rattle.session_serve.specs.Whole.{SentWhole}
 use Rattle.session_serve.specs.Wires.{SendsOut, WasFlushed}
 use Rattle.session_serve.specs.Working.{IsFresh, HasStopped, IsLeft, run_of}
+use Rattle.session_serve.proofs.Forms.{each-all, sent-joined}
 use Rattle.session_serve.proofs.Seeing.{fresh-as_seeing}
 
 none-held : (holds : List Holding) → total (λ (h : Holding). 1) (bare_all holds) ≡ 0 → holds ≡ []
@@ -78,37 +80,39 @@ ran-so z shards first session unread pump how failed seat mine fresh s left =
     })
     (s.is_session failed))
 
--- the texts of all replies, joined
-texts_joined : (posted : List Sent) → sent_texts posted ≡ joined (texts_in posted)
-texts_joined posted = sym (flat_map-map (λ (text : List ℕ). text) (λ (p : Sent). p.text) posted)
-
-module _ {W : Type 0} (put_may : W → Bor (List ℕ) → (W × Bool) → Type 0) (flush_may : W → (W × Bool) → Type 0) where
+module _
+    {W : Type 0}
+    (mtu : Option ℕ)
+    (put_may : W → Bor (List ℕ) → (W × Bool) → Type 0)
+    (flush_may : W → (W × Bool) → Type 0) where
   -- nothing was posted more
   pub forwards-nothing : (failed : Bool) (before after : List Sent) (wire : W) → after ≡ before
-      → Forwards put_may flush_may failed failed before after wire wire
+      → ForwardsAs mtu put_may flush_may failed failed before after wire wire
   forwards-nothing failed before after wire same = record {
     taken = [];
     in_order = same ∙ sym (append-nil before);
-    sends = sends-none put_may flush_may failed wire;
+    sends = sends-same put_may flush_may failed failed [] (sent_as mtu []) wire wire (sym (as-none mtu))
+        (sends-none put_may flush_may failed wire);
   }
 
   pub forwards-as : (failed other now then : Bool) (before front after whole : List Sent) (old new : W) → failed ≡ other
       → now ≡ then → before ≡ front → after ≡ whole
-      → Forwards put_may flush_may failed now before after old new → Forwards put_may flush_may other then
-      front whole old new
+      → ForwardsAs mtu put_may flush_may failed now before after old new
+      → ForwardsAs mtu put_may flush_may other then front whole old new
   forwards-as failed other now then before front after whole old new f n b a forwards =
-      subst (λ (x : Bool). Forwards put_may flush_may x then front whole old new) f
-      (subst (λ (x : Bool). Forwards put_may flush_may failed x front whole old new) n
-      (subst (λ (xs : List Sent). Forwards put_may flush_may failed now xs whole old new) b
-      (subst (λ (xs : List Sent). Forwards put_may flush_may failed now before xs old new) a forwards)))
+      subst (λ (x : Bool). ForwardsAs mtu put_may flush_may x then front whole old new) f
+      (subst (λ (x : Bool). ForwardsAs mtu put_may flush_may failed x front whole old new) n
+      (subst (λ (xs : List Sent). ForwardsAs mtu put_may flush_may failed now xs whole old new) b
+      (subst (λ (xs : List Sent). ForwardsAs mtu put_may flush_may failed now before xs old new) a forwards)))
 
   -- all that was forwarded is all that was posted
   pub forwards-all : (failed now : Bool) (posted : List Sent) (old new : W)
-      → Forwards put_may flush_may failed now [] posted old new
-      → Sends put_may flush_may failed now (sent_texts posted) old new
-  forwards-all failed now posted old new f = sends-same put_may flush_may failed now (sent_texts f.taken)
-      (sent_texts posted) old new (ap sent_texts (sym f.in_order)) f.sends
+      → ForwardsAs mtu put_may flush_may failed now [] posted old new
+      → Sends put_may flush_may failed now (sent_as mtu posted) old new
+  forwards-all failed now posted old new f = sends-same put_may flush_may failed now (sent_as mtu f.taken)
+      (sent_as mtu posted) old new (ap (sent_as mtu) (sym f.in_order)) f.sends
 
+module _ {W : Type 0} (put_may : W → Bor (List ℕ) → (W × Bool) → Type 0) (flush_may : W → (W × Bool) → Type 0) where
   pub sends-out : (failed now : Bool) (text : List ℕ) (old new : W) → SendsOut put_may flush_may failed now text old new
       → Sends put_may flush_may failed now text old new
   sends-out failed now text old new s = sends-same put_may flush_may failed now (text ++ []) text old new
@@ -126,20 +130,27 @@ module _ {W : Type 0} (put_may : W → Bor (List ℕ) → (W × Bool) → Type 0
       → SendsOut put_may flush_may failed now text old new → now ≡ false → WasFlushed put_may flush_may old new
   flushed-last failed now text old new s none = flushed-so s.between now old s.middle new s.flushed none
 
+module _
+    {W : Type 0}
+    (mtu : Option ℕ)
+    (put_may : W → Bor (List ℕ) → (W × Bool) → Type 0)
+    (flush_may : W → (W × Bool) → Type 0) where
   pub served-so : (z : Sizes) (shards : ℕ) (first session : SessionView) (unread pump : PumpState) (how : End)
       (end : SessionEnd) (bytes : ℕ) (between : Bool)
       (seat : View) (mine : SessionList) (given : List ℕ) (ended : Bool) (old middle new : W) → IsFresh z first unread
       → HasStopped z shards (as_seeing session.pass.list first) unread.origin unread.faults how session pump
       → IsLeft session seat mine
       → end ≡ ended_at how pump.taken (length session.posted) end.failed → given ≡ pump.given → ended ≡ pump.ended
-      → Forwards put_may flush_may false between [] session.posted old middle
+      → ForwardsAs mtu put_may flush_may false between [] session.posted old middle
       → Flushes flush_may between end.failed middle new
-      → SentWhole put_may flush_may end.failed (texts_in session.posted) bytes old new
-      → IsServed put_may flush_may z shards first given ended end bytes mine seat old new
+      → SentWhole put_may flush_may end.failed (each_as_sent mtu session.posted) (texts_in session.posted) bytes old new
+      → IsServed mtu put_may flush_may z shards first given ended end bytes mine seat old new
   served-so z shards first session unread pump how end bytes between seat mine given ended old middle new fresh stopped
       is_left end_is given_is ended_is forwards flushed whole =
       let n = first.pass.list.number in
       let texts = texts_in session.posted in
+      let sent : each_as_sent mtu session.posted ≡ all_as_sent mtu texts = each-all mtu session.posted
+      stopped.numbered in
       record {
         texts = texts;
         ran = subst (λ (e : SessionEnd). SessionHasRun z shards n given ended e mine seat texts) (sym end_is)
@@ -152,10 +163,11 @@ module _ {W : Type 0} (put_may : W → Bor (List ℕ) → (W × Bool) → Type 0
         sends = record {
           between = between;
           middle = middle;
-          sends = sends-same put_may flush_may false between (sent_texts session.posted) (joined texts) old middle
-              (texts_joined session.posted)
-              (forwards-all false between session.posted old middle forwards);
+          sends = sends-same put_may flush_may false between (sent_as mtu session.posted)
+              (joined (all_as_sent mtu texts)) old middle (sent-joined mtu session.posted ∙ ap joined sent)
+              (forwards-all mtu put_may flush_may false between session.posted old middle forwards);
           flushed = flushed;
         };
-        whole = whole;
+        whole = subst (λ (all : List (List ℕ)). SentWhole put_may flush_may end.failed all texts bytes old new) sent
+            whole;
       }

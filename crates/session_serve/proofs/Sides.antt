@@ -16,7 +16,7 @@ use Rattle.tx_ring.specs.Shown.{closed_view}
 use Rattle.tx_ring.specs.declared.closed.ClosedDriver.{ClosedDriver}
 use Rattle.reply_planner.specs.Owned.{bare_all, fresh_all}
 use Rattle.reply_planner.specs.Parcels.{Sent, texts_in}
-use Rattle.device_model.specs.Devices.{Forwards}
+use Rattle.device_model.specs.Devices.{ForwardsAs}
 use Rattle.call_model.specs.Outcomes.{Outcomes}
 use Rattle.serve_model.specs.Going as model
 use Rattle.serve_model.proofs.Going.{going_rests}
@@ -25,6 +25,7 @@ use Rattle.session_pass.specs.Calls.{CallReaps}
 use Rattle.session_pass.specs.Finished.{IsSessionDone}
 use Rattle.session_pass.specs.Kept.{holds_paid}
 use Rattle.session_pass.specs.Views.{SessionView}
+use Rattle.session_serve.specs.Forms.{AreNumberedByPlace, each_as_sent}
 use Rattle.session_serve.specs.Working.{IsFresh, IsWorking, CallsMore, HasStopped, IsLeft}
 use Rattle.session_serve.specs.Beside.{HasWaited, CallsAtLast, BreaksAtLast, RanToTheEnd, ForwardsOut}
 use Rattle.session_serve.specs.Dumps.{IsSeeing, as_seeing, DumpCame}
@@ -93,6 +94,7 @@ work-rests z shards first origin before given calls old new pump waited w =
     record {
       pump_is = w.pump_is;
       count = ap length k.posted ∙ w.count;
+      numbered = subst AreNumberedByPlace (sym k.posted) w.numbered;
       going = subst (λ (ps : List Sent). model.IsGoing z shards n given calls (texts_in ps)
           (holds_paid ps) new.pass.list.told first.pass.seat new.pass.seat) (sym k.posted)
           (subst (λ (l : SessionList). model.IsGoing z shards n given calls (texts_in old.posted)
@@ -182,13 +184,17 @@ left-done s seat mine closed d = record {
   holds = d.holds;
 }
 
-module _ {W : Type 0} (put_may : W → Bor (List ℕ) → (W × Bool) → Type 0) (flush_may : W → (W × Bool) → Type 0) where
+module _
+    {W : Type 0}
+    (mtu : Option ℕ)
+    (put_may : W → Bor (List ℕ) → (W × Bool) → Type 0)
+    (flush_may : W → (W × Bool) → Type 0) where
   pub told-or-not : {P : Type 0} (z : Sizes) (shards : ℕ) (first : SessionView) (told : ℕ) (pump : PumpState)
       (asked : Option (DumpPlan P)) (old : W) (end : SessionEnd) (bytes : ℕ)
       (mine : SessionList) (seat : View) (left : PumpState) (taken : Option (Result DumpView View)) (new : W)
-      → HasServed put_may flush_may z shards (record first { told = told }) pump asked old end bytes mine seat left
+      → HasServed mtu put_may flush_may z shards (record first { told = told }) pump asked old end bytes mine seat left
       taken new
-      → HasServed put_may flush_may z shards first pump asked old end bytes mine seat left taken new
+      → HasServed mtu put_may flush_may z shards first pump asked old end bytes mine seat left taken new
   told-or-not z shards first told pump asked old end bytes mine seat left taken new h = record {
     served = record { texts = h.served.texts; ran = h.served.ran; sends = h.served.sends; whole = h.served.whole };
     origin = h.origin;
@@ -203,17 +209,17 @@ module _ {W : Type 0} (put_may : W → Bor (List ℕ) → (W × Bool) → Type 0
       (end : SessionEnd) (bytes : ℕ) (mine : SessionList) (seat : View)
       (left : PumpState) (taken : Option (Result DumpView View)) (new : W) → first ≡ then → pump ≡ unread
       → asked ≡ wanted → old ≡ start
-      → HasServed put_may flush_may z shards first pump asked old end bytes mine seat left taken new
-      → HasServed put_may flush_may z shards then unread wanted start end bytes mine seat left taken new
+      → HasServed mtu put_may flush_may z shards first pump asked old end bytes mine seat left taken new
+      → HasServed mtu put_may flush_may z shards then unread wanted start end bytes mine seat left taken new
   served-as {P} z shards first then pump unread asked wanted old start end bytes mine seat left taken new s p a o h =
-      subst (λ (x : SessionView). HasServed put_may flush_may z shards x unread wanted start end bytes mine seat left
-      taken new) s
-      (subst (λ (x : PumpState). HasServed put_may flush_may z shards first x wanted start end bytes mine seat left
-      taken new) p
-      (subst (λ (x : Option (DumpPlan P)). HasServed put_may flush_may z shards first pump x start end bytes mine seat
-      left taken new) a
-      (subst (λ (x : W). HasServed put_may flush_may z shards first pump asked x end bytes mine seat left taken new) o
-      h)))
+      subst (λ (x : SessionView). HasServed mtu put_may flush_may z shards x unread wanted start end bytes mine seat
+      left taken new) s
+      (subst (λ (x : PumpState). HasServed mtu put_may flush_may z shards first x wanted start end bytes mine seat
+      left taken new) p
+      (subst (λ (x : Option (DumpPlan P)). HasServed mtu put_may flush_may z shards first pump x start end bytes mine
+      seat left taken new) a
+      (subst (λ (x : W). HasServed mtu put_may flush_may z shards first pump asked x end bytes mine seat left taken
+      new) o h)))
 
   -- the session ended and its device found the ring closed
   pub served-beside : {P : Type 0} (z : Sizes) (shards : ℕ) (first : SessionView) (unread : PumpState)
@@ -225,42 +231,44 @@ module _ {W : Type 0} (put_may : W → Bor (List ℕ) → (W × Bool) → Type 0
       (flag failed : Bool) (before after : List Sent) (none counted : ℕ) (old new last : W) → IsFresh z first unread
       → RanToTheEnd z shards first unread asked how replies over list left closed came → flag ≡ false
       → (before ≡ []) × (none ≡ 0)
-      → ForwardsOut put_may flush_may flag failed before after none counted old new
+      → ForwardsOut mtu put_may flush_may flag failed before after none counted old new
       → after ≡ (closed_view closed).posted
       → end ≡ ended_at how left.taken replies failed → bytes ≡ counted → seat ≡ over → mine ≡ list → pump ≡ left
       → taken ≡ came → last ≡ new
-      → HasServed put_may flush_may z shards first unread asked old end bytes mine seat pump taken last
+      → HasServed mtu put_may flush_may z shards first unread asked old end bytes mine seat pump taken last
   served-beside z shards first unread asked how replies over list left closed came end bytes mine seat pump taken flag
       failed before after none counted old new last fresh r unfailed idle out all end_is bytes_is seat_is mine_is
       pump_is taken_is last_is =
       let whole : after ≡ r.session.posted = all ∙ r.posted in
       let so : end ≡ ended_at how left.taken (length r.session.posted) failed = end_is
       ∙ ap (λ n. ended_at how left.taken n failed) r.replies_are in
-      let forwards : Forwards put_may flush_may false out.between [] r.session.posted old out.middle =
-      forwards-as put_may flush_may flag false out.between out.between before [] after r.session.posted old
+      let forwards : ForwardsAs mtu put_may flush_may false out.between [] r.session.posted old out.middle =
+      forwards-as mtu put_may flush_may flag false out.between out.between before [] after r.session.posted old
       out.middle unfailed refl idle.0 whole out.forwards in
       let failed_is : failed ≡ end.failed = ap (λ e. e.failed) (sym so) in
       let same : end ≡ ended_at how left.taken (length r.session.posted) end.failed = so
       ∙ ap (ended_at how left.taken (length r.session.posted)) failed_is in
-      let start : SentWhole put_may flush_may flag (texts_in before) none old old =
-      whole-start put_may flush_may flag before none old unfailed idle.0 idle.1 in
-      let sent : SentWhole put_may flush_may end.failed (texts_in r.session.posted) bytes old new =
-      subst (λ (b : Bool). SentWhole put_may flush_may b (texts_in r.session.posted) bytes old new) failed_is
-      (subst (λ (xs : List Sent). SentWhole put_may flush_may failed (texts_in xs) bytes old new) whole
-      (subst (λ n. SentWhole put_may flush_may failed (texts_in after) n old new) (sym bytes_is) (out.whole old start)))
+      let start : SentWhole put_may flush_may flag (each_as_sent mtu before) (texts_in before) none old old =
+      whole-start mtu put_may flush_may flag before none old unfailed idle.0 idle.1 in
+      let sent_of : Bool → List Sent → ℕ → Type 0 = λ b xs n. SentWhole put_may flush_may b (each_as_sent mtu xs)
+      (texts_in xs) n old new in
+      let sent : sent_of end.failed r.session.posted bytes =
+      subst (λ (b : Bool). sent_of b r.session.posted bytes) failed_is
+      (subst (λ (xs : List Sent). sent_of failed xs bytes) whole
+      (subst (λ n. sent_of failed after n) (sym bytes_is) (out.whole old start)))
       in
-      let served : IsServed put_may flush_may z shards first left.given left.ended end bytes list over old new =
-      served-so put_may flush_may z shards first r.session unread left how end bytes out.between over list left.given
-      left.ended old out.middle new fresh r.stopped r.left same refl refl forwards
+      let served : IsServed mtu put_may flush_may z shards first left.given left.ended end bytes list over old new =
+      served-so mtu put_may flush_may z shards first r.session unread left how end bytes out.between over list
+      left.given left.ended old out.middle new fresh r.stopped r.left same refl refl forwards
       (subst (λ b. Flushes flush_may out.between b out.middle new) failed_is out.flushed) sent in
       record {
-        served = subst (λ p. IsServed put_may flush_may z shards first p.given p.ended end bytes mine seat old last)
+        served = subst (λ p. IsServed mtu put_may flush_may z shards first p.given p.ended end bytes mine seat old last)
             (sym pump_is)
-            (subst (λ m. IsServed put_may flush_may z shards first left.given left.ended end bytes m seat old last)
+            (subst (λ m. IsServed mtu put_may flush_may z shards first left.given left.ended end bytes m seat old last)
             (sym mine_is)
-            (subst (λ v. IsServed put_may flush_may z shards first left.given left.ended end bytes list v old last)
+            (subst (λ v. IsServed mtu put_may flush_may z shards first left.given left.ended end bytes list v old last)
             (sym seat_is)
-            (subst (λ w. IsServed put_may flush_may z shards first left.given left.ended end bytes list over old w)
+            (subst (λ w. IsServed mtu put_may flush_may z shards first left.given left.ended end bytes list over old w)
             (sym last_is) served)));
         origin = ap (λ p. p.origin) pump_is ∙ r.stopped.origin_is;
         reads = subst (λ (e : SessionEnd). EndFaults e.end unread.faults pump.faults) (sym end_is)

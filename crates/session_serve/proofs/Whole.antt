@@ -1,6 +1,6 @@
 -- How many replies a wire was sent whole, reply by reply.
 use Rattle.std.proofs.Common.{◌≡◌, ℕ, ◌+◌, ◌≤◌, Bool, true, false, List, [], ◌∷◌, ◌++◌, length, take, slice_get, Some}
-use Rattle.std.proofs.Common.{refl, ap, sym, ◌∙◌, subst, arith, length-append, append-nil}
+use Rattle.std.proofs.Common.{Option, refl, ap, sym, ◌∙◌, subst, arith, length-append, append-nil}
 use Rattle.std.specs.Borrow.{Bor}
 use Rattle.std.proofs.Math.Seq.{take-append-add, take-length}
 use Rattle.std.proofs.lemmas.List.{map-append, take-append-le, append_cancel_left}
@@ -13,13 +13,16 @@ use Rattle.tx_descriptor.specs.declared.framed.Framed.{Ghosts}
 use Rattle.tx_ring.specs.Shown.{completed}
 use Rattle.tx_ring.specs.declared.device.DeviceEnd.{DeviceEnd}
 use Rattle.reply_planner.specs.Parcels.{Sent, texts_in}
-use Rattle.device_model.specs.Devices.{sent_texts, PutsTexts, IsFound, IfTaken, IfIdle}
+use Rattle.device_model.specs.Devices.{as_sent, sent_as, PutsAs, IsFound, IfTaken, IfIdle}
 use Rattle.device_model.specs.declared.gathered.Gathered.{Gathered}
 use Rattle.device_model.specs.declared.gathered.Gathered.TheVariants as found
+use Rattle.device_model.proofs.Forwarding.{as-one}
 use Rattle.device_model.proofs.Puts.{sends-loosened}
 use Rattle.any_wire.specs.Texts.{Sending, joined, IsSending}
 use Rattle.any_wire.proofs.Texts.{wire_fresh, wire_longer, wire_sent, wire_cut, wire_idle}
+use Rattle.session_serve.specs.Forms.{each_as_sent}
 use Rattle.session_serve.specs.Whole.{SentWhole, KeepsWhole, SendsMore, raised, whole_bytes_of}
+use Rattle.session_serve.proofs.Forms.{each-length, each-none, each-more}
 
 -- a put for each byte
 bytewise : List ℕ → List WireStep
@@ -96,7 +99,7 @@ module _ {W : Type 0} (put_may : W → Bor (List ℕ) → (W × Bool) → Type 0
         (nothing_more more new);
   }
 
-  whole-none : (wire : W) → SentWhole put_may flush_may false [] 0 wire wire
+  whole-none : (wire : W) → SentWhole put_may flush_may false [] [] 0 wire wire
   whole-none wire = record {
     whole = 0;
     are_whole = refl;
@@ -105,45 +108,51 @@ module _ {W : Type 0} (put_may : W → Bor (List ℕ) → (W × Bool) → Type 0
   }
 
   -- one text more, behind which something has failed or not
-  pub whole-one : (failed now : Bool) (texts : List (List ℕ)) (text : List ℕ) (bytes more : ℕ) (start old new : W)
+  pub whole-one : (failed now : Bool) (sents texts : List (List ℕ)) (sent text : List ℕ) (bytes more : ℕ)
+      (start old new : W) → length sents ≡ length texts
       → (now ≡ false → more ≡ length text) → (now ≡ true → more ≡ 0)
-      → SentWhole put_may flush_may failed texts bytes start old → Sends put_may flush_may failed now text old new
-      → SentWhole put_may flush_may now (texts ++ text ∷ []) (raised bytes more) start new
-  whole-one true now texts text bytes more start old new all none was put =
+      → SentWhole put_may flush_may failed sents texts bytes start old → Sends put_may flush_may failed now sent old new
+      → SentWhole put_may flush_may now (sents ++ sent ∷ []) (texts ++ text ∷ []) (raised bytes more) start new
+  whole-one true now sents texts sent text bytes more start old new as_many all none was put =
       let stays = chain_stays put.steps now old new put.chain in
       let few : was.whole ≤ length texts = was.are_whole in
-      let here : SentWhole put_may flush_may true (texts ++ text ∷ []) (raised bytes more) start old = record {
+      let front : was.whole ≤ length sents = omega (arith, few, as_many) in
+      let here : SentWhole put_may flush_may true (sents ++ sent ∷ []) (texts ++ text ∷ []) (raised bytes more) start
+      old = record {
         whole = was.whole;
         are_whole = omega (arith, few, length-append texts (text ∷ []));
-        grew = wire_longer sends is_sending true was.whole (length texts) texts text start old few
+        grew = wire_longer sends is_sending true was.whole (length sents) sents sent start old front
             (omega arith) was.grew;
         bytes_are = ap (raised bytes) (none stays.1) ∙ raised_none bytes _ was.bytes_are ∙ was.bytes_are
             ∙ ap (λ (ts : List (List ℕ)). raised 0 (length (joined ts)))
             (sym (take-append-le was.whole texts (text ∷ []) few));
       } in
-      subst (λ (w : W). SentWhole put_may flush_may now (texts ++ text ∷ []) (raised bytes more) start w) (sym stays.0)
-      (subst (λ (b : Bool). SentWhole put_may flush_may b (texts ++ text ∷ []) (raised bytes more) start old)
-      (sym stays.1) here)
-  whole-one false true texts text bytes more start old new all none was put =
+      subst (λ (w : W). SentWhole put_may flush_may now (sents ++ sent ∷ []) (texts ++ text ∷ []) (raised bytes more)
+      start w) (sym stays.0)
+      (subst (λ (b : Bool). SentWhole put_may flush_may b (sents ++ sent ∷ []) (texts ++ text ∷ []) (raised bytes more)
+      start old) (sym stays.1) here)
+  whole-one false true sents texts sent text bytes more start old new as_many all none was put =
       let is : was.whole ≡ length texts = was.are_whole in
-      let longer = wire_longer sends is_sending false was.whole (length texts) texts text start old is
+      let front : was.whole ≡ length sents = is ∙ sym as_many in
+      let longer = wire_longer sends is_sending false was.whole (length sents) sents sent start old front
       (omega arith) was.grew in
-      let at : slice_get (texts ++ text ∷ []) was.whole ≡ Some text =
-      subst (λ n. slice_get (texts ++ text ∷ []) n ≡ Some text) (sym is) (last_at texts text) in
+      let at : slice_get (sents ++ sent ∷ []) was.whole ≡ Some sent =
+      subst (λ n. slice_get (sents ++ sent ∷ []) n ≡ Some sent) (sym front) (last_at sents sent) in
       record {
         whole = was.whole;
         are_whole = omega (arith, is, length-append texts (text ∷ []));
-        grew = wire_cut sends is_sending was.whole (texts ++ text ∷ []) text start old new at longer put;
+        grew = wire_cut sends is_sending was.whole (sents ++ sent ∷ []) sent start old new at longer put;
         bytes_are = ap (raised bytes) (none refl) ∙ raised_none bytes _ was.bytes_are ∙ was.bytes_are
             ∙ ap (λ (ts : List (List ℕ)). raised 0 (length (joined ts)))
             (sym (take-append-le was.whole texts (text ∷ []) (omega (arith, is))));
       }
-  whole-one false false texts text bytes more start old new all none was put =
+  whole-one false false sents texts sent text bytes more start old new as_many all none was put =
       let is : was.whole ≡ length texts = was.are_whole in
-      let longer = wire_longer sends is_sending false was.whole (length texts) texts text start old is
+      let last : was.whole ≡ length sents = is ∙ sym as_many in
+      let longer = wire_longer sends is_sending false was.whole (length sents) sents sent start old last
       (omega arith) was.grew in
-      let at : slice_get (texts ++ text ∷ []) was.whole ≡ Some text =
-      subst (λ n. slice_get (texts ++ text ∷ []) n ≡ Some text) (sym is) (last_at texts text) in
+      let at : slice_get (sents ++ sent ∷ []) was.whole ≡ Some sent =
+      subst (λ n. slice_get (sents ++ sent ∷ []) n ≡ Some sent) (sym last) (last_at sents sent) in
       let front : take was.whole texts ≡ texts = ap (λ n. take n texts) is ∙ take-length texts in
       let taken : take (was.whole + 1) (texts ++ text ∷ []) ≡ texts ++ text ∷ [] =
       ap (λ n. take (n + 1) (texts ++ text ∷ [])) is ∙ take_all_more texts text in
@@ -152,129 +161,143 @@ module _ {W : Type 0} (put_may : W → Bor (List ℕ) → (W × Bool) → Type 0
       record {
         whole = was.whole + 1;
         are_whole = omega (arith, is, length-append texts (text ∷ []));
-        grew = wire_sent sends is_sending was.whole (texts ++ text ∷ []) text start old new at longer put;
+        grew = wire_sent sends is_sending was.whole (sents ++ sent ∷ []) sent start old new at longer put;
         bytes_are = ap (raised bytes) (all refl) ∙ raised_more bytes (length (joined texts)) (length text) count
             ∙ ap (raised 0) (sym (joined_more texts text)) ∙ ap (λ (ts : List (List ℕ)). raised 0 (length (joined ts)))
             (sym taken);
       }
 
   -- the wire was flushed
-  pub whole-flush : (failed now : Bool) (texts : List (List ℕ)) (bytes : ℕ) (start old new : W)
-      → SentWhole put_may flush_may failed texts bytes start old
-      → Flushes flush_may failed now old new → SentWhole put_may flush_may now texts bytes start new
-  whole-flush true now texts bytes start old new was flush =
-      subst (λ (w : W). SentWhole put_may flush_may now texts bytes start w) (sym flush.0)
-      (subst (λ (b : Bool). SentWhole put_may flush_may b texts bytes start old) (sym flush.1) was)
-  whole-flush false true texts bytes start old new was flush = record {
+  pub whole-flush : (failed now : Bool) (sents texts : List (List ℕ)) (bytes : ℕ) (start old new : W)
+      → SentWhole put_may flush_may failed sents texts bytes start old
+      → Flushes flush_may failed now old new → SentWhole put_may flush_may now sents texts bytes start new
+  whole-flush true now sents texts bytes start old new was flush =
+      subst (λ (w : W). SentWhole put_may flush_may now sents texts bytes start w) (sym flush.0)
+      (subst (λ (b : Bool). SentWhole put_may flush_may b sents texts bytes start old) (sym flush.1) was)
+  whole-flush false true sents texts bytes start old new was flush = record {
     whole = was.whole;
     are_whole = omega (arith, was.are_whole);
-    grew = wire_idle sends is_sending true was.whole texts start old new was.grew
+    grew = wire_idle sends is_sending true was.whole sents start old new was.grew
         (sends-flush put_may flush_may false true old new flush);
     bytes_are = was.bytes_are;
   }
-  whole-flush false false texts bytes start old new was flush = record {
+  whole-flush false false sents texts bytes start old new was flush = record {
     whole = was.whole;
     are_whole = was.are_whole;
-    grew = wire_idle sends is_sending false was.whole texts start old new was.grew
+    grew = wire_idle sends is_sending false was.whole sents start old new was.grew
         (sends-flush put_may flush_may false false old new flush);
     bytes_are = was.bytes_are;
   }
 
+module _
+    {W : Type 0}
+    (mtu : Option ℕ)
+    (put_may : W → Bor (List ℕ) → (W × Bool) → Type 0)
+    (flush_may : W → (W × Bool) → Type 0) where
+  -- so it is of replies, each as it is sent
+  abbrev pub SentAll : Bool → List Sent → ℕ → W → W → Type 0
+  SentAll failed replies bytes old new =
+      SentWhole put_may flush_may failed (each_as_sent mtu replies) (texts_in replies) bytes old new
+
   pub whole-start : (failed : Bool) (posted : List Sent) (bytes : ℕ) (wire : W) → failed ≡ false → posted ≡ []
-      → bytes ≡ 0 → SentWhole put_may flush_may failed (texts_in posted) bytes wire wire
+      → bytes ≡ 0 → SentAll failed posted bytes wire wire
   whole-start failed posted bytes wire flag none zero =
-      subst (λ (b : Bool). SentWhole put_may flush_may b (texts_in posted) bytes wire wire) (sym flag)
-      (subst (λ (xs : List Sent). SentWhole put_may flush_may false (texts_in xs) bytes wire wire) (sym none)
-      (subst (λ n. SentWhole put_may flush_may false [] n wire wire) (sym zero) (whole-none wire)))
+      subst (λ (b : Bool). SentAll b posted bytes wire wire) (sym flag)
+      (subst (λ (xs : List Sent). SentAll false xs bytes wire wire) (sym none)
+      (subst (λ n. SentAll false [] n wire wire) (sym zero)
+      (subst (λ (sents : List (List ℕ)). SentWhole put_may flush_may false sents [] 0 wire wire) (sym (each-none mtu))
+      (whole-none put_may flush_may wire))))
 
   pub whole-more : (failed now : Bool) (before after : List Sent) (bytes more sum : ℕ) (start old new : W)
-      → SentWhole put_may flush_may failed (texts_in before) bytes start old
-      → SendsMore put_may flush_may failed now before after more old new → sum ≡ raised bytes more
-      → SentWhole put_may flush_may now (texts_in after) sum start new
+      → SentAll failed before bytes start old
+      → SendsMore mtu put_may flush_may failed now before after more old new → sum ≡ raised bytes more
+      → SentAll now after sum start new
   whole-more failed now before after bytes more sum start old new was sends is =
-      subst (λ n. SentWhole put_may flush_may now (texts_in after) n start new) (sym is) (sends bytes start was)
+      subst (λ n. SentAll now after n start new) (sym is) (sends bytes start was)
 
   -- nothing more was sent, and last the wire was flushed
   pub whole-closed : (failed between now : Bool) (before after : List Sent) (bytes shown : ℕ) (start old mid new : W)
-      → SentWhole put_may flush_may failed (texts_in before) bytes start old
-      → SendsMore put_may flush_may failed between before after 0 old mid → Flushes flush_may between now mid new
-      → shown ≡ bytes → SentWhole put_may flush_may now (texts_in after) shown start new
+      → SentAll failed before bytes start old
+      → SendsMore mtu put_may flush_may failed between before after 0 old mid → Flushes flush_may between now mid new
+      → shown ≡ bytes → SentAll now after shown start new
   whole-closed failed between now before after bytes shown start old mid new was none flush is =
-      subst (λ n. SentWhole put_may flush_may now (texts_in after) n start new) (sym is)
-      (whole-flush between now (texts_in after) bytes start mid new
-      (subst (λ n. SentWhole put_may flush_may between (texts_in after) n start mid) (raised_none bytes _ was.bytes_are)
+      subst (λ n. SentAll now after n start new) (sym is)
+      (whole-flush put_may flush_may between now (each_as_sent mtu after) (texts_in after) bytes start mid new
+      (subst (λ n. SentAll between after n start mid) (raised_none bytes _ was.bytes_are)
       (none bytes start was)) flush)
 
   -- the same of other replies with the same texts
   pub whole-posted : (failed : Bool) (posted same : List Sent) (bytes : ℕ) (old new : W) → same ≡ posted
-      → SentWhole put_may flush_may failed (texts_in same) bytes old new
-      → SentWhole put_may flush_may failed (texts_in posted) bytes old new
+      → SentAll failed same bytes old new → SentAll failed posted bytes old new
   whole-posted failed posted same bytes old new is whole =
-      subst (λ (ps : List Sent). SentWhole put_may flush_may failed (texts_in ps) bytes old new) is whole
+      subst (λ (ps : List Sent). SentAll failed ps bytes old new) is whole
 
   -- more is counted on top of what was kept
   pub keeps-on : (failed between now : Bool) (before middle after : List Sent) (bytes counted more shown sum : ℕ)
-      (old mid new : W) → KeepsWhole put_may flush_may failed between before middle bytes counted old mid
-      → SendsMore put_may flush_may between now middle after more mid new → shown ≡ more → sum ≡ raised counted shown
-      → KeepsWhole put_may flush_may failed now before after bytes sum old new
+      (old mid new : W) → KeepsWhole mtu put_may flush_may failed between before middle bytes counted old mid
+      → SendsMore mtu put_may flush_may between now middle after more mid new → shown ≡ more
+      → sum ≡ raised counted shown → KeepsWhole mtu put_may flush_may failed now before after bytes sum old new
   keeps-on failed between now before middle after bytes counted more shown sum old mid new first then
       is sum_is start was =
-      subst (λ n. SentWhole put_may flush_may now (texts_in after) n start new) (sym (sum_is ∙ ap (raised counted) is))
+      subst (λ n. SentAll now after n start new) (sym (sum_is ∙ ap (raised counted) is))
       (then counted start (first start was))
 
   -- one reply more was taken
   reply-more : (failed now : Bool) (before after : List Sent) (reply : Sent) (more : ℕ) (old new : W) → after ≡ before
       ++ reply ∷ [] → (now ≡ false → more ≡ length reply.text) → (now ≡ true → more ≡ 0)
-      → PutsTexts put_may failed now before after old new → SendsMore put_may flush_may failed now before after more old
-      new
+      → PutsAs mtu put_may failed now before after old new
+      → SendsMore mtu put_may flush_may failed now before after more old new
   reply-more failed now before after reply more old new is all none put bytes start was =
       let one : put.taken ≡ reply ∷ [] = append_cancel_left before put.taken (reply ∷ []) (sym put.in_order ∙ is) in
-      let text : sent_texts put.taken ≡ reply.text = ap sent_texts one ∙ append-nil reply.text in
-      let sent : Sends put_may flush_may failed now reply.text old new =
-      sends-same put_may flush_may failed now (sent_texts put.taken) reply.text old new text
-      (sends-loosened put_may flush_may failed now (sent_texts put.taken) old new put.sends) in
-      let texts : texts_in before ++ reply.text ∷ [] ≡ texts_in after =
-      sym (map-append (λ (parcel : Sent). parcel.text) before (reply ∷ [])) ∙ ap texts_in (sym is) in
-      subst (λ (ts : List (List ℕ)). SentWhole put_may flush_may now ts (raised bytes more) start new) texts
-      (whole-one failed now (texts_in before) reply.text bytes more start old new all none was sent)
+      let form : sent_as mtu put.taken ≡ as_sent mtu reply = ap (sent_as mtu) one ∙ as-one mtu reply in
+      let sent : Sends put_may flush_may failed now (as_sent mtu reply) old new =
+      sends-same put_may flush_may failed now (sent_as mtu put.taken) (as_sent mtu reply) old new form
+      (sends-loosened put_may flush_may failed now (sent_as mtu put.taken) old new put.sends) in
+      let texts : texts_in before ++ reply.text ∷ [] ≡ texts_in (before ++ reply ∷ []) =
+      sym (map-append (λ (parcel : Sent). parcel.text) before (reply ∷ [])) in
+      subst (λ (xs : List Sent). SentAll now xs (raised bytes more) start new) (sym is)
+      (subst (λ (sents : List (List ℕ)). SentWhole put_may flush_may now sents (texts_in (before ++ reply ∷ []))
+      (raised bytes more) start new) (sym (each-more mtu before reply))
+      (subst (λ (ts : List (List ℕ)). SentWhole put_may flush_may now
+      (each_as_sent mtu before ++ as_sent mtu reply ∷ []) ts (raised bytes more) start new) texts
+      (whole-one put_may flush_may failed now (each_as_sent mtu before) (texts_in before) (as_sent mtu reply) reply.text
+      bytes more start old new (each-length mtu before) all none was sent)))
 
   pub more-as : (failed other now then : Bool) (before front after all : List Sent) (more shown : ℕ) (old new : W)
       → failed ≡ other → now ≡ then → before ≡ front → after ≡ all → more ≡ shown
-      → SendsMore put_may flush_may failed now before after more old new → SendsMore put_may flush_may other then
-      front all shown old new
+      → SendsMore mtu put_may flush_may failed now before after more old new
+      → SendsMore mtu put_may flush_may other then front all shown old new
   more-as failed other now then before front after all more shown old new f n b a m sends =
-      subst (λ (x : Bool). SendsMore put_may flush_may x then front all shown old new) f
-      (subst (λ (x : Bool). SendsMore put_may flush_may failed x front all shown old new) n
-      (subst (λ (xs : List Sent). SendsMore put_may flush_may failed now xs all shown old new) b
-      (subst (λ (xs : List Sent). SendsMore put_may flush_may failed now before xs shown old new) a
-      (subst (λ k. SendsMore put_may flush_may failed now before after k old new) m sends))))
+      subst (λ (x : Bool). SendsMore mtu put_may flush_may x then front all shown old new) f
+      (subst (λ (x : Bool). SendsMore mtu put_may flush_may failed x front all shown old new) n
+      (subst (λ (xs : List Sent). SendsMore mtu put_may flush_may failed now xs all shown old new) b
+      (subst (λ (xs : List Sent). SendsMore mtu put_may flush_may failed now before xs shown old new) a
+      (subst (λ k. SendsMore mtu put_may flush_may failed now before after k old new) m sends))))
 
   -- none was
   pub none-more : (before after : List Sent) (failed now : Bool) (old new : W) → after ≡ before → now ≡ failed
-      → new ≡ old → SendsMore put_may flush_may failed now before after 0 old new
+      → new ≡ old → SendsMore mtu put_may flush_may failed now before after 0 old new
   none-more before after failed now old new replies flag wire bytes start was =
-      subst (λ (w : W). SentWhole put_may flush_may now (texts_in after) (raised bytes 0) start w) (sym wire)
-      (subst (λ (b : Bool). SentWhole put_may flush_may b (texts_in after) (raised bytes 0) start old) (sym flag)
-      (subst (λ (xs : List Sent). SentWhole put_may flush_may failed (texts_in xs) (raised bytes 0) start old)
-      (sym replies)
-      (subst (λ n. SentWhole put_may flush_may failed (texts_in before) n start old)
-      (sym (raised_none bytes _ was.bytes_are)) was)))
+      subst (λ (w : W). SentAll now after (raised bytes 0) start w) (sym wire)
+      (subst (λ (b : Bool). SentAll b after (raised bytes 0) start old) (sym flag)
+      (subst (λ (xs : List Sent). SentAll failed xs (raised bytes 0) start old) (sym replies)
+      (subst (λ n. SentAll failed before n start old) (sym (raised_none bytes _ was.bytes_are)) was)))
 
   flush-more : (failed now : Bool) (before after : List Sent) (old new : W) → after ≡ before
-      → Flushes flush_may failed now old new → SendsMore put_may flush_may failed now before after 0 old new
+      → Flushes flush_may failed now old new → SendsMore mtu put_may flush_may failed now before after 0 old new
   flush-more failed now before after old new same flush bytes start was =
-      subst (λ (xs : List Sent). SentWhole put_may flush_may now (texts_in xs) (raised bytes 0) start new) (sym same)
-      (subst (λ n. SentWhole put_may flush_may now (texts_in before) n start new)
-      (sym (raised_none bytes _ was.bytes_are))
-      (whole-flush failed now (texts_in before) bytes start old new was flush))
+      subst (λ (xs : List Sent). SentAll now xs (raised bytes 0) start new) (sym same)
+      (subst (λ n. SentAll now before n start new) (sym (raised_none bytes _ was.bytes_are))
+      (whole-flush put_may flush_may failed now (each_as_sent mtu before) (texts_in before) bytes start old new was
+      flush))
 
   module _ {g : Ghosts Sent} where
     -- what one call of a device did
     pub gathered-more : (what : Gathered) (failed now : Bool) (old new : DeviceEnd Sent g) (wire after : W)
         → IsFound what now old new
-        → IfTaken what (PutsTexts put_may failed now (completed old) (completed new) wire after)
+        → IfTaken what (PutsAs mtu put_may failed now (completed old) (completed new) wire after)
         → IfIdle what (Flushes flush_may failed now wire after)
-        → SendsMore put_may flush_may failed now (completed old) (completed new) (whole_bytes_of what) wire after
+        → SendsMore mtu put_may flush_may failed now (completed old) (completed new) (whole_bytes_of what) wire after
     gathered-more (found.Sent call bytes) failed now old new wire after is put flush =
         reply-more failed now (completed old) (completed new) is.1.reply bytes wire after is.1.completed_is
         (λ no. is.1.bytes_is) (λ yes. let never : true ≡ false = sym yes ∙ is.0 in absurd (cc)) put

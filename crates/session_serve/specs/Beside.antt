@@ -12,7 +12,7 @@ use Rattle.any_wire.specs.Sends.{Flushes}
 use Rattle.tx_ring.specs.Shown.{closed_ring, closed_view}
 use Rattle.tx_ring.specs.declared.closed.ClosedDriver.{ClosedDriver}
 use Rattle.reply_planner.specs.Parcels.{Sent}
-use Rattle.device_model.specs.Devices.{Forwards}
+use Rattle.device_model.specs.Devices.{ForwardsAs}
 use Rattle.session_pass.specs.Calls.{KeepsAll, CallPosts, CallRefused}
 use Rattle.session_pass.specs.Views.{SessionView}
 use Rattle.pin_dump.specs.Dumps.{DumpView}
@@ -56,18 +56,22 @@ pub record RanToTheEnd {P : Type 0} (z : Sizes) (shards : ℕ) (first : SessionV
   pub posted : (closed_view closed).posted ≡ session.posted
   pub dump : DumpCame shards asked taken first.pass.list mine
 
-module _ {W : Type 0} (put_may : W → Bor (List ℕ) → (W × Bool) → Type 0) (flush_may : W → (W × Bool) → Type 0) where
+module _
+    {W : Type 0}
+    (mtu : Option ℕ)
+    (put_may : W → Bor (List ℕ) → (W × Bool) → Type 0)
+    (flush_may : W → (W × Bool) → Type 0) where
   -- some replies more were completed and put, and their bytes were counted, where they were put whole
   pub record ForwardsMore (failed now : Bool) (before after : List Sent) (bytes counted : ℕ)
       (old new : W) : Type 0 where
-    pub forwards : Forwards put_may flush_may failed now before after old new
-    pub whole : KeepsWhole put_may flush_may failed now before after bytes counted old new
+    pub forwards : ForwardsAs mtu put_may flush_may failed now before after old new
+    pub whole : KeepsWhole mtu put_may flush_may failed now before after bytes counted old new
 
   -- some replies more were completed and put, and last of all the wire was flushed, where nothing has failed
   pub record ForwardsOut (failed now : Bool) (before after : List Sent) (bytes counted : ℕ) (old new : W) : Type 0 where
     pub between : Bool
     pub middle : W
-    pub forwards : Forwards put_may flush_may failed between before after old middle
+    pub forwards : ForwardsAs mtu put_may flush_may failed between before after old middle
     pub flushed : Flushes flush_may between now middle new
     -- and their bytes were counted, where they were put whole
-    pub whole : KeepsWhole put_may flush_may failed now before after bytes counted old new
+    pub whole : KeepsWhole mtu put_may flush_may failed now before after bytes counted old new

@@ -4,3 +4,4 @@ pub mod Working
 pub mod Dumps
 pub mod Served
 pub mod Beside
+pub mod Forms

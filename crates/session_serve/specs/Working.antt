@@ -24,6 +24,7 @@ use Rattle.serve_model.specs.Demand.{stage_row}
 use Rattle.serve_model.specs.Going as model
 use Rattle.serve_model.specs.Runs.{Run, session_of}
 use Rattle.session_pass.specs.Kept.{holds_paid}
+use Rattle.session_serve.specs.Forms.{AreNumberedByPlace}
 use Rattle.session_pass.specs.Views.{SessionView}
 
 -- The session has made no call, its seat claimed and holds its stage alone, and its source gave nothing.
@@ -69,6 +70,7 @@ pub record IsWorking (z : Sizes) (shards : ℕ) (first : SessionView) (origin : 
     (given : List Command) (calls : List Outcomes) (session : SessionView) (pump : PumpState) : Type 0 where
   pub pump_is : IsPump origin before given pump
   pub count : length session.posted ≡ length given
+  pub numbered : AreNumberedByPlace session.posted
   pub going : model.IsGoing z shards first.pass.list.number given calls (texts_in session.posted)
       (holds_paid session.posted) session.pass.list.told first.pass.seat session.pass.seat
   pub same : IsSame first session
@@ -104,6 +106,7 @@ pub record HasStopped (z : Sizes) (shards : ℕ) (first : SessionView) (origin :
       (texts_in session.posted) (holds_paid session.posted) session.pass.list.told first.pass.seat session.pass.seat
   pub is_session : (failed : Bool) → IsSession (session_of pump.given pump.ended
       (run_of commands calls behind session.pass.list.looks how pump.taken (length session.posted) failed))
+  pub numbered : AreNumberedByPlace session.posted
   pub same : IsSame first session
 
 -- What is left when all its replies were given back: its seat has no hold but those that it had besides its stage.

@@ -2,6 +2,7 @@
 ghost use Rattle.std.specs.Prelude.{◌≡◌, ◌≢◌, [], true, false, None, IfOk, IfErr};
 ghost use Rattle.command_pump.specs.Pump.{EndFaults, ended_at};
 ghost use Rattle.tx_ring.specs.Shown.{closed_ring, closed_view, device_ring, completed, ended};
+ghost use Rattle.device_model.specs.Devices.{CanFrame};
 ghost use Rattle.session_serve.specs.Beside.{ForwardsOut, RanToTheEnd};
 ghost use Rattle.session_serve.specs.Dumps.{CanTake, DumpCame};
 ghost use Rattle.session_serve.specs.Served.{IsServed, HasServed};
@@ -31,6 +32,7 @@ use std::thread::Threads;
 /// session's device puts the replies meanwhile, on a thread of its own; where none can be started for it, each reply is
 /// put before the next command is read. Last the wire is flushed. After a failed put or flush nothing more is put, and
 /// all commands are still run. The dump that the session is asked for is taken behind the gate of its call, or last.
+/// Where the line has a bound, a reply is put as its frames of at most so many bytes.
 pub fn serve_beside<
     R: Threads + Wait + Sync,
     N: BookName,
@@ -57,7 +59,8 @@ pub fn serve_beside<
     requires unfailed { line.device.failed ≡ false }
     requires plan { CanTake P.sizes N.sizes.shards line.dump.plan }
     requires untried { line.dump.taken ≡ None }
-    ensures served { IsServed (λ w p r. PUT.post put.now w p r) (λ w r. FLUSH.post flush.now w r) P.sizes
+    requires mtu { CanFrame line.mtu }
+    ensures served { IsServed line.mtu (λ w p r. PUT.post put.now w p r) (λ w r. FLUSH.post flush.now w r) P.sizes
         N.sizes.shards line.session result.1.pump.given result.1.pump.ended result.1.end result.1.sent
         result.1.mine result.1.seat wire result.0 }
     ensures origin { result.1.pump.origin ≡ line.pump.origin }
@@ -73,6 +76,7 @@ pub fn serve_beside<
         pump,
         device,
         dump,
+        mtu,
     } = line;
     let session_side = SessionSide {
         session,
@@ -86,7 +90,8 @@ pub fn serve_beside<
         sent: 0,
         helped: false,
     };
-    serve_sides(rt, alloc, shop, session_side, gate, device_side, put, flush)
+    let calls = Calls { put, flush, mtu };
+    serve_sides(rt, alloc, shop, session_side, gate, device_side, &calls)
 }
 
 // The two sides run beside each other, or where that can't be they take turns.
@@ -106,27 +111,32 @@ fn serve_sides<
     session_side: SessionSide<N, P, S>,
     gate: &G,
     device_side: DeviceSide<P, W>,
-    put: &PUT,
-    flush: &FLUSH,
+    calls: &Calls<'_, PUT, FLUSH>,
 ) -> (W, Account<N, P, S>)
-    requires calls { PUT.IsAlwaysCallable put.now × FLUSH.IsAlwaysCallable flush.now }
+    requires calls { PUT.IsAlwaysCallable calls.now.put.now × FLUSH.IsAlwaysCallable calls.now.flush.now }
+    requires mtu { CanFrame calls.now.mtu }
     requires fresh { IsFresh P.sizes session_side.session session_side.pump }
     requires ring { device_ring device_side.device.end ≡ session_side.session.ring }
     requires unfailed { device_side.device.failed ≡ false }
     requires plan { CanTake P.sizes N.sizes.shards session_side.dump.plan }
     requires untried { session_side.dump.taken ≡ None }
     requires none { (completed device_side.device.end ≡ []) × (device_side.sent ≡ 0) }
-    ensures { HasServed (λ w p r. PUT.post put.now w p r) (λ w r. FLUSH.post flush.now w r) P.sizes N.sizes.shards
-        session_side.session session_side.pump session_side.dump.plan device_side.wire result.1.end result.1.sent
-        result.1.mine result.1.seat result.1.pump result.1.dump result.0 }
+    ensures { HasServed calls.now.mtu (λ w p r. PUT.post calls.now.put.now w p r)
+        (λ w r. FLUSH.post calls.now.flush.now w r) P.sizes N.sizes.shards session_side.session session_side.pump
+        session_side.dump.plan device_side.wire result.1.end result.1.sent result.1.mine result.1.seat result.1.pump
+        result.1.dump result.0 }
 {
-    let calls = Calls { put, flush };
-    let ((went, came), _) = both_sides(rt, alloc, shop, session_side, gate, device_side, calls);
+    let wiring = Calls {
+        put: calls.put,
+        flush: calls.flush,
+        mtu: calls.mtu,
+    };
+    let ((went, came), _) = both_sides(rt, alloc, shop, session_side, gate, device_side, wiring);
     match came {
         Ok(ended) => match went {
             Ok(device_side) => settled(ended, device_side),
             Err(device_side) => {
-                let device_side = device_side.forward_all(rt, shop.pool, &Calls { put, flush });
+                let device_side = device_side.forward_all(rt, shop.pool, calls);
                 settled(ended, device_side)
             }
         },
@@ -136,7 +146,7 @@ fn serve_sides<
                 laws::both_ends(&mut session_side.session, &mut device_side.device);
                 unreachable!()
             }
-            Err(device_side) => take_turns(rt, shop, session_side, gate, device_side, put, flush),
+            Err(device_side) => take_turns(rt, shop, session_side, gate, device_side, calls),
         },
     }
 }
@@ -172,9 +182,9 @@ fn both_sides<
     requires plan { CanTake P.sizes N.sizes.shards session_side.dump.plan }
     requires untried { session_side.dump.taken ≡ None }
     ensures out { IfOk result.0.0 (λ o. (device_ring o.device.end ≡ device_ring device_side.device.end)
-        × (ended o.device.end ≡ true) × ForwardsOut (Q.put_may wiring) (Q.flush_may wiring) device_side.device.failed
-        o.device.failed (completed device_side.device.end) (completed o.device.end) device_side.sent o.sent
-        device_side.wire o.wire) }
+        × (ended o.device.end ≡ true) × ForwardsOut (Q.mtu wiring) (Q.put_may wiring) (Q.flush_may wiring)
+        device_side.device.failed o.device.failed (completed device_side.device.end) (completed o.device.end)
+        device_side.sent o.sent device_side.wire o.wire) }
     ensures idle { IfErr result.0.0 (λ o. o ≡ device_side) }
     ensures ran { IfOk result.0.1
         (λ e. RanToTheEnd P.sizes N.sizes.shards session_side.session session_side.pump session_side.dump.plan e.end
@@ -236,7 +246,7 @@ fn together<
     requires untried { session_side.dump.taken ≡ None }
     requires start { (place.now.device_side ≡ device_side) × (place.now.wiring ≡ wiring.now) }
     ensures out { IfOk result.0 (λ o. (device_ring o.device.end ≡ device_ring device_side.device.end)
-        × (ended o.device.end ≡ true) × ForwardsOut (Q.put_may wiring.now) (Q.flush_may wiring.now)
+        × (ended o.device.end ≡ true) × ForwardsOut (Q.mtu wiring.now) (Q.put_may wiring.now) (Q.flush_may wiring.now)
         device_side.device.failed o.device.failed (completed device_side.device.end) (completed o.device.end)
         device_side.sent o.sent
         device_side.wire o.wire) }
@@ -252,7 +262,7 @@ fn together<
         move || -> Result<DeviceSide<P, W>, DeviceSide<P, W>>
             requires { Q.ready wiring.now × (place.now.device_side ≡ device_side) × (place.now.wiring ≡ wiring.now) }
             ensures { IfOk result (λ o. (device_ring o.device.end ≡ device_ring device_side.device.end)
-                × (ended o.device.end ≡ true) × ForwardsOut (Q.put_may wiring.entry.now)
+                × (ended o.device.end ≡ true) × ForwardsOut (Q.mtu wiring.entry.now) (Q.put_may wiring.entry.now)
                 (Q.flush_may wiring.entry.now) device_side.device.failed o.device.failed
                 (completed device_side.device.end)
                 (completed o.device.end) device_side.sent o.sent device_side.wire o.wire)
@@ -286,18 +296,19 @@ fn take_turns<
     session_side: SessionSide<N, P, S>,
     gate: &G,
     device_side: DeviceSide<P, W>,
-    put: &PUT,
-    flush: &FLUSH,
+    calls: &Calls<'_, PUT, FLUSH>,
 ) -> (W, Account<N, P, S>)
-    requires calls { PUT.IsAlwaysCallable put.now × FLUSH.IsAlwaysCallable flush.now }
+    requires calls { PUT.IsAlwaysCallable calls.now.put.now × FLUSH.IsAlwaysCallable calls.now.flush.now }
+    requires mtu { CanFrame calls.now.mtu }
     requires fresh { IsFresh P.sizes session_side.session session_side.pump }
     requires ring { device_ring device_side.device.end ≡ session_side.session.ring }
     requires unfailed { device_side.device.failed ≡ false }
     requires plan { CanTake P.sizes N.sizes.shards session_side.dump.plan }
     requires untried { session_side.dump.taken ≡ None }
-    ensures { HasServed (λ w p r. PUT.post put.now w p r) (λ w r. FLUSH.post flush.now w r) P.sizes N.sizes.shards
-        session_side.session session_side.pump session_side.dump.plan device_side.wire result.1.end result.1.sent
-        result.1.mine result.1.seat result.1.pump result.1.dump result.0 }
+    ensures { HasServed calls.now.mtu (λ w p r. PUT.post calls.now.put.now w p r)
+        (λ w r. FLUSH.post calls.now.flush.now w r) P.sizes N.sizes.shards session_side.session session_side.pump
+        session_side.dump.plan device_side.wire result.1.end result.1.sent result.1.mine result.1.seat result.1.pump
+        result.1.dump result.0 }
 {
     let SessionSide {
         session,
@@ -316,8 +327,9 @@ fn take_turns<
         pump,
         device,
         dump,
+        mtu: calls.mtu,
     };
-    serve_in_turns(rt, shop, line, room, gate, wire, put, flush)
+    serve_in_turns(rt, shop, line, room, gate, wire, calls.put, calls.flush)
 }
 
 // With both ends of the ring at hand.

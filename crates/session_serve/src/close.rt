@@ -38,6 +38,7 @@ impl<N: BookName, P: PoolName + Send, S: Source> Line<N, P, S> {
             pump,
             mut device,
             dump,
+            mtu: _,
         } = self;
         let DumpTurn { taken, .. } = dump;
         let replies = session.calls();

@@ -7,6 +7,7 @@ ghost use Rattle.session_serve.specs.Beside.{ForwardsMore, ForwardsOut};
 
 use crate::backoff::Backoff;
 use crate::counting::{counted, whole_bytes};
+use crate::gather::gather_next;
 use crate::lending::DeviceSlot;
 use crate::start_barrier::StartBarrier;
 use crate::wiring::Wiring;
@@ -50,7 +51,7 @@ impl<P: PoolName + Send, W: Drop> DeviceSide<P, W> {
         requires { Q.ready wiring.now }
         ensures ring { device_ring result.device.end ≡ device_ring self.device.end }
         ensures ended { ended result.device.end ≡ true }
-        ensures out { ForwardsOut (Q.put_may wiring.now) (Q.flush_may wiring.now) self.device.failed
+        ensures out { ForwardsOut (Q.mtu wiring.now) (Q.put_may wiring.now) (Q.flush_may wiring.now) self.device.failed
             result.device.failed (completed self.device.end) (completed result.device.end) self.sent result.sent
             self.wire result.wire }
     {
@@ -72,13 +73,13 @@ impl<P: PoolName + Send, W: Drop> DeviceSide<P, W> {
     pub fn round<Q: Wiring<W>>(self, pool: &Pool<P>, wiring: &Q) -> (Self, Round)
         requires { Q.ready wiring.now }
         ensures ring { device_ring result.0.device.end ≡ device_ring self.device.end }
-        ensures more { ForwardsMore (Q.put_may wiring.now) (Q.flush_may wiring.now) self.device.failed
-            result.0.device.failed (completed self.device.end) (completed result.0.device.end) self.sent result.0.sent
-            self.wire result.0.wire }
+        ensures more { ForwardsMore (Q.mtu wiring.now) (Q.put_may wiring.now) (Q.flush_may wiring.now)
+            self.device.failed result.0.device.failed (completed self.device.end) (completed result.0.device.end)
+            self.sent result.0.sent self.wire result.0.wire }
         ensures closed { result.1 ≡ Round.Closed → (ended result.0.device.end ≡ true)
-            × ForwardsOut (Q.put_may wiring.now) (Q.flush_may wiring.now) self.device.failed result.0.device.failed
-            (completed self.device.end) (completed result.0.device.end) self.sent result.0.sent self.wire
-            result.0.wire }
+            × ForwardsOut (Q.mtu wiring.now) (Q.put_may wiring.now) (Q.flush_may wiring.now)
+            self.device.failed result.0.device.failed (completed self.device.end) (completed result.0.device.end)
+            self.sent result.0.sent self.wire result.0.wire }
     {
         let DeviceSide {
             mut device,
@@ -128,7 +129,7 @@ impl<P: PoolName + Send, W: Drop> DeviceSide<P, W> {
         requires start { (place.now.device_side ≡ self) × (place.now.wiring ≡ wiring.now) }
         ensures ring { IfOk result (λ o. device_ring o.device.end ≡ device_ring self.device.end) }
         ensures ended { IfOk result (λ o. ended o.device.end ≡ true) }
-        ensures out { IfOk result (λ o. ForwardsOut (Q.put_may wiring.now) (Q.flush_may wiring.now)
+        ensures out { IfOk result (λ o. ForwardsOut (Q.mtu wiring.now) (Q.put_may wiring.now) (Q.flush_may wiring.now)
             self.device.failed o.device.failed (completed self.device.end) (completed o.device.end) self.sent o.sent
             self.wire o.wire) }
         ensures back { IfErr result (λ o. o ≡ self) }
@@ -155,14 +156,16 @@ fn gathered<P: PoolName + Send, W: Drop, Q: Wiring<W>>(
     requires { Q.ready wiring.now }
     ensures ring { device_ring device.new.end ≡ device_ring device.old.end }
     ensures found { IsFound result.1 device.new.failed device.old.end device.new.end }
-    ensures more { ForwardsMore (Q.put_may wiring.now) (Q.flush_may wiring.now) device.old.failed device.new.failed
-        (completed device.old.end) (completed device.new.end) sent.old sent.new wire result.0 }
+    ensures more { ForwardsMore (Q.mtu wiring.now) (Q.put_may wiring.now) (Q.flush_may wiring.now) device.old.failed
+        device.new.failed (completed device.old.end) (completed device.new.end) sent.old sent.new wire result.0 }
     ensures flushed { IfIdle result.1
         (Flushes (Q.flush_may wiring.now) device.old.failed device.new.failed wire result.0) }
 {
-    let (wire, found) = device.gather(
+    let (wire, found) = gather_next(
+        device,
         pool,
         wire,
+        wiring.mtu(),
         &|wire: W, piece: &[u8]| -> (W, bool)
             requires { Q.ready wiring.now }
             ensures { Q.put_may wiring.entry.now wire piece.entry result }
@@ -188,9 +191,9 @@ fn tended<R: Wait, P: PoolName + Send, W: Drop, Q: Wiring<W>>(
     requires same { place.now.wiring ≡ wiring.now }
     ensures ring { device_ring result.device.end ≡ device_ring place.now.device_side.device.end }
     ensures ended { ended result.device.end ≡ true }
-    ensures out { ForwardsOut (Q.put_may wiring.now) (Q.flush_may wiring.now) place.now.device_side.device.failed
-        result.device.failed (completed place.now.device_side.device.end) (completed result.device.end)
-        place.now.device_side.sent result.sent place.now.device_side.wire result.wire }
+    ensures out { ForwardsOut (Q.mtu wiring.now) (Q.put_may wiring.now) (Q.flush_may wiring.now)
+        place.now.device_side.device.failed result.device.failed (completed place.now.device_side.device.end)
+        (completed result.device.end) place.now.device_side.sent result.sent place.now.device_side.wire result.wire }
 {
     let mut backoff = Backoff::long();
     for _ in rt.forever() {

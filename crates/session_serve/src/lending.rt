@@ -18,11 +18,9 @@ impl<P: PoolName + Send, W, Q: Wiring<W>> Fits<Start<DeviceSide<P, W>, Q>> for D
     ghost use Rattle.session_serve.specs.Beside.{ForwardsMore};
 
     ghost fits = { λ start now. (device_ring now.device.end ≡ device_ring start.device_side.device.end)
-        × ForwardsMore (Q.put_may start.wiring) (Q.flush_may start.wiring) start.device_side.device.failed
-        now.device.failed
-        (completed start.device_side.device.end) (completed now.device.end) start.device_side.sent now.sent
-        start.device_side.wire
-        now.wire };
+        × ForwardsMore (Q.mtu start.wiring) (Q.put_may start.wiring) (Q.flush_may start.wiring)
+        start.device_side.device.failed now.device.failed (completed start.device_side.device.end)
+        (completed now.device.end) start.device_side.sent now.sent start.device_side.wire now.wire };
 }
 
 pub(crate) type DeviceSlot<P, W, Q> = HandoverSlot<DeviceSide<P, W>, Start<DeviceSide<P, W>, Q>>;

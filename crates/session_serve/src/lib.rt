@@ -7,6 +7,7 @@ mod close;
 mod counting;
 mod device_side;
 mod dump;
+mod gather;
 pub mod laws;
 mod lending;
 mod line;

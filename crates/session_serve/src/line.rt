@@ -19,6 +19,8 @@ where
     pub pump: Pump<S>,
     pub device: Device<P>,
     pub dump: DumpTurn<P>,
+    /// Replies are put as frames of at most so many bytes, if there is a bound.
+    pub mtu: Option<u16>,
 }
 
 /// What a served session leaves.

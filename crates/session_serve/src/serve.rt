@@ -2,6 +2,7 @@
 ghost use Rattle.std.specs.Prelude.{◌≡◌, ◌≢◌, false, None};
 ghost use Rattle.command_pump.specs.Pump.{EndFaults};
 ghost use Rattle.tx_ring.specs.Shown.{device_ring};
+ghost use Rattle.device_model.specs.Devices.{CanFrame};
 ghost use Rattle.session_serve.specs.Dumps.{CanTake, DumpCame};
 ghost use Rattle.session_serve.specs.Served.{IsServed};
 ghost use Rattle.session_serve.specs.Working.{IsFresh};
@@ -18,7 +19,8 @@ use std::sync::Wait;
 
 /// Runs the commands of a source in order, each behind the gate, and puts each reply before the next command is read,
 /// to the source's end or until memory is wanting; then the wire is flushed. After a failed put or flush nothing more
-/// is put, and all commands are still run. The dump is taken before its call, or last.
+/// is put, and all commands are still run. The dump is taken before its call, or last. Where the line has a bound, a
+/// reply is put as its frames of at most so many bytes.
 pub(crate) fn serve_in_turns<
     R: Wait,
     N: BookName,
@@ -44,7 +46,8 @@ pub(crate) fn serve_in_turns<
     requires unfailed { line.device.failed ≡ false }
     requires plan { CanTake P.sizes N.sizes.shards line.dump.plan }
     requires untried { line.dump.taken ≡ None }
-    ensures served { IsServed (λ w p r. PUT.post put.now w p r) (λ w r. FLUSH.post flush.now w r) P.sizes
+    requires mtu { CanFrame line.mtu }
+    ensures served { IsServed line.mtu (λ w p r. PUT.post put.now w p r) (λ w r. FLUSH.post flush.now w r) P.sizes
         N.sizes.shards line.session result.1.pump.given result.1.pump.ended result.1.end result.1.sent
         result.1.mine result.1.seat wire result.0 }
     ensures origin { result.1.pump.origin ≡ line.pump.origin }

@@ -5,7 +5,7 @@ ghost use Rattle.flake_model.specs.Command.{Command as Meaning};
 ghost use Rattle.call_model.specs.Outcomes.{Outcomes};
 ghost use Rattle.command_pump.specs.Pump.{Origin};
 ghost use Rattle.tx_ring.specs.Shown.{completed};
-ghost use Rattle.device_model.specs.Devices.{Forwards};
+ghost use Rattle.device_model.specs.Devices.{CanFrame, ForwardsAs};
 ghost use Rattle.session_pass.specs.Views.{SessionView};
 ghost use Rattle.session_serve.specs.Dumps.{CanTake, IsInTime, Stands, as_seeing};
 ghost use Rattle.session_serve.specs.Whole.{SendsMore};
@@ -13,6 +13,7 @@ ghost use Rattle.session_serve.specs.Working.{IsGathered, IsReady, IsWorking, Ca
 ghost use Rattle.session_serve.specs.declared.dump.DumpPlan.{DumpPlan as Asked};
 
 use crate::counting::whole_bytes;
+use crate::gather::gather_next;
 use crate::line::Line;
 use crate::room::Room;
 use command_exec::Shop;
@@ -45,6 +46,8 @@ impl<N: BookName, P: PoolName + Send, S: Source> Line<N, P, S> {
         requires gathered { IsGathered self.old.session self.old.device.end }
         requires ready { IsReady self.old.session }
         requires plan { CanTake P.sizes N.sizes.shards self.old.dump.plan }
+        requires mtu { CanFrame self.old.mtu }
+        ensures mtu { self.new.mtu ≡ self.old.mtu }
         ensures plan { CanTake P.sizes N.sizes.shards self.new.dump.plan }
         ensures stands { (asked : Option (Asked P)) (first : SessionList)
             → Stands N.sizes.shards asked self.old.dump.plan self.old.dump.taken first self.old.session.pass.list
@@ -55,13 +58,13 @@ impl<N: BookName, P: PoolName + Send, S: Source> Line<N, P, S> {
             → IsInTime asked self.old.dump.plan (length self.old.session.posted)
             → IsInTime asked self.new.dump.plan (length self.new.session.posted)) }
         ensures gathered { IsGathered self.new.session self.new.device.end }
-        ensures forwards { Forwards (λ w p r. PUT.post put.now w p r) (λ w r. FLUSH.post flush.now w r)
+        ensures forwards { ForwardsAs self.old.mtu (λ w p r. PUT.post put.now w p r) (λ w r. FLUSH.post flush.now w r)
             self.old.device.failed self.new.device.failed self.old.session.posted self.new.session.posted wire
             result.0 }
-        ensures sent { IfOk result.1 (λ bytes. SendsMore (λ w p r. PUT.post put.now w p r)
+        ensures sent { IfOk result.1 (λ bytes. SendsMore self.old.mtu (λ w p r. PUT.post put.now w p r)
             (λ w r. FLUSH.post flush.now w r) self.old.device.failed self.new.device.failed self.old.session.posted
             self.new.session.posted bytes wire result.0) }
-        ensures none_sent { OnErr result.1 (SendsMore (λ w p r. PUT.post put.now w p r)
+        ensures none_sent { OnErr result.1 (SendsMore self.old.mtu (λ w p r. PUT.post put.now w p r)
             (λ w r. FLUSH.post flush.now w r) self.old.device.failed self.new.device.failed self.old.session.posted
             self.new.session.posted 0 wire result.0) }
         ensures unstopped { OnOk result.1 (self.new.session.stopped ≡ self.old.session.stopped) }
@@ -105,21 +108,23 @@ impl<N: BookName, P: PoolName + Send, S: Source> Line<N, P, S> {
     ) -> (W, u64)
         requires calls { PUT.IsAlwaysCallable put.now × FLUSH.IsAlwaysCallable flush.now }
         requires one { HasOneMore self.old.session self.old.device.end }
+        requires mtu { CanFrame self.old.mtu }
+        ensures mtu { self.new.mtu ≡ self.old.mtu }
         ensures gathered { IsGathered self.new.session self.new.device.end }
         ensures session { self.new.session
             ≡ record self.old.session { told = length self.old.session.posted } }
         ensures pump { self.new.pump ≡ self.old.pump }
         ensures dump { self.new.dump ≡ self.old.dump }
-        ensures forwards { Forwards (λ w p r. PUT.post put.now w p r) (λ w r. FLUSH.post flush.now w r)
+        ensures forwards { ForwardsAs self.old.mtu (λ w p r. PUT.post put.now w p r) (λ w r. FLUSH.post flush.now w r)
             self.old.device.failed self.new.device.failed (completed self.old.device.end) self.old.session.posted wire
             result.0 }
-        ensures sent { SendsMore (λ w p r. PUT.post put.now w p r) (λ w r. FLUSH.post flush.now w r)
+        ensures sent { SendsMore self.old.mtu (λ w p r. PUT.post put.now w p r) (λ w r. FLUSH.post flush.now w r)
             self.old.device.failed self.new.device.failed (completed self.old.device.end) self.old.session.posted
             result.1 wire result.0 }
     {
         // The device is told what was posted, and then the session what was gathered.
         laws::both_ends(&mut self.session, &mut self.device);
-        let (wire, found) = self.device.gather(shop.pool, wire, put, flush);
+        let (wire, found) = gather_next(&mut self.device, shop.pool, wire, self.mtu, put, flush);
         laws::both_ends(&mut self.session, &mut self.device);
         (wire, whole_bytes(found))
     }

@@ -100,7 +100,10 @@ module _ (N P : RattleType) (book : Book N.Denot) (pool : Pool P.Denot) (n : IsS
             search (sendable, crosses, pump.the_send),
             (
               search (sendable, crosses, device.the_send),
-              (turn-sends, tt),
+              (
+                turn-sends,
+                (search (sendable, crosses, option-sends), tt),
+              ),
             ),
           ),
         )

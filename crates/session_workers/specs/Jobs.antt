@@ -11,6 +11,7 @@ use Rattle.tx_descriptor.specs.declared.framed.Framed.{Ghosts}
 use Rattle.tx_ring.specs.Shown.{device_ring}
 use Rattle.tx_ring.specs.declared.device.DeviceEnd.{DeviceEnd}
 use Rattle.reply_planner.specs.Parcels.{Sent}
+use Rattle.device_model.specs.Devices.{CanFrame}
 use Rattle.session_pass.specs.Views.{SessionView}
 use Rattle.session_serve.specs.Working.{IsFresh}
 use Rattle.session_serve.specs.Served.{IsServed}
@@ -18,7 +19,7 @@ use Rattle.session_serve.specs.Wires.{SendsOut}
 use Rattle.session_serve.specs.Dumps.{CanTake}
 use Rattle.session_serve.specs.declared.dump.DumpPlan.{DumpPlan}
 use Rattle.dump_model.specs.Seen.{HasSeen}
-use Rattle.pin_dump.specs.Dumps.{DumpView, IsEmptied, IsSameSeat}
+use Rattle.pin_dump.specs.Dumps.{DumpView, IsEmptied}
 use Rattle.session_workers.specs.declared.job.Dumped.{Dumped}
 
 -- a dump that is asked for has its wire
@@ -31,11 +32,12 @@ HasDumpWire (Some plan) (Some wire) = Unit {0}
 module _ {g : Ghosts Sent} where
   -- nothing was done yet, and the session's ring is the device's
   pub record IsNewJob {P W : Type 0} (z : Sizes) (shards : ℕ) (session : SessionView) (pump : PumpState)
-      (device : DeviceEnd Sent g) (failed : Bool) (plan : Option (DumpPlan P)) (taken : Option (Result DumpView View))
-      (dump_wire : Option W) : Type 0 where
+      (device : DeviceEnd Sent g) (failed : Bool) (mtu : Option ℕ) (plan : Option (DumpPlan P))
+      (taken : Option (Result DumpView View)) (dump_wire : Option W) : Type 0 where
     pub fresh : IsFresh z session pump
     pub ring : device_ring device ≡ session.ring
     pub unfailed : failed ≡ false
+    pub can_frame : CanFrame mtu
     pub can_take : CanTake z shards plan
     pub untried : taken ≡ None
     pub wired : HasDumpWire plan dump_wire
@@ -88,13 +90,18 @@ module _ {W : Type 0} (put_may : W → Bor (List ℕ) → (W × Bool) → Type 0
       IsDumpedBy dumped.taken shards plan.before mine old dumped.points.items dumped.bytes dumped.failed dumped.wire
       × IsGivenBack plan.seat dumped.seat
 
+module _
+    {W : Type 0}
+    (mtu : Option ℕ)
+    (put_may : W → Bor (List ℕ) → (W × Bool) → Type 0)
+    (flush_may : W → (W × Bool) → Type 0) where
   -- what became of a session
   pub record IsDone {P : Type 0} (z : Sizes) (shards : ℕ) (session : SessionView) (pump : PumpState)
       (plan : Option (DumpPlan P)) (old : W) (dump_wire : Option W) (end : SessionEnd) (bytes : ℕ)
       (mine : SessionList) (seat : View) (left : PumpState) (new : W) (dumped : Option (Dumped P W)) : Type 0 where
-    pub served : IsServed put_may flush_may z shards session left.given left.ended end bytes mine seat old new
+    pub served : IsServed mtu put_may flush_may z shards session left.given left.ended end bytes mine seat old new
     pub origin : left.origin ≡ pump.origin
     pub reads : EndFaults end.end pump.faults left.faults
     pub to_the_end : end.end ≢ Left
     pub credits : seat.credits ≡ session.opened.credits
-    pub dump : IsDumped shards plan dump_wire session.pass.list mine dumped
+    pub dump : IsDumped put_may flush_may shards plan dump_wire session.pass.list mine dumped

@@ -39,8 +39,8 @@ pub fn serve_all<
     requires calls { PUT.IsAlwaysCallable put.now × FLUSH.IsAlwaysCallable flush.now }
     requires workers { (0 < workers) × (workers ≤ 16) }
     requires fresh { All (λ job. IsNewJob P.sizes N.sizes.shards job.line.session job.line.pump job.line.device.end
-        job.line.device.failed job.line.dump.plan job.line.dump.taken job.dump_wire) jobs.items }
-    ensures served { IfOk result (λ dones. AllZip (λ job done. IsDone (λ w p r. PUT.post put.now w p r)
+        job.line.device.failed job.line.mtu job.line.dump.plan job.line.dump.taken job.dump_wire) jobs.items }
+    ensures served { IfOk result (λ dones. AllZip (λ job done. IsDone job.line.mtu (λ w p r. PUT.post put.now w p r)
         (λ w r. FLUSH.post flush.now w r) P.sizes N.sizes.shards job.line.session job.line.pump job.line.dump.plan
         job.wire job.dump_wire done.account.end done.account.sent done.account.mine done.account.seat
         done.account.pump done.wire done.dump) jobs.items dones.items) }
@@ -53,12 +53,12 @@ pub fn serve_all<
         workers,
         &|job: Job<N, P, S, W>| -> Done<N, P, S, W>
             requires { IsNewJob P.sizes N.sizes.shards job.line.session job.line.pump job.line.device.end
-                job.line.device.failed job.line.dump.plan job.line.dump.taken job.dump_wire
+                job.line.device.failed job.line.mtu job.line.dump.plan job.line.dump.taken job.dump_wire
                 × (PUT.IsAlwaysCallable put.now × FLUSH.IsAlwaysCallable flush.now) }
-            ensures { IsDone (λ w p r. PUT.post put.entry.now w p r) (λ w r. FLUSH.post flush.entry.now w r) P.sizes
-                N.sizes.shards job.line.session job.line.pump job.line.dump.plan job.wire job.dump_wire
-                result.account.end result.account.sent result.account.mine result.account.seat result.account.pump
-                result.wire result.dump }
+            ensures { IsDone job.line.mtu (λ w p r. PUT.post put.entry.now w p r)
+                (λ w r. FLUSH.post flush.entry.now w r) P.sizes N.sizes.shards job.line.session job.line.pump
+                job.line.dump.plan job.wire job.dump_wire result.account.end result.account.sent result.account.mine
+                result.account.seat result.account.pump result.wire result.dump }
         { serve_job(rt, alloc, shop, job, gate, put, flush) },
     );
     match served {
@@ -137,9 +137,9 @@ pub fn serve_job<
 ) -> Done<N, P, S, W>
     requires calls { PUT.IsAlwaysCallable put.now × FLUSH.IsAlwaysCallable flush.now }
     requires fresh { IsNewJob P.sizes N.sizes.shards job.line.session job.line.pump job.line.device.end
-        job.line.device.failed job.line.dump.plan job.line.dump.taken job.dump_wire }
-    ensures { IsDone (λ w p r. PUT.post put.now w p r) (λ w r. FLUSH.post flush.now w r) P.sizes N.sizes.shards
-        job.line.session job.line.pump job.line.dump.plan job.wire job.dump_wire result.account.end
+        job.line.device.failed job.line.mtu job.line.dump.plan job.line.dump.taken job.dump_wire }
+    ensures { IsDone job.line.mtu (λ w p r. PUT.post put.now w p r) (λ w r. FLUSH.post flush.now w r) P.sizes
+        N.sizes.shards job.line.session job.line.pump job.line.dump.plan job.wire job.dump_wire result.account.end
         result.account.sent result.account.mine result.account.seat result.account.pump result.wire result.dump }
 {
     let Job {

@@ -1,5 +1,5 @@
 //! What words ask to serve, and to check.
-use crate::typing::typed;
+use crate::typing::{are_words, typed};
 use flake_base::Memory;
 use serve_words::{
     CheckTask, CommandName, DriveTask, ServeTask, Sizes, check_task, command_name, drive_task,
@@ -10,7 +10,7 @@ use std::process::Abort;
 use std::test::Fail;
 
 /// The sizes of a command without options.
-const USUAL: Sizes = Sizes {
+pub const USUAL: Sizes = Sizes {
     shards: 8,
     small: 4096,
     large: 1024,
@@ -178,19 +178,6 @@ fn asked<'a>(alloc: Global, words: &'a [String]) -> Result<Option<ServeTask<'a>>
     serve_task(alloc, words)
 }
 
-// The words of the line are these.
-fn are_words(found: &[&str], line: &str) -> bool {
-    if found.len() != line.split('|').count() {
-        return false;
-    }
-    for (found, word) in found.iter().zip(line.split('|')) {
-        if *found != word {
-            return false;
-        }
-    }
-    true
-}
-
 fn check_accepted(
     rt: &impl Abort,
     alloc: Global,
@@ -316,12 +303,15 @@ fn bad_words_of_a_drive(rt: HostRuntime) -> Result<(), Fail> {
 }
 
 /// First words, and the commands that they name.
-static NAMES: [(&str, CommandName); 8] = [
+static NAMES: [(&str, CommandName); 11] = [
     ("check|j", CommandName::Check),
     ("serve|check", CommandName::Serve),
     ("gen|7", CommandName::Gen),
     ("join|64", CommandName::Join),
     ("drive|s", CommandName::Drive),
+    ("frames|64", CommandName::Frames),
+    ("Frames", CommandName::Serve),
+    ("frame", CommandName::Serve),
     ("Gen", CommandName::Serve),
     ("Check", CommandName::Serve),
     ("checks", CommandName::Serve),

@@ -9,3 +9,16 @@ pub fn typed(alloc: Global, line: &str) -> Result<Vec<String>, Fail> {
     }
     Ok(words)
 }
+
+/// The words of the line are these.
+pub fn are_words(found: &[&str], line: &str) -> bool {
+    if found.len() != line.split('|').count() {
+        return false;
+    }
+    for (found, word) in found.iter().zip(line.split('|')) {
+        if *found != word {
+            return false;
+        }
+    }
+    true
+}

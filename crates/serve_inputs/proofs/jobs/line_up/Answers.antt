@@ -20,9 +20,10 @@ loop-slot-init g c =
       all = gives.0;
       left = omega (arith, gives.1, long, c.args.slots.ok.0);
       fresh = all_of_none c.args.jobs.items (λ job. IsNewJob g.P.PoolName.sizes g.N.BookName.sizes.shards
-          job.line.session job.line.pump job.line.device.end job.line.device.failed job.line.dump.plan
+          job.line.session job.line.pump job.line.device.end job.line.device.failed job.line.mtu job.line.dump.plan
           job.line.dump.taken job.dump_wire) none;
       unasked = all_of_none c.args.jobs.items (λ job. job.line.dump.plan ≡ None) none;
+      mtus = all_of_none c.args.jobs.items (λ job. job.line.mtu ≡ c.args.mtu) none;
       sessions = rw none refl;
       names = rw none (ap (map (λ s. g.S.Source.name s)) sources);
       wholes = rw none (ap (map (λ s. g.S.Source.whole s)) sources);
@@ -56,9 +57,10 @@ loop-slot-preserved g c =
       all = given_on c.loop-slot.yielded _ _ _ _ before.all steps.0;
       left = omega (arith, before.left, steps.1, ap length steps.0);
       fresh = all_more jobs _ _ (λ job. IsNewJob z shards job.line.session job.line.pump job.line.device.end
-          job.line.device.failed job.line.dump.plan job.line.dump.taken job.dump_wire) items before.fresh
-          (new_job z shards slot.session slot.device.end slot.device.failed c.new-pump.result _ _ _ _ None is
-          c.new-pump.ensures.pump own.0 own.2 c.new-dump.ensures.plan c.new-dump.ensures.taken refl);
+          job.line.device.failed job.line.mtu job.line.dump.plan job.line.dump.taken job.dump_wire) items before.fresh
+          (new_job z shards slot.session slot.device.end slot.device.failed _ c.new-pump.result _ _ _ _ None is
+          c.new-pump.ensures.pump own.0 own.2 c.new-dump.ensures.plan c.new-dump.ensures.taken refl c.requires.mtu);
+      mtus = all_more jobs _ _ (λ job. job.line.mtu ≡ c.args.mtu) items before.mtus refl;
       unasked = all_more jobs _ _ (λ job. job.line.dump.plan ≡ None) items before.unasked c.new-dump.ensures.plan;
       sessions = both_more jobs _ _ c.loop-slot.yielded slot (λ job. job.line.session)
           (λ d. d.session) items

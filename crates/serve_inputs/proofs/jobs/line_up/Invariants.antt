@@ -7,8 +7,10 @@ use Rattle.serve_inputs.proofs.jobs.line_up.Given as goal
 abbrev pub invariant-loop-slot : goal.invariant-loop-slot
 invariant-loop-slot g l = record {
   fresh : All (λ job. IsNewJob g.P.PoolName.sizes g.N.BookName.sizes.shards job.line.session job.line.pump
-      job.line.device.end job.line.device.failed job.line.dump.plan job.line.dump.taken job.dump_wire) l.jobs.items;
+      job.line.device.end job.line.device.failed job.line.mtu job.line.dump.plan job.line.dump.taken job.dump_wire)
+      l.jobs.items;
   unasked : All (λ job. job.line.dump.plan ≡ None) l.jobs.items;
+  mtus : All (λ job. job.line.mtu ≡ l.fn.mtu) l.jobs.items;
   sessions : map (λ job. job.line.session) l.jobs.items ≡ map (λ d. d.session) l.yielded;
   names : map (λ job. job.line.pump.origin.name) l.jobs.items
       ++ map (λ s. g.S.Source.name s) (into_iter_items l.more_sources)

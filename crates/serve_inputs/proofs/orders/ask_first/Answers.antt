@@ -17,9 +17,9 @@ returns-clause-fresh g c =
     let can = subst (λ order. IfSome order (λ o. CanKeepAll z shards o.plan.seat)) c.in-Some.is c.requires.order in
     first_all c.args.jobs.now.items c.remove-job.new.self.items c.insert.new.self.items c.remove-job.result _
     (λ job. IsNewJob z shards job.line.session job.line.pump job.line.device.end job.line.device.failed
-    job.line.dump.plan job.line.dump.taken job.dump_wire) c.requires.one c.remove-job.ensures.value
+    job.line.mtu job.line.dump.plan job.line.dump.taken job.dump_wire) c.requires.one c.remove-job.ensures.value
     c.remove-job.ensures.items c.in-Ok.ensures.items c.requires.fresh
-    (λ is. asked_job z shards _ _ _ _ _ _ _ _ _ c.in-Some.order.plan c.in-Some.order.wire is can c.new.ensures.plan
+    (λ is. asked_job z shards _ _ _ _ _ _ _ _ _ _ c.in-Some.order.plan c.in-Some.order.wire is can c.new.ensures.plan
     c.new.ensures.taken)
 
 pub returns-clause-asked : goal.returns-clause-asked

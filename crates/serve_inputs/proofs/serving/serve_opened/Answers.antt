@@ -8,7 +8,7 @@ use Rattle.run_resources.proofs.Lists.{count_of, same_count, count_past, count_a
 use Rattle.run_resources.specs.Opened.{IsSessionSlot}
 use Rattle.run_resources.proofs.SessionSlots.{slot_credits}
 use Rattle.serve_inputs.proofs.Dumping.{came_back, room_for}
-use Rattle.serve_inputs.proofs.Places.{can_keep, stays, length_behind}
+use Rattle.serve_inputs.proofs.Places.{can_keep, each_as, stays, length_behind}
 use Rattle.serve_inputs.proofs.Whole.{ran_all, names_kept, wholes_kept, all_reads, all_ended, numbers_are}
 use Rattle.serve_inputs.proofs.Whole.{credits_are, as_many}
 use Rattle.serve_inputs.proofs.serving.serve_opened.Goals as goal
@@ -23,7 +23,7 @@ returns-clause-ran g c =
     let rest = c.first_dumped-dumped.new.dones.items in
     let sessions = c.ask_first.ensures.sessions
     ∙ c.line_up-jobs.ensures.sessions in
-    let all = as_many _ _ _ _ z shards _ _ _ _ _ _ _ _ _ _ _ _ c.serve_jobs-dones.ensures in
+    let all = as_many _ _ _ _ z shards _ _ _ _ _ _ _ _ _ _ _ _ _ c.serve_jobs-dones.ensures in
     let wires = ap (λ l. l ++ into_iter_items c.line_up-jobs.result.1) c.ask_first.ensures.wires
     ∙ c.line_up-jobs.ensures.wires in
     let behind = c.bring_in-ends.ensures.wires
@@ -39,7 +39,7 @@ returns-clause-ran g c =
     let lined_up = same_count jobs c.args.resources.slots.items _ _ sessions ∙ slots ∙ count in
     let old_count = length-map jobs (λ j. j.wire) ∙ lined_up in
     let new_count = length-map dones (λ d. d.wire) ∙ all ∙ lined_up in
-    let back = came_back _ _ z shards _ _ _ _ _ _ _ _ _ _ _ _ c.args.sizes.now.dump
+    let back = came_back _ _ z shards _ _ _ _ _ _ _ _ _ _ _ _ _ c.args.sizes.now.dump
     (c.args.sizes.now.shards * (c.args.sizes.now.small + c.args.sizes.now.large) + 4) _ _ _ _ _ _ _ _ _ _ _ _
     c.split_order-order.result jobs dones c.serve_jobs-dones.ensures old_count new_count wires behind
     c.split_order-order.ensures.main.0 seats c.split_order-order.ensures.none c.split_order-order.ensures.before
@@ -47,7 +47,7 @@ returns-clause-ran g c =
     c.first_dumped-dumped.ensures.first c.put_back-dump.ensures.none c.put_back-dump.ensures.dump
     c.put_back-dump.ensures.seat c.put_back-dump.ensures.wires in
     let long = length-map _ _ ∙ c.close_all-journal.ensures.shards in
-    ran_all _ _ _ _ z _ shards _ _ _ _ _ _ _ _ _ _ _ _ _ _ _ _ _ _ _ _ _ _ _ _ _ _ c.serve_jobs-dones.ensures
+    ran_all _ _ _ _ z _ shards _ _ _ _ _ _ _ _ _ _ _ _ _ _ _ _ _ _ _ _ _ _ _ _ _ _ _ _ c.serve_jobs-dones.ensures
     c.requires.pool (numbers_are _ _ _ _ _ sessions c.requires.numbers)
     (c.bring_in-ends.ensures.lists ∙ stays rest dones (λ d. d.account) (λ a. a.mine)
     c.first_dumped-dumped.ensures.accounts)
@@ -58,6 +58,7 @@ returns-clause-ran g c =
     c.first_dumped-dumped.ensures.accounts)
     ends (c.bring_in-ends.ensures.sent ∙ stays rest dones (λ d. d.account) (λ a. a.sent)
     c.first_dumped-dumped.ensures.accounts)
+    (each_as jobs lined (λ j. j.line.mtu) c.args.sizes.now.mtu c.ask_first.ensures.mtus c.line_up-jobs.ensures.mtus)
 
 pub returns-clause-names : goal.returns-clause-names
 returns-clause-names g c =
@@ -69,8 +70,8 @@ returns-clause-names g c =
     let rest = c.first_dumped-dumped.new.dones.items in
     let sessions = c.ask_first.ensures.sessions
     ∙ c.line_up-jobs.ensures.sessions in
-    let all = as_many _ _ _ _ z shards _ _ _ _ _ _ _ _ _ _ _ _ c.serve_jobs-dones.ensures in
-    names_kept _ _ _ _ z shards _ _ _ _ _ _ _ _ _ _ _ _ _ _ c.serve_jobs-dones.ensures
+    let all = as_many _ _ _ _ z shards _ _ _ _ _ _ _ _ _ _ _ _ _ c.serve_jobs-dones.ensures in
+    names_kept _ _ _ _ z shards _ _ _ _ _ _ _ _ _ _ _ _ _ _ _ c.serve_jobs-dones.ensures
     (stays jobs lined (λ j. j.line.pump) (λ p. p.origin.name) c.ask_first.ensures.pumps ∙ c.line_up-jobs.ensures.names)
     (c.bring_in-ends.ensures.names ∙ stays rest dones (λ d. d.account) (λ a. a.pump.origin.name)
     c.first_dumped-dumped.ensures.accounts)
@@ -85,8 +86,8 @@ returns-clause-wholes g c =
     let rest = c.first_dumped-dumped.new.dones.items in
     let sessions = c.ask_first.ensures.sessions
     ∙ c.line_up-jobs.ensures.sessions in
-    let all = as_many _ _ _ _ z shards _ _ _ _ _ _ _ _ _ _ _ _ c.serve_jobs-dones.ensures in
-    wholes_kept _ _ _ _ z shards _ _ _ _ _ _ _ _ _ _ _ _ _ _ c.serve_jobs-dones.ensures
+    let all = as_many _ _ _ _ z shards _ _ _ _ _ _ _ _ _ _ _ _ _ c.serve_jobs-dones.ensures in
+    wholes_kept _ _ _ _ z shards _ _ _ _ _ _ _ _ _ _ _ _ _ _ _ c.serve_jobs-dones.ensures
     (stays jobs lined (λ j. j.line.pump) (λ p. p.origin.whole) c.ask_first.ensures.pumps ∙
     c.line_up-jobs.ensures.wholes)
     (c.bring_in-ends.ensures.wholes ∙ stays rest dones (λ d. d.account) (λ a. a.pump.origin.whole)
@@ -102,8 +103,8 @@ returns-clause-reads g c =
     let rest = c.first_dumped-dumped.new.dones.items in
     let sessions = c.ask_first.ensures.sessions
     ∙ c.line_up-jobs.ensures.sessions in
-    let all = as_many _ _ _ _ z shards _ _ _ _ _ _ _ _ _ _ _ _ c.serve_jobs-dones.ensures in
-    all_reads _ _ _ _ z shards _ _ _ _ _ _ _ _ _ _ _ _ _ _ _ c.serve_jobs-dones.ensures
+    let all = as_many _ _ _ _ z shards _ _ _ _ _ _ _ _ _ _ _ _ _ c.serve_jobs-dones.ensures in
+    all_reads _ _ _ _ z shards _ _ _ _ _ _ _ _ _ _ _ _ _ _ _ _ c.serve_jobs-dones.ensures
     (stays jobs lined (λ j. j.line.pump) (λ p. p.faults) c.ask_first.ensures.pumps ∙ c.line_up-jobs.ensures.faults)
     (c.bring_in-ends.ensures.faults ∙ stays rest dones (λ d. d.account) (λ a. a.pump.faults)
     c.first_dumped-dumped.ensures.accounts)
@@ -120,8 +121,8 @@ returns-clause-to_the_end g c =
     let rest = c.first_dumped-dumped.new.dones.items in
     let sessions = c.ask_first.ensures.sessions
     ∙ c.line_up-jobs.ensures.sessions in
-    let all = as_many _ _ _ _ z shards _ _ _ _ _ _ _ _ _ _ _ _ c.serve_jobs-dones.ensures in
-    all_ended _ _ _ _ z shards _ _ _ _ _ _ _ _ _ _ _ _ _ c.serve_jobs-dones.ensures
+    let all = as_many _ _ _ _ z shards _ _ _ _ _ _ _ _ _ _ _ _ _ c.serve_jobs-dones.ensures in
+    all_ended _ _ _ _ z shards _ _ _ _ _ _ _ _ _ _ _ _ _ _ c.serve_jobs-dones.ensures
     (c.bring_in-ends.ensures.ends ∙ stays rest dones (λ d. d.account) (λ a. a.end)
     c.first_dumped-dumped.ensures.accounts)
 
@@ -171,7 +172,7 @@ bring_in-ends-requires-clause-ends g c =
     let lined = same_count c.line_up-jobs.result.0.items c.args.resources.slots.items _ _
     c.line_up-jobs.ensures.sessions in
     let jobs = same_count c.ask_first.new.jobs.items c.line_up-jobs.result.0.items _ _ c.ask_first.ensures.sessions in
-    let dones = as_many _ _ _ _ g.P.PoolName.sizes g.N.BookName.sizes.shards _ _ _ _ _ _ _ _ _ _ _ _
+    let dones = as_many _ _ _ _ g.P.PoolName.sizes g.N.BookName.sizes.shards _ _ _ _ _ _ _ _ _ _ _ _ _
     c.serve_jobs-dones.ensures in
     let rest = same_count c.first_dumped-dumped.new.dones.items c.serve_jobs-dones.result.items _ _
     c.first_dumped-dumped.ensures.accounts in
@@ -183,7 +184,7 @@ bring_in-ends-requires-clause-sent g c =
     let lined = same_count c.line_up-jobs.result.0.items c.args.resources.slots.items _ _
     c.line_up-jobs.ensures.sessions in
     let jobs = same_count c.ask_first.new.jobs.items c.line_up-jobs.result.0.items _ _ c.ask_first.ensures.sessions in
-    let dones = as_many _ _ _ _ g.P.PoolName.sizes g.N.BookName.sizes.shards _ _ _ _ _ _ _ _ _ _ _ _
+    let dones = as_many _ _ _ _ g.P.PoolName.sizes g.N.BookName.sizes.shards _ _ _ _ _ _ _ _ _ _ _ _ _
     c.serve_jobs-dones.ensures in
     let rest = same_count c.first_dumped-dumped.new.dones.items c.serve_jobs-dones.result.items _ _
     c.first_dumped-dumped.ensures.accounts in
@@ -195,7 +196,7 @@ bring_in-ends-requires-clause-lists g c =
     let lined = same_count c.line_up-jobs.result.0.items c.args.resources.slots.items _ _
     c.line_up-jobs.ensures.sessions in
     let jobs = same_count c.ask_first.new.jobs.items c.line_up-jobs.result.0.items _ _ c.ask_first.ensures.sessions in
-    let dones = as_many _ _ _ _ g.P.PoolName.sizes g.N.BookName.sizes.shards _ _ _ _ _ _ _ _ _ _ _ _
+    let dones = as_many _ _ _ _ g.P.PoolName.sizes g.N.BookName.sizes.shards _ _ _ _ _ _ _ _ _ _ _ _ _
     c.serve_jobs-dones.ensures in
     let rest = same_count c.first_dumped-dumped.new.dones.items c.serve_jobs-dones.result.items _ _
     c.first_dumped-dumped.ensures.accounts in
@@ -207,7 +208,7 @@ bring_in-ends-requires-clause-sources g c =
     let lined = same_count c.line_up-jobs.result.0.items c.args.resources.slots.items _ _
     c.line_up-jobs.ensures.sessions in
     let jobs = same_count c.ask_first.new.jobs.items c.line_up-jobs.result.0.items _ _ c.ask_first.ensures.sessions in
-    let dones = as_many _ _ _ _ g.P.PoolName.sizes g.N.BookName.sizes.shards _ _ _ _ _ _ _ _ _ _ _ _
+    let dones = as_many _ _ _ _ g.P.PoolName.sizes g.N.BookName.sizes.shards _ _ _ _ _ _ _ _ _ _ _ _ _
     c.serve_jobs-dones.ensures in
     let rest = same_count c.first_dumped-dumped.new.dones.items c.serve_jobs-dones.result.items _ _
     c.first_dumped-dumped.ensures.accounts in
@@ -219,7 +220,7 @@ bring_in-ends-requires-clause-wires g c =
     let lined = same_count c.line_up-jobs.result.0.items c.args.resources.slots.items _ _
     c.line_up-jobs.ensures.sessions in
     let jobs = same_count c.ask_first.new.jobs.items c.line_up-jobs.result.0.items _ _ c.ask_first.ensures.sessions in
-    let dones = as_many _ _ _ _ g.P.PoolName.sizes g.N.BookName.sizes.shards _ _ _ _ _ _ _ _ _ _ _ _
+    let dones = as_many _ _ _ _ g.P.PoolName.sizes g.N.BookName.sizes.shards _ _ _ _ _ _ _ _ _ _ _ _ _
     c.serve_jobs-dones.ensures in
     let rest = same_count c.first_dumped-dumped.new.dones.items c.serve_jobs-dones.result.items _ _
     c.first_dumped-dumped.ensures.accounts in
@@ -234,13 +235,13 @@ put_back-dump-requires g c =
     let lined = same_count c.line_up-jobs.result.0.items c.args.resources.slots.items _ _
     c.line_up-jobs.ensures.sessions in
     let jobs = same_count c.ask_first.new.jobs.items c.line_up-jobs.result.0.items _ _ c.ask_first.ensures.sessions in
-    let dones = as_many _ _ _ _ g.P.PoolName.sizes g.N.BookName.sizes.shards _ _ _ _ _ _ _ _ _ _ _ _
+    let dones = as_many _ _ _ _ g.P.PoolName.sizes g.N.BookName.sizes.shards _ _ _ _ _ _ _ _ _ _ _ _ _
     c.serve_jobs-dones.ensures in
     let rest = same_count c.first_dumped-dumped.new.dones.items c.serve_jobs-dones.result.items _ _
     c.first_dumped-dumped.ensures.accounts in
     let all = count_past c.line_up-jobs.result.0.items _ _ _ c.line_up-jobs.ensures.wires in
     let behind = length_behind c.first_dumped-dumped.new.dones.items _ _ _ c.bring_in-ends.ensures.wires in
-    room_for _ _ g.P.PoolName.sizes g.N.BookName.sizes.shards _ _ _ _ _ _ _ _ _ _ _ _ c.split_order-order.result _ _ _
+    room_for _ _ g.P.PoolName.sizes g.N.BookName.sizes.shards _ _ _ _ _ _ _ _ _ _ _ _ _ c.split_order-order.result _ _ _
     _ _ _ _ c.ask_first.new.jobs.items c.serve_jobs-dones.result.items c.serve_jobs-dones.ensures
     c.split_order-order.ensures.wires c.ask_first.ensures.asked c.first_dumped-dumped.ensures.first
     (omega (arith, c.split_order-order.ensures.left, c.requires.wires, c.len-count.ensures, c.args.sources.ok.0))
@@ -254,7 +255,7 @@ close_all-journal-requires-clause-lists g c =
     let lined = same_count c.line_up-jobs.result.0.items c.args.resources.slots.items _ _
     c.line_up-jobs.ensures.sessions in
     let jobs = same_count c.ask_first.new.jobs.items c.line_up-jobs.result.0.items _ _ c.ask_first.ensures.sessions in
-    let dones = as_many _ _ _ _ g.P.PoolName.sizes g.N.BookName.sizes.shards _ _ _ _ _ _ _ _ _ _ _ _
+    let dones = as_many _ _ _ _ g.P.PoolName.sizes g.N.BookName.sizes.shards _ _ _ _ _ _ _ _ _ _ _ _ _
     c.serve_jobs-dones.ensures in
     let rest = same_count c.first_dumped-dumped.new.dones.items c.serve_jobs-dones.result.items _ _
     c.first_dumped-dumped.ensures.accounts in
@@ -271,7 +272,7 @@ close_all-journal-requires-clause-credits g c =
     let rest = c.first_dumped-dumped.new.dones.items in
     let sessions = c.ask_first.ensures.sessions
     ∙ c.line_up-jobs.ensures.sessions in
-    let all = as_many _ _ _ _ z shards _ _ _ _ _ _ _ _ _ _ _ _ c.serve_jobs-dones.ensures in
+    let all = as_many _ _ _ _ z shards _ _ _ _ _ _ _ _ _ _ _ _ _ c.serve_jobs-dones.ensures in
     let wires = ap (λ l. l ++ into_iter_items c.line_up-jobs.result.1) c.ask_first.ensures.wires
     ∙ c.line_up-jobs.ensures.wires in
     let behind = c.bring_in-ends.ensures.wires
@@ -287,7 +288,7 @@ close_all-journal-requires-clause-credits g c =
     let lined_up = same_count jobs c.args.resources.slots.items _ _ sessions ∙ slots ∙ count in
     let old_count = length-map jobs (λ j. j.wire) ∙ lined_up in
     let new_count = length-map dones (λ d. d.wire) ∙ all ∙ lined_up in
-    let back = came_back _ _ z shards _ _ _ _ _ _ _ _ _ _ _ _ c.args.sizes.now.dump
+    let back = came_back _ _ z shards _ _ _ _ _ _ _ _ _ _ _ _ _ c.args.sizes.now.dump
     (c.args.sizes.now.shards * (c.args.sizes.now.small + c.args.sizes.now.large) + 4) _ _ _ _ _ _ _ _ _ _ _ _
     c.split_order-order.result jobs dones c.serve_jobs-dones.ensures old_count new_count wires behind
     c.split_order-order.ensures.main.0 seats c.split_order-order.ensures.none c.split_order-order.ensures.before
@@ -295,7 +296,7 @@ close_all-journal-requires-clause-credits g c =
     c.first_dumped-dumped.ensures.first c.put_back-dump.ensures.none c.put_back-dump.ensures.dump
     c.put_back-dump.ensures.seat c.put_back-dump.ensures.wires in
     let credits = credits_are _ _ c.args.resources.slots.items
-    (λ d. IsSessionSlot z d.session d.device.end d.device.failed) (λ d. d.session) _ _ z shards _ _ _ _ _ _ _ _ _ _ _
+    (λ d. IsSessionSlot z d.session d.device.end d.device.failed) (λ d. d.session) _ _ z shards _ _ _ _ _ _ _ _ _ _ _ _
     _ _ _ c.serve_jobs-dones.ensures (λ d is. slot_credits z _ _ _ is) c.requires.slots sessions seats in
     omega (
       arith,

@@ -6,6 +6,7 @@ use Rattle.session_serve.proofs.Dumping.{stands-first, in_time-first}
 use Rattle.session_serve.proofs.Seeing.{gathered-sees, stopped-sees}
 use Rattle.session_serve.proofs.Serving.{forwards-nothing, forwards-as, served-so}
 use Rattle.session_serve.proofs.Whole.{whole-start, whole-more, whole-closed, whole-posted}
+use Rattle.device_model.specs.Devices.{CanFrame}
 use Rattle.session_serve.specs.Dumps.{DumpCame, Stands, as_seeing}
 use Rattle.session_serve.specs.Working.{IsWorking}
 use Rattle.session_serve.proofs.serve.serve_in_turns.Goals as goal
@@ -38,10 +39,11 @@ turns-init g c =
           (stands-first shards asked first.pass.list fresh.none_told));
       in_time = in_time-first shards asked (length c.both_ends.new.session.posted)
           (ap (λ s. length s.posted) ends.session ∙ ap length fresh.none_posted);
-      forwards = forwards-as _ _ _ _ _ _ _ _ _ _ _ _ refl (sym (ends.failed ∙ c.requires.unfailed)) refl refl
-          (forwards-nothing _ _ _ [] c.both_ends.new.session.posted c.args.wire
+      mtu = refl;
+      forwards = forwards-as _ _ _ _ _ _ _ _ _ _ _ _ _ refl (sym (ends.failed ∙ c.requires.unfailed)) refl refl
+          (forwards-nothing _ _ _ _ [] c.both_ends.new.session.posted c.args.wire
           (ap (λ s. s.posted) ends.session ∙ fresh.none_posted));
-      whole = whole-start _ _ _ _ _ c.args.wire (ends.failed ∙ c.requires.unfailed)
+      whole = whole-start c.args.line.mtu _ _ _ _ _ c.args.wire (ends.failed ∙ c.requires.unfailed)
           (ap (λ s. s.posted) ends.session ∙ fresh.none_posted) refl;
     }
 
@@ -53,6 +55,9 @@ turn-after-requires-clause-ready g c κs within =
       unstopped = before.unstopped;
       few = work-bounded _ _ _ _ _ w.0 w.1 c.turns.line.session c.turns.line.pump w.2;
     }
+
+pub turn-after-requires-clause-mtu : goal.turn-after-requires-clause-mtu
+turn-after-requires-clause-mtu g c κs within = subst CanFrame (sym c.turns.invariant.mtu) c.requires.mtu
 
 pub turns-smaller : goal.turns-smaller
 turns-smaller g c =
@@ -69,7 +74,8 @@ turns-preserved g c =
     let w = before.working in
     let call = rw c.in-Ok.is at c.turn-after.ensures.call in
     let unstopped = rw c.in-Ok.is at c.turn-after.ensures.unstopped in
-    let sent = rw c.in-Ok.is at c.turn-after.ensures.sent in
+    let sent = rw (c.in-Ok.is, before.mtu) at c.turn-after.ensures.sent in
+    let forwards = rw before.mtu at c.turn-after.ensures.forwards in
     let more = call _ _ _ w.0 w.1 w.2 in
     let in_time = rw c.in-Ok.is at c.turn-after.ensures.in_time in
     record {
@@ -80,8 +86,9 @@ turns-preserved g c =
       stands = c.turn-after.ensures.stands c.args.line.dump.plan c.args.line.session.pass.list before.stands
           before.in_time;
       in_time = in_time c.args.line.dump.plan c.args.line.session.pass.list before.stands before.in_time;
-      forwards = forwards-on _ _ _ _ _ _ _ _ _ _ _ before.forwards c.turn-after.ensures.forwards;
-      whole = whole-more _ _ _ _ _ _ _ _ _ c.args.wire _ _ before.whole sent c.counted-sent.ensures;
+      mtu = c.turn-after.ensures.mtu ∙ before.mtu;
+      forwards = forwards-on _ _ _ _ _ _ _ _ _ _ _ _ before.forwards forwards;
+      whole = whole-more c.args.line.mtu _ _ _ _ _ _ _ _ _ c.args.wire _ _ before.whole sent c.counted-sent.ensures;
     }
 
 pub returns-clause-served : goal.returns-clause-served
@@ -90,20 +97,21 @@ returns-clause-served g c =
     let w = before.working in
     let first = c.args.line.session in
     let end = rw c.in-Err.is at c.turn-after.ensures.end in
-    let none = rw c.in-Err.is at c.turn-after.ensures.none_sent in
+    let none = rw (c.in-Err.is, before.mtu) at c.turn-after.ensures.none_sent in
+    let forwards = rw before.mtu at c.turn-after.ensures.forwards in
     let stopped = stopped-sees _ _ _ _ _ _ c.turn-after.new.self.session c.take.new.session _ c.take.ensures.session
     (end _ _ _ w.0 w.1 w.2) in
     let same : c.take.new.session.posted ≡ c.turn-after.new.self.session.posted =
     ap (λ s. s.posted) c.take.ensures.session.rest in
-    served-so _ _ _ _ first c.take.new.session c.args.line.pump c.turn-after.new.self.pump c.in-Err.end
+    served-so _ _ _ _ _ first c.take.new.session c.args.line.pump c.turn-after.new.self.pump c.in-Err.end
     c.close.result.1.end _ c.turn-after.new.self.device.failed
     c.close.result.1.seat c.close.result.1.mine _ _ c.args.wire c.turn-after.result.0 c.close.result.0 c.requires.fresh
     stopped c.close.ensures.left c.close.ensures.end
     (ap (λ p. p.given) c.close.ensures.pump) (ap (λ p. p.ended) c.close.ensures.pump)
-    (forwards-as _ _ _ _ _ _ _ _ _ _ _ _ refl refl refl (sym same)
-    (forwards-on _ _ _ _ _ _ _ _ _ _ _ before.forwards c.turn-after.ensures.forwards)) c.close.ensures.flushed
-    (whole-posted _ _ _ c.take.new.session.posted c.turn-after.new.self.session.posted _ _ _ (sym same)
-    (whole-closed _ _ _ _ _ _ _ _ _ c.args.wire _ _ _ before.whole none c.close.ensures.flushed
+    (forwards-as _ _ _ _ _ _ _ _ _ _ _ _ _ refl refl refl (sym same)
+    (forwards-on _ _ _ _ _ _ _ _ _ _ _ _ before.forwards forwards)) c.close.ensures.flushed
+    (whole-posted c.args.line.mtu _ _ _ c.take.new.session.posted c.turn-after.new.self.session.posted _ _ _ (sym same)
+    (whole-closed c.args.line.mtu _ _ _ _ _ _ _ _ _ c.args.wire _ _ _ before.whole none c.close.ensures.flushed
     c.close.ensures.sent))
 
 pub close-requires-clause-gathered : goal.close-requires-clause-gathered

@@ -2,9 +2,10 @@ use Rattle.std.proofs.Common.{◌≡◌, false, ◌+◌, ◌-◌, List, [], leng
 use Rattle.flake_model.specs.Command.{Command}
 use Rattle.flake_model.specs.Resp.{judged_bytes}
 use Rattle.call_model.specs.Outcomes.{Outcomes}
-use Rattle.device_model.specs.Devices.{Forwards}
+use Rattle.device_model.specs.Devices.{ForwardsAs}
 use Rattle.reply_planner.specs.Parcels.{texts_in}
 use Rattle.session_serve.specs.Dumps.{CanTake, IsInTime, Stands, as_seeing}
+use Rattle.session_serve.specs.Forms.{each_as_sent}
 use Rattle.session_serve.specs.Whole.{SentWhole}
 use Rattle.session_serve.specs.Working.{IsGathered, IsWorking}
 use Rattle.session_serve.proofs.serve.serve_in_turns.Given as goal
@@ -20,10 +21,11 @@ invariant-turns g l = record {
   stands : Stands g.N.BookName.sizes.shards l.fn.line.dump.plan l.line.dump.plan l.line.dump.taken
       l.fn.line.session.pass.list l.line.session.pass.list;
   in_time : IsInTime l.fn.line.dump.plan l.line.dump.plan (length l.line.session.posted);
-  forwards : Forwards (λ w p r. goal.PUT-post g l.put w p r) (λ w r. goal.FLUSH-post g l.flush w r) false
-      l.line.device.failed [] l.line.session.posted l.fn.wire l.wire;
+  mtu : l.line.mtu ≡ l.fn.line.mtu;
+  forwards : ForwardsAs l.fn.line.mtu (λ w p r. goal.PUT-post g l.put w p r) (λ w r. goal.FLUSH-post g l.flush w r)
+      false l.line.device.failed [] l.line.session.posted l.fn.wire l.wire;
   whole : SentWhole (λ w p r. goal.PUT-post g l.put w p r) (λ w r. goal.FLUSH-post g l.flush w r) l.line.device.failed
-      (texts_in l.line.session.posted) l.sent l.fn.wire l.wire;
+      (each_as_sent l.fn.line.mtu l.line.session.posted) (texts_in l.line.session.posted) l.sent l.fn.wire l.wire;
 }
 
 abbrev pub decreases-turns : goal.decreases-turns

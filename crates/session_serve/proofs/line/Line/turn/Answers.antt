@@ -18,10 +18,10 @@ forward-wire-requires-clause-one g c κs within =
     c.in-Ok-call.ensures.posted
 
 pub returns-in-Err-clause-forwards : goal.returns-in-Err-clause-forwards
-returns-in-Err-clause-forwards g c = forwards-nothing _ _ _ _ _ _ refl
+returns-in-Err-clause-forwards g c = forwards-nothing _ _ _ _ _ _ _ refl
 
 pub returns-in-Err-clause-none_sent : goal.returns-in-Err-clause-none_sent
-returns-in-Err-clause-none_sent g c = none-more _ _ _ _ _ _ _ _ refl refl refl
+returns-in-Err-clause-none_sent g c = none-more c.args.self.now.mtu _ _ _ _ _ _ _ _ refl refl refl
 
 pub returns-in-Err-clause-end : goal.returns-in-Err-clause-end
 returns-in-Err-clause-end g c first origin before given calls w =
@@ -32,12 +32,13 @@ returns-in-Err-clause-end g c first origin before given calls w =
 pub returns-in-Err-Memory-clause-forwards : goal.returns-in-Err-Memory-clause-forwards
 returns-in-Err-Memory-clause-forwards g c =
     let r = rw c.in-Err-Memory.field-0-is at c.in-Err-Memory.ensures.refused in
-    forwards-nothing _ _ _ _ _ _ (r.posted ∙ ap (λ s. s.posted) c.take_before_call.ensures.session.rest)
+    forwards-nothing _ _ _ _ _ _ _ (r.posted ∙ ap (λ s. s.posted) c.take_before_call.ensures.session.rest)
 
 pub returns-in-Err-Memory-clause-none_sent : goal.returns-in-Err-Memory-clause-none_sent
 returns-in-Err-Memory-clause-none_sent g c =
     let r = rw c.in-Err-Memory.field-0-is at c.in-Err-Memory.ensures.refused in
-    none-more _ _ _ _ _ _ _ _ (r.posted ∙ ap (λ s. s.posted) c.take_before_call.ensures.session.rest) refl refl
+    none-more c.args.self.now.mtu _ _ _ _ _ _ _ _
+    (r.posted ∙ ap (λ s. s.posted) c.take_before_call.ensures.session.rest) refl refl
 
 pub returns-in-Err-Memory-clause-end : goal.returns-in-Err-Memory-clause-end
 returns-in-Err-Memory-clause-end g c first origin before given calls w =
@@ -48,7 +49,7 @@ returns-in-Err-Memory-clause-end g c first origin before given calls w =
 
 pub returns-clause-sent : goal.returns-clause-sent
 returns-clause-sent g c =
-    more-as _ _ _ _ _ _ _ _ _ _ _ _ _ _ refl refl c.requires.gathered.all
+    more-as c.args.self.now.mtu _ _ _ _ _ _ _ _ _ _ _ _ _ _ refl refl c.requires.gathered.all
     (ap (λ s. s.posted) (sym c.forward-wire.ensures.session)) refl c.forward-wire.ensures.sent
 
 pub returns-clause-call : goal.returns-clause-call

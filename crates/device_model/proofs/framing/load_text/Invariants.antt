@@ -1,0 +1,18 @@
+use Rattle.std.proofs.Common.{◌≡◌, ◌-◌, ◌≤◌, length, take, drop}
+use Rattle.tx_ring.specs.Jobs.{frame_of}
+use Rattle.device_model.specs.Framing.{text_behind, IsInText}
+use Rattle.device_model.proofs.framing.load_text.Given as goal
+
+abbrev pub invariant-loop-done : goal.invariant-loop-done
+invariant-loop-done g l =
+    let reply = frame_of l.fn.job in
+    let behind = text_behind g.N.PoolName.sizes reply l.fn.place.segment l.fn.place.offset in record {
+      within : l.done ≤ length l.initial.room;
+      job : l.job ≡ l.fn.job;
+      place : IsInText reply.segments l.place.segment l.place.offset;
+      rest : text_behind g.N.PoolName.sizes reply l.place.segment l.place.offset ≡ drop l.done behind;
+      bytes : take l.done l.room ≡ take l.done behind;
+    }
+
+abbrev pub decreases-loop-done : goal.decreases-loop-done
+decreases-loop-done g l = length l.initial.room - l.done
