@@ -1,10 +1,9 @@
 -- Frames that are put one after another, from a text that is read from place to place.
 use Rattle.std.proofs.Common.{◌≡◌, ◌⊎◌, inl, inr, ⊎_elim, ℕ, zero, suc, ◌+◌, ◌-◌, ◌*◌, ◌/◌, ◌%◌, ◌<◌, ◌≤◌, List, []}
-use Rattle.std.proofs.Common.{◌∷◌, ◌++◌, Bool, true, Some, min, slice_get, length, take, drop, refl, ap, sym, ◌∙◌}
+use Rattle.std.proofs.Common.{◌∷◌, ◌++◌, Some, min, slice_get, length, take, drop, refl, ap, sym, ◌∙◌}
 use Rattle.std.proofs.Common.{subst, append_assoc, append-nil, arith}
 use borrow.Rule.Slice.PartMut.{put_mid}
 use Rattle.std.specs.List.{flat_map}
-use Rattle.std.specs.Borrow.{Bor}
 use Rattle.std.proofs.lemmas.List.{length-take, length-drop, drop-drop, drop-take, drop_at, drop_all, take-append-le}
 use Rattle.std.proofs.lemmas.List.{drop-append-le, take-take, take_at, take_min, drop_min}
 use Rattle.std.proofs.lemmas.Option.{slice_get_within, get_or_from_slice_get}
@@ -12,8 +11,6 @@ use Rattle.std.proofs.lemmas.Grind.{div_ceil_times}
 use Rattle.std.proofs.Math.Nat.{lt_of_mul-lt-mul_right}
 use Rattle.std.proofs.Math.Seq.{drop-cons, take-add, take-append-add}
 use Rattle.flake_base.specs.declared.segment.Seg.{Seg}
-use Rattle.any_wire.specs.Sends.{Sends}
-use Rattle.any_wire.proofs.Sending.{sends-none, sends-on, sends-put}
 use Rattle.mtu_frames.specs.Frames.{mtu_frame_bytes, cuts_from, frames_from}
 use Rattle.pin_core.specs.declared.sizes.Sizes.{Sizes}
 use Rattle.pinned_pool.specs.Addresses.{Covers}
@@ -123,7 +120,7 @@ frames_left call count index size bytes =
     flat_map mtu_frame_bytes (frames_from call count index (cuts_from size (length bytes) bytes))
 
 -- cuts are the same, however many more there might be
-cuts-same : (size fuel other : ℕ) (bytes : List ℕ) → 0 < size → length bytes ≤ fuel → length bytes ≤ other
+pub cuts-same : (size fuel other : ℕ) (bytes : List ℕ) → 0 < size → length bytes ≤ fuel → length bytes ≤ other
     → cuts_from size fuel bytes ≡ cuts_from size other bytes
 cuts-same size zero zero bytes some few less = refl
 cuts-same size zero (suc other) [] some few less = refl
@@ -210,12 +207,3 @@ take-least len size bytes least =
 pub drop-least : (len size : ℕ) (bytes : List ℕ) → len ≡ min (length bytes) size → drop len bytes ≡ drop size bytes
 drop-least len size bytes least =
     ap (λ n. drop n bytes) (least-same len size bytes least) ∙ drop_min size bytes
-
-module _ {W : Type 0} (put_may : W → Bor (List ℕ) → (W × Bool) → Type 0) (flush_may : W → (W × Bool) → Type 0) where
-  -- nothing more is put behind a failure
-  pub sends-over : (bytes : List ℕ) (wire : W) → Sends put_may flush_may true true bytes wire wire
-  sends-over [] wire = sends-none put_may flush_may true wire
-  sends-over (byte ∷ bytes) wire =
-      sends-on put_may flush_may true true true (byte ∷ []) bytes wire wire wire
-      (sends-put put_may flush_may true true (byte ∷ []) wire wire (omega arith, omega arith) (refl, refl))
-      (sends-over bytes wire)

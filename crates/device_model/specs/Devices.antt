@@ -21,14 +21,14 @@ abbrev pub sent_texts : List Sent → List ℕ
 sent_texts replies = flat_map (λ (reply : Sent). reply.text) replies
 
 -- a reply as it is sent: its text, or, where frames have at most so many bytes, its frames
-abbrev pub as_sent : Option ℕ → Sent → List ℕ
-as_sent None reply = reply.text
-as_sent (Some mtu) reply = framed reply.text reply.call mtu
+abbrev pub reply_as_sent : Option ℕ → Sent → List ℕ
+reply_as_sent None reply = reply.text
+reply_as_sent (Some mtu) reply = framed reply.text reply.call mtu
 
 -- replies as they are sent, joined
-abbrev pub sent_as : Option ℕ → List Sent → List ℕ
-sent_as None replies = sent_texts replies
-sent_as (Some mtu) replies = flat_map (λ (reply : Sent). framed reply.text reply.call mtu) replies
+abbrev pub joined_as_sent : Option ℕ → List Sent → List ℕ
+joined_as_sent None replies = sent_texts replies
+joined_as_sent (Some mtu) replies = flat_map (λ (reply : Sent). framed reply.text reply.call mtu) replies
 
 -- frames may have at most so many bytes, where there are to be frames
 abbrev pub CanFrame : Option ℕ → Type 0
@@ -49,7 +49,7 @@ module _
   pub record ForwardsAs (failed now : Bool) (before after : List Sent) (old new : W) : Type 0 where
     pub taken : List Sent
     pub in_order : after ≡ before ++ taken
-    pub sends : wire.Sends put_may flush_may failed now (sent_as mtu taken) old new
+    pub sends : wire.Sends put_may flush_may failed now (joined_as_sent mtu taken) old new
 
 module _ {W : Type 0} (put_may : W → Bor (List ℕ) → (W × Bool) → Type 0) (flush_may : W → (W × Bool) → Type 0) where
   -- so it is of their texts

@@ -4,7 +4,7 @@ ghost use Rattle.tx_ring.specs.Shown.{closed_ring, closed_view, device_ring, dev
 ghost use Rattle.any_wire.specs.Sends.{Flushes};
 ghost use Rattle.device_model.specs.Devices.{CanFrame, Forwards, ForwardsAs, IfIdle, IfTaken, IsFound, PutsAs};
 ghost use Rattle.device_model.specs.Devices.{PutsTexts};
-ghost use Rattle.device_model.specs.Pieces.{PutsPieces};
+ghost use Rattle.device_model.specs.Pieces.{PutsFrames, PutsPieces};
 
 use crate::framing::send_framed;
 use crate::gathered::Gathered;
@@ -119,7 +119,8 @@ impl<N: PoolName + Send> Device<N> {
     }
 
     /// Gathers the next reply and puts it as frames of at most `mtu` bytes, in pieces of at most 512 bytes; a frame's
-    /// header and its first bytes are one piece. All else is as in [`Device::gather`]; `bytes` is the text's length.
+    /// header and its first bytes are one piece, and no piece has bytes of two frames. All else is as in
+    /// [`Device::gather`]; `bytes` is the text's length.
     pub fn gather_framed<W: Drop, P: Fn(W, &[u8]) -> (W, bool), F: Fn(W) -> (W, bool)>(
         &mut self,
         pool: &Pool<N>,
@@ -133,6 +134,8 @@ impl<N: PoolName + Send> Device<N> {
         ensures ring { device_ring self.new.end ≡ device_ring self.old.end }
         ensures found { IsFound result.1 self.new.failed self.old.end self.new.end }
         ensures put { IfTaken result.1 (PutsAs (Some mtu) (λ w p r. P.post put.now w p r) self.old.failed
+            self.new.failed (completed self.old.end) (completed self.new.end) wire result.0) }
+        ensures frames { IfTaken result.1 (PutsFrames (λ w p r. P.post put.now w p r) mtu self.old.failed
             self.new.failed (completed self.old.end) (completed self.new.end) wire result.0) }
         ensures flushed { IfIdle result.1 (Flushes (λ w r. F.post flush.now w r) self.old.failed self.new.failed wire
             result.0) }

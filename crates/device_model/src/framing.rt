@@ -1,10 +1,11 @@
 // A reply as frames, from the buffers to the wire.
-ghost use Rattle.std.specs.Prelude.{◌≡◌, ℕ, ◌-◌, ◌^◌, ◌<◌, ◌≤◌, List, ◌++◌, Some, false, length, take, drop};
+ghost use Rattle.std.specs.Prelude.{◌≡◌, ℕ, ◌-◌, ◌^◌, ◌<◌, ◌≤◌, List, ◌++◌, Some, false, length, map, take, drop};
 ghost use Rattle.std.specs.Int.{to_le_bytes, w32};
-ghost use Rattle.mtu_frames.specs.Frames.{header_bytes, cuts_from, framed};
+ghost use Rattle.mtu_frames.specs.Frames.{header_bytes, cuts_from, framed, frames_of, mtu_frame_bytes};
 ghost use Rattle.tx_ring.specs.Jobs.{frame_of, segments};
 ghost use Rattle.device_model.specs.Devices.{CanFrame, PutsText};
 ghost use Rattle.device_model.specs.Framing.{text_behind, IsInText};
+ghost use Rattle.device_model.specs.Pieces.{PutsEach};
 
 use any_wire::{MOST_PUT, put_unless_failed};
 use mtu_frames::header;
@@ -15,6 +16,11 @@ use tx_ring::Job;
 // How many bytes a frame's header has.
 const HEADER: usize = 16;
 
+// How many bytes a word of a buffer has, and a line of words. Each buffer's address is a multiple of both.
+const WORD: usize = 8;
+
+const LINE: usize = 64;
+
 // Where the device stands in a reply's text: at a segment, behind so many of its bytes.
 #[derive(Clone, Copy)]
 struct TextPlace {
@@ -24,6 +30,8 @@ struct TextPlace {
 
 /// Puts the text of all descriptors as frames of at most `mtu` bytes. Answers whether something has failed now, and
 /// how many bytes the descriptors have.
+// A call by itself, since plain replies cost more where the code for frames lies in between.
+#[inline(never)]
 pub(crate) fn send_framed<N: PoolName + Send, W: Drop, P: Fn(W, &[u8]) -> (W, bool)>(
     pool: &Pool<N>,
     job: &mut Job<Parcel<N>>,
@@ -39,6 +47,9 @@ pub(crate) fn send_framed<N: PoolName + Send, W: Drop, P: Fn(W, &[u8]) -> (W, bo
     ensures job { job.new ≡ job.old }
     ensures sends { PutsText (λ w p r. P.post put.now w p r) failed result.1
         (framed (frame_of job.old).text (frame_of job.old).call mtu) wire result.0 }
+    ensures frames { PutsEach (λ w p r. P.post put.now w p r)
+        (map mtu_frame_bytes (frames_of (frame_of job.old).text (frame_of job.old).call mtu)) failed result.1 wire
+        result.0 }
     ensures bytes { result.2 ≡ length (frame_of job.old).text }
 {
     let whole = job.frame();
@@ -131,7 +142,7 @@ fn send_cut<N: PoolName + Send, W: Drop, P: Fn(W, &[u8]) -> (W, bool)>(
     ensures sends { PutsText (λ w p r. P.post put.now w p r) false result.1 (take 16 room.old
         ++ take len (text_behind N.sizes (frame_of job.old) place.old.segment place.old.offset)) wire result.0 }
 {
-    let first = len.min(MOST_PUT - HEADER);
+    let first = first_piece_length(job, *place, len);
     let end = HEADER + first;
     let (after, now) = send_run(pool, job, place, &mut room[..end], HEADER, wire, false, put);
     let mut wire = after;
@@ -146,6 +157,55 @@ fn send_cut<N: PoolName + Send, W: Drop, P: Fn(W, &[u8]) -> (W, bool)>(
         done += count;
     }
     (wire, has_failed)
+}
+
+// How many of so many bytes of the text go behind the header: all, or as many as there is room for, up to where a line
+// of a buffer ends, so that the next pieces are read in whole lines. Where that takes a piece more, a word's end does.
+fn first_piece_length<N: PoolName + Send>(
+    job: &Job<Parcel<N>>,
+    place: TextPlace,
+    len: usize,
+) -> usize
+    ensures { (result ≤ len) × (result ≤ 496) }
+{
+    let room = MOST_PUT - HEADER;
+    if len <= room {
+        return len;
+    }
+    let in_last = (len - room - 1) % MOST_PUT + 1;
+    room - count_past(job, place, room, MOST_PUT - in_last)
+}
+
+// How many of so many bytes of the text come last and lie in one line of a buffer that goes on behind them, or in one
+// word, where `most` are fewer.
+fn count_past<N: PoolName + Send>(
+    job: &Job<Parcel<N>>,
+    place: TextPlace,
+    count: usize,
+    most: usize,
+) -> usize
+    ensures { result ≤ count }
+{
+    let mut left = count;
+    let mut offset = place.offset;
+    for i in place.segment..job.count() {
+        let segment = job.segment(i);
+        let there = segment.len.saturating_sub(offset) as usize;
+        if left <= there {
+            let start = (segment.address % LINE as u64) as usize;
+            let end = start + offset as usize + left;
+            let past_line = end % LINE;
+            let past = if past_line <= most {
+                past_line
+            } else {
+                end % WORD
+            };
+            return left.min(past);
+        }
+        left -= there;
+        offset = 0;
+    }
+    0
 }
 
 // Reads the next bytes of the text to the room behind its front, and puts the room.

@@ -7,7 +7,7 @@ ghost use Rattle.any_wire.specs.Sends.{WireStep, puts, Chain};
 ghost use Rattle.device_model.specs.Devices.{HasSegment, PutsText};
 ghost use Rattle.device_model.specs.Pieces.{AreCuts, AreCutsAt};
 
-use any_wire::{MOST_PUT, put_unless_failed};
+use any_wire::MOST_PUT;
 use flake_base::Seg;
 use pinned_pool::{Pool, PoolName};
 use reply_planner::Parcel;
@@ -117,5 +117,5 @@ fn send_piece<N: PoolName, W: Drop, P: Fn(W, &[u8]) -> (W, bool)>(
         return (wire, true);
     }
     parcel.load_bytes(pool, buffer, from, room);
-    put_unless_failed(wire, false, put, room)
+    put(wire, room)
 }

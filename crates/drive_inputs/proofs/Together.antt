@@ -208,6 +208,7 @@ module _ {W D A : Type 0} (put_may : W → Bor (List ℕ) → (W × Bool) → Ty
         last_is = end.last_is;
         loose = end.loose;
         looked = end.looked;
+        nearby = end.nearby;
         closed_is = end.closed_is;
       }) in
       let a = each.by_lasts put_may flush_may z shards drove.lines (λ (one : OneDriven W). one.given)

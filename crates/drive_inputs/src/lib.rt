@@ -10,4 +10,4 @@ mod space;
 mod whole;
 
 pub use run::drive_inputs;
-pub use whole::Driven;
+pub use whole::DrivenRun;

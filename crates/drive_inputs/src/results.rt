@@ -4,7 +4,7 @@ ghost use Rattle.std.specs.Vec.Iter.{into_iter_items};
 ghost use Rattle.command_pump.specs.Pump.{origin_of};
 ghost use Rattle.run_resources.specs.Joined.{HasJoined};
 
-use drive_script::Account;
+use drive_script::DrivenAccount;
 use flake_base::{Ends, Memory, Source};
 use order_book::{BookName, SessionSeats};
 use pinned_pool::{Pool, PoolName, PoolSeat};
@@ -41,7 +41,7 @@ impl<N: BookName, S: Drop, W: Drop> Results<N, S, W> {
 pub(crate) fn bring_in<N: BookName, P: PoolName, S: Source + Drop, W: Drop>(
     pool: &Pool<P>,
     main: &mut PoolSeat<P>,
-    accounts: Vec<Account<N, P, S, W>>,
+    accounts: Vec<DrivenAccount<N, P, S, W>>,
     past: IntoIter<W>,
     results: Results<N, S, W>,
 ) -> Results<N, S, W>
@@ -67,7 +67,7 @@ pub(crate) fn bring_in<N: BookName, P: PoolName, S: Source + Drop, W: Drop>(
         mut wires,
     } = results;
     for account in accounts {
-        let Account {
+        let DrivenAccount {
             end,
             seat,
             mine,

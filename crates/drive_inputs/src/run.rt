@@ -6,11 +6,11 @@ ghost use Rattle.run_resources.specs.Opened.{HasRunSizes, IsPool, IsBook, pool_s
 ghost use Rattle.run_resources.specs.Ran.{AreReads};
 ghost use Rattle.drive_inputs.specs.Drove.{DroveInputs};
 
-use crate::whole::{Driven, Room, drive_opened};
+use crate::whole::{DrivenRun, Room, drive_opened};
 use flake_base::{Host, Source};
 use order_book::{BookBlank, BookName};
 use pinned_pool::{PoolBlank, PoolName};
-use run_resources::{Sizes, open_resources};
+use run_resources::{ClaimSpread, RunSizes, open_resources};
 use schedule_text::Line;
 use std::alloc::Global;
 use std::marker::Brand;
@@ -29,7 +29,7 @@ fn drive_named<
 >(
     rt: &R,
     alloc: Global,
-    sizes: &Sizes,
+    sizes: &RunSizes,
     schedule: &[Line],
     pool: PoolBlank,
     book: BookBlank,
@@ -38,7 +38,7 @@ fn drive_named<
     host: &mut H,
     put: &PUT,
     flush: &FLUSH,
-) -> Result<Driven<S, W>, (Vec<S>, Vec<W>)>
+) -> Result<DrivenRun<S, W>, (Vec<S>, Vec<W>)>
     requires calls { PUT.IsAlwaysCallable put.now × FLUSH.IsAlwaysCallable flush.now }
     requires sized { HasRunSizes (length sources.items) sizes.now }
     requires wires { length sources.items ≤ length wires.items }
@@ -63,7 +63,10 @@ fn drive_named<
     let Ok(space) = Room::<N, P, S, W>::taken(alloc, sources.len(), wires.len()) else {
         return Err((sources, wires));
     };
-    let Ok(resources) = open_resources::<N, P>(alloc, sizes, sources.len(), pool, book) else {
+    // What is shown has addresses: those that come first.
+    let spread = ClaimSpread::TOGETHER;
+    let Ok(resources) = open_resources::<N, P>(alloc, sizes, sources.len(), spread, pool, book)
+    else {
         return Err((sources, wires));
     };
     Ok(drive_opened(
@@ -84,14 +87,14 @@ pub fn drive_inputs<
 >(
     rt: &R,
     alloc: Global,
-    sizes: &Sizes,
+    sizes: &RunSizes,
     schedule: &[Line],
     sources: Vec<S>,
     wires: Vec<W>,
     host: &mut H,
     put: &PUT,
     flush: &FLUSH,
-) -> Result<Driven<S, W>, (Vec<S>, Vec<W>)>
+) -> Result<DrivenRun<S, W>, (Vec<S>, Vec<W>)>
     requires calls { PUT.IsAlwaysCallable put.now × FLUSH.IsAlwaysCallable flush.now }
     requires sized { HasRunSizes (length sources.items) sizes.now }
     requires wires { length sources.items ≤ length wires.items }

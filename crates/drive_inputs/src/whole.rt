@@ -14,22 +14,22 @@ use crate::pairing::pair_up;
 use crate::results::{Results, bring_in};
 use crate::space::Space;
 use command_exec::Shop;
-use drive_script::{Account, Driving, drive};
+use drive_script::{DrivenAccount, Driving, drive};
 use drive_told::laws::driven_together;
 use flake_base::{Ends, Host, Journal, Source};
 use order_book::BookName;
 use pinned_pool::{PoolEnd, PoolName};
-use run_resources::{Closed, RunResources, Sizes, close_all};
+use run_resources::{Closed, RunResources, RunSizes, close_all};
 use schedule_text::Line;
 use std::alloc::Global;
 use std::sync::Wait;
 
 /// Room for a run.
-pub(crate) type Room<N, P, S, W> = Space<Driving<N, P, S, W>, Account<N, P, S, W>, N, S, W>;
+pub(crate) type Room<N, P, S, W> = Space<Driving<N, P, S, W>, DrivenAccount<N, P, S, W>, N, S, W>;
 
 /// What a run leaves. Ends, sources and wires stand at their sources' places.
 #[derive(Drop)]
-pub struct Driven<S, W> {
+pub struct DrivenRun<S, W> {
     pub ends: Ends,
     pub journal: Journal,
     pub pool: PoolEnd,
@@ -52,7 +52,7 @@ pub(crate) fn drive_opened<
 >(
     rt: &R,
     alloc: Global,
-    sizes: &Sizes,
+    sizes: &RunSizes,
     schedule: &[Line],
     resources: RunResources<N, P>,
     space: Room<N, P, S, W>,
@@ -61,7 +61,7 @@ pub(crate) fn drive_opened<
     host: &mut H,
     put: &PUT,
     flush: &FLUSH,
-) -> Driven<S, W>
+) -> DrivenRun<S, W>
     requires calls { PUT.IsAlwaysCallable put.now × FLUSH.IsAlwaysCallable flush.now }
     requires pool { IsPool (length sources.items) sizes.now P.sizes }
     requires book { IsBook (length sources.items) sizes.now N.sizes }
@@ -124,7 +124,7 @@ pub(crate) fn drive_opened<
     let Closed { journal, end: pool } = close_all(pool, book, parts, main, lists);
     driven_together::<W, PUT, FLUSH>(put, flush);
     let _ = sizes;
-    Driven {
+    DrivenRun {
         ends,
         journal,
         pool,

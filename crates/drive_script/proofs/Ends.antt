@@ -25,7 +25,8 @@ use Rattle.drive_script.specs.declared.happened.Happened.TheVariants as Happen
 use Rattle.drive_script.specs.Happened.{line_event}
 use Rattle.drive_script.specs.Shown.{session_shown, device_shown}
 use Rattle.drive_script.specs.Lanes.{Fixed, IsLane, sends_by}
-use Rattle.drive_script.proofs.ByPuts.{stays_behind, puts_are_sending}
+use Rattle.any_wire.proofs.Behind.{stays-behind}
+use Rattle.drive_script.proofs.ByPuts.{puts_are_sending}
 use Rattle.drive_script.proofs.Lanes.{lane_sent, lane_dropped, lane_empty, told_again}
 
 pub both_shown : (z : Sizes) (old new : SessionView) {g : Ghosts Sent} (failed failed' : Bool)
@@ -99,7 +100,7 @@ module _ {W : Type 0} (put_may : W → Bor (List ℕ) → (W × Bool) → Type 0
       unfailed false flag = flag
       unfailed true flag =
           let sends = one_text is.1.reply is.1.completed_is forwards in
-          let stayed = stays_behind put_may flush_may now is.1.reply.text old new
+          let stayed = stays-behind put_may flush_may now is.1.reply.text old new
           (subst (λ b. Sends put_may flush_may b now is.1.reply.text old new) flag sends) in
           let never : false ≡ true = sym is.0 ∙ stayed.1 in absurd (cc)
 
@@ -125,7 +126,7 @@ module _ {W : Type 0} (put_may : W → Bor (List ℕ) → (W × Bool) → Type 0
       both
       (λ flag. subst (λ b. Sends put_may flush_may b true next.reply.text old new) flag
       (subst (λ b. Sends put_may flush_may failed b next.reply.text old new) is.0 sends))
-      (λ flag. (stays_behind put_may flush_may now next.reply.text old new
+      (λ flag. (stays-behind put_may flush_may now next.reply.text old new
       (subst (λ b. Sends put_may flush_may b now next.reply.text old new) flag sends)).0)
 
   pub empty_right : IsFound found.Empty now device gathered → Flushes flush_may failed now old new
@@ -138,12 +139,12 @@ module _ {W : Type 0} (put_may : W → Bor (List ℕ) → (W × Bool) → Type 0
       start (session_shown z session) (device_shown failed device) (device_shown now gathered) old new lane
       (record {
         new_is = λ i. record { completed = (view i).completed; failed = now; told = (view i).told };
-        stays = λ flag. (stays_behind put_may flush_may now [] old new
+        stays = λ flag. (stays-behind put_may flush_may now [] old new
             (subst (λ b. Sends put_may flush_may b now [] old new) flag sends)).1;
         told = is.1.told;
       })
       (λ flag. subst (λ b. Sends put_may flush_may b now [] old new) flag sends)
-      (λ flag. (stays_behind put_may flush_may now [] old new
+      (λ flag. (stays-behind put_may flush_may now [] old new
       (subst (λ b. Sends put_may flush_may b now [] old new) flag sends)).0) in
       let again = told_again fixed given end said.whole (events ++ event.nothing_posted ∷ []) (session_shown z session)
       (session_shown z session') (device_shown now gathered) (device_shown failed' device') said.driven both.session

@@ -12,7 +12,7 @@ ghost use Rattle.drive_script.specs.Ran.{HasDriven};
 ghost use Rattle.drive_script.specs.Says.{text_room};
 
 use crate::driving::Driving;
-use crate::leaving::Account;
+use crate::leaving::DrivenAccount;
 use crate::lines::drive_lines;
 use crate::saying::LineRoom;
 use command_exec::Shop;
@@ -25,7 +25,7 @@ use std::sync::Wait;
 /// What a schedule leaves: of each session, in order; and whether a say failed.
 #[derive(Drop)]
 pub struct Driven<N: BookName, P: PoolName, S: Source, W> {
-    pub accounts: Vec<Account<N, P, S, W>>,
+    pub accounts: Vec<DrivenAccount<N, P, S, W>>,
     pub failed: bool,
 }
 
@@ -47,7 +47,7 @@ pub fn drive<
     schedule: &[Line],
     sessions: Vec<Driving<N, P, S, W>>,
     room: LineRoom,
-    accounts: Vec<Account<N, P, S, W>>,
+    accounts: Vec<DrivenAccount<N, P, S, W>>,
     host: &mut H,
     put: &PUT,
     flush: &FLUSH,
@@ -92,10 +92,10 @@ fn leave_all<
 >(
     shop: &Shop<'_, N, P>,
     sessions: Vec<Driving<N, P, S, W>>,
-    accounts: Vec<Account<N, P, S, W>>,
+    accounts: Vec<DrivenAccount<N, P, S, W>>,
     put: &PUT,
     flush: &FLUSH,
-) -> Vec<Account<N, P, S, W>>
+) -> Vec<DrivenAccount<N, P, S, W>>
     requires calls { PUT.IsAlwaysCallable put.now × FLUSH.IsAlwaysCallable flush.now }
     requires going { All (λ d. IsGoing (sends_by (λ w p r. PUT.post put.now w p r) (λ w r. FLUSH.post flush.now w r))
         P.sizes N.sizes.shards (driving_of d.lane.session d.lane.device.failed d.lane.device.end d.asking.kept

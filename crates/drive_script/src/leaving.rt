@@ -30,7 +30,7 @@ pub(crate) struct Remains<N: BookName, P: PoolName> {
 
 /// What a driven session leaves.
 #[derive(Drop)]
-pub struct Account<N: BookName, P: PoolName, S: Source, W> {
+pub struct DrivenAccount<N: BookName, P: PoolName, S: Source, W> {
     pub end: SessionEnd,
     pub seat: PoolSeat<P>,
     pub mine: SessionSeat<N>,
@@ -82,7 +82,7 @@ impl<N: BookName, P: PoolName + Send, S: Source, W: Drop> Driving<N, P, S, W> {
         shop: &Shop<'_, N, P>,
         put: &PUT,
         flush: &FLUSH,
-    ) -> Account<N, P, S, W>
+    ) -> DrivenAccount<N, P, S, W>
         requires calls { PUT.IsAlwaysCallable put.now × FLUSH.IsAlwaysCallable flush.now }
         requires going { IsGoing (sends_by (λ w p r. PUT.post put.now w p r) (λ w r. FLUSH.post flush.now w r))
             P.sizes N.sizes.shards (driving_of self.lane.session self.lane.device.failed self.lane.device.end
@@ -106,7 +106,7 @@ impl<N: BookName, P: PoolName + Send, S: Source, W: Drop> Driving<N, P, S, W> {
         let Asking { pump, kept: _, end } = asking;
         let Some(wire) = wire else { unreachable!() };
         let Remains { end, seat, mine } = lane.close(shop, end.unwrap_or(End::Left), pump.taken());
-        Account {
+        DrivenAccount {
             end,
             seat,
             mine,

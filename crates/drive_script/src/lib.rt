@@ -19,7 +19,7 @@ pub use driven::{Driven, drive};
 pub use driving::Driving;
 pub use happened::Happened;
 pub use lane::Lane;
-pub use leaving::Account;
+pub use leaving::DrivenAccount;
 pub use lines::drive_lines;
 pub use saying::LineRoom;
 pub use telling::tell;

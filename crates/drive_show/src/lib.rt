@@ -4,5 +4,5 @@
 mod held;
 pub mod laws;
 
-pub use drive_inputs::{Driven, drive_inputs};
+pub use drive_inputs::{DrivenRun, drive_inputs};
 pub use held::{HELD_ROOM, held_line};

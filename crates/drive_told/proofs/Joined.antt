@@ -93,13 +93,14 @@ module _ {W : Type 0} (sends : Sending W) (books : book_sizes.Sizes) (z : pool_s
     told = ran.lists_are sends z books.shards ring threshold lines 0 each are.all;
   }
 
-  last_seat : IsLastSeat store (are.spare ∷ []) (map (λ (one : OneDriven W). one.seat) each) last
+  last_seat : IsLastSeat z store (are.spare ∷ []) (map (λ (one : OneDriven W). one.seat) each) last
   last_seat = record {
     all = subst (HasAll (store ∷ are.spare ∷ map (λ (one : OneDriven W). one.seat) each)) (sym were.last_is)
         (joins_add (are.spare ∷ map (λ (one : OneDriven W). one.seat) each) main store are.seats);
     spare_is = (are.spare_is, tt);
     loose = were.loose;
     looked = were.looked;
+    nearby = were.nearby;
   }
 
   -- by the deeds of these sessions, what was said is right

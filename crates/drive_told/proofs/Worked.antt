@@ -1,10 +1,10 @@
 -- The worked sessions meet all that the layers hand up.
 use Rattle.std.proofs.Common.{◌≡◌, ℕ, zero, suc, ◌+◌, ◌<◌, ◌≤◌, Bool, true, false, cond, List, [], ◌∷◌, ◌++◌, Option}
 use Rattle.std.proofs.Common.{Some, None, length, map, zip, slice_get, unwrap_or, refl, ap, sym, ◌∙◌, subst, ne_eqb}
-use Rattle.std.proofs.Common.{lit≤, arith}
-use Rattle.std.specs.Prelude.{codes}
+use Rattle.std.proofs.Common.{lit≤, arith, nat_lt}
+use Rattle.std.specs.Prelude.{codes, ◌&&◌}
 use Rattle.std.specs.Fmt.{digits}
-use Rattle.std.specs.List.{flat_map, range_with_len}
+use Rattle.std.specs.List.{flat_map, list_all, range_with_len}
 use Rattle.std.specs.FinMap as finite
 use Rattle.std.specs.Cmp.Lexicographic.{slice_cmp, bytes_decides, texts_ties}
 use Rattle.std.specs.Ordering.{nat_cmp, eq_by_cmp}
@@ -45,7 +45,8 @@ use Rattle.transcript_model.proofs.Judge.{is_large}
 use Rattle.drive_told.specs.Closed.{WereClosed}
 use Rattle.drive_told.specs.Driven.{OneDriven, AreDriven, terms_by}
 use Rattle.drive_told.specs.Worked.{pool, books, place, set_run, get_run, set_claims, get_claims, one_of, both}
-use Rattle.drive_told.specs.Worked.{shard_pages, session_pages, shards, lists, store, main, last, schedule, lines}
+use Rattle.drive_told.specs.Worked.{driven_shard_pages, driven_session_pages, shards, lists, store, main, last}
+use Rattle.drive_told.specs.Worked.{schedule, lines}
 use Rattle.drive_told.specs.Worked.{WorkedDrive}
 use Rattle.drive_told.proofs.Joined.{together}
 
@@ -66,10 +67,10 @@ one_at_most (suc (suc n)) =
     let m = suc (suc n) in
     omega (arith, away 0 m (λ is. omega arith), away 1 m (λ is. omega arith))
 
-closed : AreClosed books shards (map shown_session session_pages)
+closed : AreClosed books shards (map shown_session driven_session_pages)
 closed = record {
-  shard_pages = shard_pages;
-  session_pages = session_pages;
+  shard_pages = driven_shard_pages;
+  session_pages = driven_session_pages;
   shards_shown = refl;
   sessions_shown = refl;
   one = record {
@@ -177,6 +178,19 @@ parts = record {
   credits = refl;
 }
 
+lt_is : (a b : ℕ) → nat_lt a b ≡ true → a < b
+lt_is a b is = grind arith
+
+each_true : (a b : Bool) → (a && b) ≡ true → (a ≡ true) × (b ≡ true)
+each_true true b is = (refl, is)
+each_true false b is = absurd (cc)
+
+below : (bound : ℕ) (bs : List ℕ) → list_all (λ b. nat_lt b bound) bs ≡ true → Each (λ b. b < bound) bs
+below bound [] is = tt
+below bound (b ∷ bs) is =
+    let parts = each_true _ _ is in
+    (lt_is b bound parts.0, below bound bs parts.1)
+
 no_looks : (b : ℕ) → 0 < 0 → ⊥
 no_looks b some = omega (arith, some)
 
@@ -188,6 +202,7 @@ were = record {
   last_is = refl;
   loose = λ b. omega (arith, same_few 256 b);
   looked = λ b some. absurd (no_looks b some);
+  nearby = below 257 last.claims refl;
   closed_is = refl;
 }
 

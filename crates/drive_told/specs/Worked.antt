@@ -38,11 +38,11 @@ books = record { shards = 1; sessions = 2 }
 abbrev pub place : List ℕ
 place = 1179648 ∷ []
 
-abbrev pub was_set : PartOutcome
-was_set = record { answer = part.done; found = []; first = 0; stored = place }
+abbrev pub driven_was_set : PartOutcome
+driven_was_set = record { answer = part.done; found = []; first = 0; stored = place }
 
-abbrev pub was_found : PartOutcome
-was_found = record { answer = part.value bytes; found = place; first = 0; stored = [] }
+abbrev pub driven_was_found : PartOutcome
+driven_was_found = record { answer = part.value bytes; found = place; first = 0; stored = [] }
 
 -- a session that was asked one command, in so many bytes, and was left behind it
 abbrev pub left_after_one : ℕ → Command → PartOutcome → Run
@@ -55,10 +55,10 @@ left_after_one taken command done = record {
 }
 
 abbrev pub set_run : Run
-set_run = left_after_one 27 setting was_set
+set_run = left_after_one 27 setting driven_was_set
 
 abbrev pub get_run : Run
-get_run = left_after_one 20 getting was_found
+get_run = left_after_one 20 getting driven_was_found
 
 -- the buffers that the first session claimed, and the second one
 abbrev pub set_claims : List ℕ
@@ -88,28 +88,28 @@ both =
     ∷ []
 
 -- the book: both deeds in the shard, in the order of their ranks
-abbrev pub set_deed : Ranked
-set_deed = record {
-  deed = deed_of (entry_at 0 0 0) (part.set part.always false key_a bytes) was_set;
+abbrev pub driven_set_deed : Ranked
+driven_set_deed = record {
+  deed = deed_of (entry_at 0 0 0) (part.set part.always false key_a bytes) driven_was_set;
   shard = shard_of 1 key_a;
   rank = 1;
 }
 
-abbrev pub get_deed : Ranked
-get_deed = record {
-  deed = deed_of (entry_at 1 0 0) (part.get key_a) was_found;
+abbrev pub driven_get_deed : Ranked
+driven_get_deed = record {
+  deed = deed_of (entry_at 1 0 0) (part.get key_a) driven_was_found;
   shard = shard_of 1 key_a;
   rank = 2;
 }
 
-abbrev pub shard_pages : List Page
-shard_pages = page 0 (set_deed ∷ get_deed ∷ []) ∷ []
+abbrev pub driven_shard_pages : List Page
+driven_shard_pages = page 0 (driven_set_deed ∷ driven_get_deed ∷ []) ∷ []
 
-abbrev pub session_pages : List Page
-session_pages = page 0 (set_deed ∷ []) ∷ page 1 (get_deed ∷ []) ∷ []
+abbrev pub driven_session_pages : List Page
+driven_session_pages = page 0 (driven_set_deed ∷ []) ∷ page 1 (driven_get_deed ∷ []) ∷ []
 
 abbrev pub shards : List ShardList
-shards = shown_shard (page 0 (set_deed ∷ get_deed ∷ [])) ∷ []
+shards = shown_shard (page 0 (driven_set_deed ∷ driven_get_deed ∷ [])) ∷ []
 
 abbrev pub lists : List SessionList
 lists = map (λ (driven : OneDriven (List ℕ)). driven.list) both

@@ -7,7 +7,7 @@ use Rattle.std.proofs.lemmas.List.{length-map}
 use Rattle.flake_base.specs.Told.{HostTold, WireTold}
 use Rattle.pinned_pool.specs.Ends.{End}
 use Rattle.run_resources.specs.Opened.{pool_sizes}
-use Rattle.run_resources.specs.declared.sizes.Sizes.{Sizes}
+use Rattle.run_resources.specs.declared.sizes.RunSizes.{RunSizes}
 use Rattle.transcript_model.specs.Lines.{held_text, transcript_line}
 use Rattle.drive_script.specs.Says.{PrintsText}
 use Rattle.drive_script.proofs.Sayings.{says_then}
@@ -28,8 +28,8 @@ use Rattle.flake_run.proofs.Served.{ends_count}
 some_ends : {A : Type 0} (ends : List A) (n : ℕ) → length ends ≡ n → 1 ≤ n → ends ≢ []
 some_ends ends n count some none = omega (arith, count, some, ap length none)
 
-module _ {W : Type 0} (tells : W → WireTold) (sizes : Sizes) (names : List (List ℕ)) (wholes : List (Option (List ℕ)))
-    (host mid now : HostTold) (wires after : List W) where
+module _ {W : Type 0} (tells : W → WireTold) (sizes : RunSizes) (names : List (List ℕ))
+    (wholes : List (Option (List ℕ))) (host mid now : HostTold) (wires after : List W) where
   -- all sources come back, in whatever state
   pub record ComeBack (sources : List (Opened SourceTold)) : Type 0 where
     pub files : files_of sources ≡ range_with_len 0 (length names)

@@ -2,7 +2,7 @@
 use Rattle.std.specs.Prelude.{ℕ, ◌<◌, List, Option, Some, None, String, length, map, drop}
 use Rattle.std.specs.Global.{Global}
 use Rattle.std.specs.Option.{option_map}
-use Rattle.run_resources.specs.declared.sizes.Sizes.{Sizes}
+use Rattle.run_resources.specs.declared.sizes.RunSizes.{RunSizes}
 use Rattle.serve_words.specs.Drive as words
 use Rattle.serve_words.specs.Task.{word_texts}
 use Rattle.serve_words.specs.declared.drive.DriveTask.{DriveTask}
@@ -12,7 +12,7 @@ use Rattle.flake_run.specs.Task.{run_sizes}
 -- the schedule's name, and then those of the files whose requests are served; and the sizes
 pub record DriveJob : Type 0 where
   pub names : List (List ℕ)
-  pub sizes : Sizes
+  pub sizes : RunSizes
 
 abbrev pub drive_job : words.Drive → DriveJob
 drive_job task = record { names = task.files; sizes = run_sizes None task.sizes }

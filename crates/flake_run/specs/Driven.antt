@@ -13,7 +13,7 @@ use Rattle.pinned_pool.specs.Claims.{count_of}
 use Rattle.pinned_pool.specs.Ends.{End}
 use Rattle.schedule_text.specs.declared.line.Line.{Line}
 use Rattle.run_resources.specs.Opened.{pool_sizes}
-use Rattle.run_resources.specs.declared.sizes.Sizes.{Sizes}
+use Rattle.run_resources.specs.declared.sizes.RunSizes.{RunSizes}
 use Rattle.serve_model.specs.Demand.{demand_of}
 use Rattle.serve_model.specs.Shown.{IsCounted}
 use Rattle.transcript_model.specs.Lines.{EventLine, transcript_line}
@@ -41,7 +41,7 @@ pub record IsDrivenRun {W : Type 0} (z : pool.Sizes) (ring threshold : ℕ) (sch
   pub said : PrintsText false failed (flat_map transcript_line lines) old new
 
 -- and the schedule is what another source gave
-pub record IsDrivenBy {W : Type 0} (sizes : Sizes) (text : List ℕ) (ended failed : Bool) (givens : List (List ℕ))
+pub record IsDrivenBy {W : Type 0} (sizes : RunSizes) (text : List ℕ) (ended failed : Bool) (givens : List (List ℕ))
     (endeds : List Bool) (ends : List SessionEnd) (journal : List (List Entry)) (closed : End) (olds news : List W)
     (told : W → WireTold) (old new : HostTold) : Type 0 where
   pub schedule : List Line
@@ -57,7 +57,7 @@ abbrev pub some_put_failed : List SessionEnd → Bool
 some_put_failed ends = list_any (λ (end : SessionEnd). end.failed) ends
 
 -- The sources that come back behind the first were driven by the schedule that the first gave.
-pub record WasDriven {W : Type 0} (sizes : Sizes) (before after : Outside W) (done : RunOutcome) : Type 0 where
+pub record WasDriven {W : Type 0} (sizes : RunSizes) (before after : Outside W) (done : RunOutcome) : Type 0 where
   pub first : SourceTold
   pub rest : List SourceTold
   pub sources_are : sources_of done.sources ≡ first ∷ rest
@@ -114,7 +114,7 @@ pub record NotDriven {W : Type 0} (before after : Outside W) (done : RunOutcome)
   pub undriven : IsUndriven finding (length rest) first.given first.ended 0 first.faults
 
 -- what came of sources of these names, which hold this, and which all come back
-pub record CameOf {W : Type 0} (sizes : Sizes) (names : List (List ℕ)) (wholes : List (Option (List ℕ)))
+pub record CameOf {W : Type 0} (sizes : RunSizes) (names : List (List ℕ)) (wholes : List (Option (List ℕ)))
     (before after : Outside W) (done : RunOutcome) : Type 0 where
   pub driven : done.ends ≢ [] → WasDriven sizes before after done
   pub refused : done.ends ≡ [] → NotDriven before after done

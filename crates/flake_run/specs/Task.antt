@@ -4,7 +4,7 @@ use Rattle.std.specs.Global.{Global}
 use Rattle.std.specs.Option.{option_and_then, option_map, option_map_or}
 use Rattle.pin_core.specs.declared.sizes.Sizes as pool
 use Rattle.run_resources.specs.Opened.{dump_wires, pool_sizes}
-use Rattle.run_resources.specs.declared.sizes.Sizes.{Sizes}
+use Rattle.run_resources.specs.declared.sizes.RunSizes.{RunSizes}
 use Rattle.serve_words.specs.Frames.{FramesRequest, frames_request_of}
 use Rattle.serve_words.specs.Named.{name_of}
 use Rattle.serve_words.specs.Task as words
@@ -17,7 +17,7 @@ use Rattle.flake_run.specs.declared.words.FilesTask.{FilesTask}
 -- journal is what is said of it
 pub record Job : Type 0 where
   pub names : List (List ℕ)
-  pub sizes : Sizes
+  pub sizes : RunSizes
   pub workers : ℕ
   pub journal : Bool
 
@@ -25,7 +25,7 @@ pub record Job : Type 0 where
 abbrev pub RunTask : Type 0
 RunTask = Option Job
 
-abbrev pub run_sizes : Option ℕ → typed.Sizes → Sizes
+abbrev pub run_sizes : Option ℕ → typed.Sizes → RunSizes
 run_sizes dump sizes = record {
   shards = sizes.shards;
   small = sizes.small;
@@ -37,7 +37,7 @@ run_sizes dump sizes = record {
 }
 
 -- those of a run whose replies go as frames of at most so many bytes
-abbrev pub framed_sizes : ℕ → typed.Sizes → Sizes
+abbrev pub framed_sizes : ℕ → typed.Sizes → RunSizes
 framed_sizes mtu sizes = record (run_sizes None sizes) { mtu = Some mtu }
 
 abbrev pub job_of : words.Task → Job

@@ -22,7 +22,7 @@ use crate::words::sizes_of;
 use drive_show::{HELD_ROOM, held_line};
 use flake_base::{Host, Memory, Source, Wire};
 use pin_core::Held;
-use run_resources::Sizes;
+use run_resources::RunSizes;
 use serve_inputs::DumpEnd;
 use serve_words::drive_task;
 use std::alloc::Global;
@@ -43,7 +43,7 @@ fn say_held<H: Host>(host: &mut H, failed: bool, text: Vec<u8>, held: Held) -> b
 fn drive_opened<R: Wait, H: Host>(
     rt: &R,
     alloc: Global,
-    sizes: &Sizes,
+    sizes: &RunSizes,
     schedule: H::In,
     sources: Vec<H::In>,
     places: Vec<Opened<H::In>>,

@@ -11,9 +11,9 @@ ghost use Rattle.flake_run.specs.Schedule.{IsUndriven};
 use crate::finding::Finding;
 use crate::schedule::schedule_in;
 use crate::source::{flush, put};
-use drive_show::{Driven, drive_inputs};
+use drive_show::{DrivenRun, drive_inputs};
 use flake_base::{Host, Source, Wire};
-use run_resources::Sizes;
+use run_resources::RunSizes;
 use schedule_text::Line;
 use std::alloc::Global;
 use std::sync::Wait;
@@ -23,12 +23,12 @@ use std::sync::Wait;
 fn drive_sources<R: Wait, S: Source + Drop, H: Host>(
     rt: &R,
     alloc: Global,
-    sizes: &Sizes,
+    sizes: &RunSizes,
     schedule: &[Line],
     sources: Vec<S>,
     wires: Vec<Box<dyn Wire>>,
     host: &mut H,
-) -> Result<Driven<S, Box<dyn Wire>>, (Vec<S>, Vec<Box<dyn Wire>>)>
+) -> Result<DrivenRun<S, Box<dyn Wire>>, (Vec<S>, Vec<Box<dyn Wire>>)>
     requires sized { HasRunSizes (length sources.items) sizes.now }
     requires wires { length sources.items ≤ length wires.items }
     requires there { All (λ line. line_session line < length sources.items) schedule.now }
@@ -70,12 +70,12 @@ fn drive_sources<R: Wait, S: Source + Drop, H: Host>(
 pub fn drive_by<R: Wait, S: Source + Drop, H: Host>(
     rt: &R,
     alloc: Global,
-    sizes: &Sizes,
+    sizes: &RunSizes,
     schedule: &mut S,
     sources: Vec<S>,
     wires: Vec<Box<dyn Wire>>,
     host: &mut H,
-) -> Result<Driven<S, Box<dyn Wire>>, (Finding, Vec<S>, Vec<Box<dyn Wire>>)>
+) -> Result<DrivenRun<S, Box<dyn Wire>>, (Finding, Vec<S>, Vec<Box<dyn Wire>>)>
     requires sized { HasRunSizes (length sources.items) sizes.now }
     requires wires { length sources.items ≤ length wires.items }
     requires asked { S.given schedule.old ≡ [] }

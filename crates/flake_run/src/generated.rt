@@ -17,7 +17,7 @@ use crate::total::sum_of;
 use flake_base::{Host, Memory, Wire};
 use gen_words::{GenTask, gen_task};
 use report_text::REPORT_ROOM;
-use serve_generated::{InputSource, Refused, serve_generated};
+use serve_generated::{GeneratedRefusal, InputSource, serve_generated};
 use serve_inputs::{DumpEnd, Served};
 use session_pass::Gate;
 use std::alloc::Global;
@@ -31,7 +31,7 @@ fn serve_requests<R: Threads + Wait + Sync, G: Gate>(
     task: &GenTask,
     wires: Vec<Box<dyn Wire>>,
     gate: &G,
-) -> Result<Served<InputSource, Box<dyn Wire>>, (Refused, Vec<Box<dyn Wire>>)>
+) -> Result<Served<InputSource, Box<dyn Wire>>, (GeneratedRefusal, Vec<Box<dyn Wire>>)>
     requires task { IsAllowedGenerated task.now }
     requires wires { task.now.sessions ≤ length wires.items }
     ensures run { IfOk result (λ r. IsGeneratedRun task.now (map (λ s. s.given) r.sources.items)
@@ -40,7 +40,7 @@ fn serve_requests<R: Threads + Wait + Sync, G: Gate>(
     ensures shards { IfOk result (λ r. length r.journal.items ≡ 8) }
     ensures ends { IfOk result (λ r. length r.ends.items ≡ task.now.sessions) }
     ensures fits { IfOk result (λ r. IsTooMuch task.now → ⊥) }
-    ensures too_much { IfErr result (λ e. e.0 ≡ Refused.TooMuch → IsTooMuch task.now) }
+    ensures too_much { IfErr result (λ e. e.0 ≡ GeneratedRefusal.TooMuch → IsTooMuch task.now) }
     ensures back { IfErr result (λ e. e.1.items ≡ wires.items) }
 {
     let served = serve_generated(
@@ -106,7 +106,7 @@ pub fn generate<R: Threads + Wait + Sync, H: Host, G: Gate>(
                 wires: ran.wires,
             }
         }
-        Err((Refused::TooMuch, wires)) => refuse(alloc, host, Refusal::BadWords, wires),
-        Err((Refused::Memory, wires)) => refuse(alloc, host, Refusal::Memory, wires),
+        Err((GeneratedRefusal::TooMuch, wires)) => refuse(alloc, host, Refusal::BadWords, wires),
+        Err((GeneratedRefusal::Memory, wires)) => refuse(alloc, host, Refusal::Memory, wires),
     }
 }

@@ -8,7 +8,7 @@ ghost use Rattle.serve_inputs.specs.Dumped.{dump_told};
 ghost use Rattle.wire_told.specs.Sent.{PutIs, FlushIs};
 
 use flake_base::{End, Source, Wire};
-use serve_inputs::{Served, Sizes, serve_inputs};
+use serve_inputs::{RunSizes, Served, serve_inputs};
 use session_pass::Gate;
 use std::alloc::Global;
 use std::sync::Wait;
@@ -41,7 +41,7 @@ pub(crate) fn flush(wire: Box<dyn Wire>) -> (Box<dyn Wire>, bool)
 pub fn serve_sources<R: Threads + Wait + Sync, S: Source + Send + Drop, G: Gate>(
     rt: &R,
     alloc: Global,
-    sizes: &Sizes,
+    sizes: &RunSizes,
     workers: u16,
     sources: Vec<S>,
     wires: Vec<Box<dyn Wire>>,

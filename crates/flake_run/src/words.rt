@@ -7,7 +7,7 @@ ghost use Rattle.serve_words.specs.Task.{IsAllowed, task_shown};
 ghost use Rattle.flake_run.specs.Task.{framed_job_of, job_of, shown_task, run_sizes, run_task_of, wires_of};
 
 use flake_base::Memory;
-use serve_inputs::Sizes;
+use serve_inputs::RunSizes;
 use serve_words::{CommandName, FramesTask, ServeTask, command_name, frames_task, serve_task};
 use std::alloc::Global;
 
@@ -16,7 +16,7 @@ use std::alloc::Global;
 #[derive(Debug, Drop)]
 pub struct FilesTask<'a> {
     pub files: Vec<&'a str>,
-    pub sizes: Sizes,
+    pub sizes: RunSizes,
     pub workers: u16,
     pub journal: bool,
 }
@@ -73,7 +73,7 @@ fn framed_task<'a>(task: FramesTask<'a>) -> FilesTask<'a>
     ensures workers { (0 < result.workers) × (result.workers ≤ 16) }
 {
     FilesTask {
-        sizes: Sizes {
+        sizes: RunSizes {
             mtu: Some(task.mtu),
             ..sizes_of(None, &task.sizes)
         },
@@ -84,10 +84,10 @@ fn framed_task<'a>(task: FramesTask<'a>) -> FilesTask<'a>
 }
 
 /// The sizes of a run, which dumps all shards before this call, if it is to.
-pub(crate) fn sizes_of(dump: Option<u32>, sizes: &serve_words::Sizes) -> Sizes
+pub(crate) fn sizes_of(dump: Option<u32>, sizes: &serve_words::Sizes) -> RunSizes
     ensures { result ≡ run_sizes dump sizes.now }
 {
-    Sizes {
+    RunSizes {
         shards: sizes.shards,
         small: sizes.small,
         large: sizes.large,

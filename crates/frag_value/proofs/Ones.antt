@@ -5,13 +5,10 @@ use Rattle.std.proofs.lemmas.List.{take_all}
 use Rattle.pin_core.specs.Holding.{Key}
 use Rattle.pin_core.specs.declared.sizes.Sizes.{Sizes}
 use Rattle.pin_core.specs.declared.class.Class.{Class}
-use Rattle.pinned_pool.specs.Claims.{class_start, count_of, Passed, Wins}
+use Rattle.pinned_pool.specs.Starts.{ClaimsOne, ClaimsNone}
 use Rattle.pinned_pool.specs.Moves.{HasHolds}
 use Rattle.pinned_pool.specs.declared.pool.NoBuffer.{NoBuffer}
 use Rattle.pinned_pool.specs.declared.view.View.{View}
-use Rattle.pinned_pool.proofs.InClasses.{in_class}
-use Rattle.pinned_pool.proofs.ManyClaims.{claims_none, claims_one, claims_passed, none_free}
-use Rattle.pinned_pool.proofs.Still.{won-class, won-key}
 use Rattle.frag_value.specs.Fragments.{stored_fragments, class_for}
 use Rattle.frag_value.specs.Values.{IsCut, keys_of}
 use Rattle.frag_value.specs.Filled.{Fills, FillsAll}
@@ -26,11 +23,10 @@ module _ (z : Sizes) (class : Class) (bytes : List ℕ) (some : 0 < length bytes
   class_is m e = is ∙ ap class_for (sym e)
 
   -- it was claimed
-  module _ (k : Key) (u v : View) (won : Wins z class k u v) where
+  module _ (k : Key) (u v : View) (won : ClaimsOne z class k u v) where
     front_one : ClaimsFront z (length bytes) (k ∷ [])
     front_one =
-        let range = won-class z class k u v won in
-        let here = in_class z class k.buffer range.0 range.1 in
+        let here = won.class_is in
         (some, here.0, here.1 ∙ class_is (min 4096 (length bytes)) (omega (arith, short)), tt)
 
     -- and filled
@@ -38,8 +34,8 @@ module _ (z : Sizes) (class : Class) (bytes : List ℕ) (some : 0 < length bytes
       filled_one : FillsAll (k ∷ []) bytes ((k.buffer, length bytes) ∷ []) v w
       filled_one =
           let p : ℕ × ℕ = (k.buffer, length bytes) in
-          let key : keys_of (p ∷ []) ≡ k ∷ [] = ap (λ (j : Key). j ∷ []) (sym (won-key z class k u v won)) in
-          let ready = all_ready z (length bytes) (k ∷ []) u v (claims_one z class k u v won) front_one
+          let key : keys_of (p ∷ []) ≡ k ∷ [] = ap (λ (j : Key). j ∷ []) (sym won.claims.loose.0) in
+          let ready = all_ready z (length bytes) (k ∷ []) u v won.claims front_one
           (omega (arith, short)) in
           let cut : IsCut (length bytes) (p ∷ []) = (some, omega (arith, short), omega (arith, short)) in
           let none : WrittenTo (p ∷ []) bytes v 0 v = record {
@@ -60,28 +56,24 @@ module _ (z : Sizes) (class : Class) (bytes : List ℕ) (some : 0 < length bytes
 
       pub claims_filled : ClaimsFor z (stored_fragments bytes) u w
       claims_filled =
-          claims_for z (k ∷ []) (length bytes) bytes u v w refl (claims_one z class k u v won) front_one
+          claims_for z (k ∷ []) (length bytes) bytes u v w refl won.claims front_one
           (filled_stays (k ∷ []) bytes ((k.buffer, length bytes) ∷ []) v w filled_one)
 
       pub written_one : (x : List (ℕ × ℕ)) → x ≡ (k.buffer, length bytes) ∷ [] → IsWritten bytes x u w
       written_one x e = subst (λ y. IsWritten bytes y u w) (sym e)
-          (is_written (k ∷ []) bytes ((k.buffer, length bytes) ∷ []) u v w (claims_one z class k u v won) filled_one)
+          (is_written (k ∷ []) bytes ((k.buffer, length bytes) ∷ []) u v w won.claims filled_one)
 
   -- there was none
-  module _ (e : NoBuffer) (u w : View) (same_class : e.class ≡ class) (looked : e.looked ≡ count_of z class)
-      (passed : Passed (class_start z class) e.looked u w) where
+  module _ (e : NoBuffer) (u w : View) (none : ClaimsNone z class e u w) where
     pub claims_missed : ClaimsFor z (stored_fragments bytes) u w
-    claims_missed = claims_for z [] (length bytes) bytes u w w refl
-        (claims_passed (class_start z class) e.looked u w passed) tt (same_stays w w refl)
+    claims_missed = claims_for z [] (length bytes) bytes u w w refl none.claims tt (same_stays w w refl)
 
     pub none_one : NoneLeft z (stored_fragments bytes) e u w
     none_one =
-        let free = none_free z class [] e u u w (claims_none u) same_class looked passed in
-        let none : NoneLeftFor z (length bytes) 0 e u w = record {
+        let left : NoneLeftFor z (length bytes) 0 e u w = record {
           more = omega (arith, some);
-          class = same_class ∙ class_is (min 4096 (length bytes - 4096 * 0)) (omega (arith, short));
-          looked = free.looked;
-          found = free.found;
+          class = none.of_class ∙ class_is (min 4096 (length bytes - 4096 * 0)) (omega (arith, short));
+          looked = none.free.looked;
+          found = none.free.found;
         } in
-        none_left_of z [] (length bytes) bytes e u w w refl (claims_passed (class_start z class) e.looked u w passed) tt
-        none (same_stays w w refl)
+        none_left_of z [] (length bytes) bytes e u w w refl none.claims tt left (same_stays w w refl)

@@ -15,13 +15,13 @@ mod releasing;
 mod taker;
 mod text;
 
-pub use appending::append;
+pub use appending::{append, append_from};
 pub use error::{AppendError, PlaceError};
 pub use filling::fill;
 pub use frag::{Frag, Value};
 pub use handing::{hand, hand_over, hand_range};
 pub use limits::{FRAG_BYTES, MOST_FRAGS, SMALL_BYTES, VALUE_LIMIT};
-pub use placing::write;
+pub use placing::{write, write_from};
 pub use read::read_into;
 pub use releasing::release;
 pub use taker::Taker;

@@ -45,14 +45,19 @@ pub looked-more : (b : ℕ) (u w : View) (more : List (ℕ × ℕ)) → w.looks 
     → looked_at b u.looks ≤ looked_at b w.looks
 looked-more b u w more grew = omega (arith, ap (looked_at b) grew, looked-append b u.looks more)
 
--- each buffer of the class was looked at once more
+-- each buffer of a stretch was looked at once more
+pub found_in : (first count : ℕ) (v w : View) → Passed first count v w → (b : ℕ) → first ≤ b → b < first + count
+    → looked_at b v.looks < looked_at b w.looks
+found_in first count v w passed b low high =
+    let once = looks-once first b passed.looks passed.from low (omega (arith, high, passed.count)) in
+    omega (arith, once, ap (looked_at b) (ap (λ (x : View). x.looks) passed.seat), looked-append b v.looks passed.looks)
+
+-- and so was each buffer of a class
 pub found_each : (z : Sizes) (class : Class) (v w : View) → Passed (class_start z class) (count_of z class) v w
     → (b : ℕ) → b < buffers z → class_at z b ≡ class → looked_at b v.looks < looked_at b w.looks
 found_each z class v w passed b near at =
     let range = in_range z class b near at in
-    let once = looks-once (class_start z class) b passed.looks passed.from range.0
-    (omega (arith, range.1, passed.count)) in
-    omega (arith, once, ap (looked_at b) (ap (λ (x : View). x.looks) passed.seat), looked-append b v.looks passed.looks)
+    found_in (class_start z class) (count_of z class) v w passed b range.0 range.1
 
 -- how many are of a class
 pub buffers-append : (z : Sizes) (class : Class) (xs ys : List ℕ) → buffers_in z class (xs ++ ys)
@@ -102,6 +107,7 @@ pub ruleset classes = (
   in_range,
   looked-append,
   looked-more,
+  found_in,
   found_each,
   buffers-append,
   just-here,

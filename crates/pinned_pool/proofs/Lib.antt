@@ -19,3 +19,4 @@ pub mod WordRuns
 pub mod InClasses
 pub mod ManyClaims
 pub mod SoughtLaws
+pub mod FromStart

@@ -8,13 +8,14 @@ use Rattle.pin_core.specs.Holding.{Holding, Key, at, fresh}
 use Rattle.pin_core.specs.declared.sizes.Sizes.{Sizes}
 use Rattle.pin_core.specs.declared.class.Class.{Class}
 use Rattle.pinned_pool.specs.Moves.{meant_count, without, unpin, loose_key}
-use Rattle.pinned_pool.specs.Claims.{class_start, count_of, Passed, Wins}
+use Rattle.pinned_pool.specs.Claims.{Passed, WinsIn}
 use Rattle.pinned_pool.specs.Claimed.{with_claimed, KeepsCredits, Claims, IsIn, ClaimsMore, NoneFree, GivesBack}
+use Rattle.pinned_pool.specs.Starts.{ClaimsOne}
 use Rattle.pinned_pool.specs.declared.pool.NoBuffer.{NoBuffer}
 use Rattle.pinned_pool.specs.declared.view.View.{View}
 use Rattle.pinned_pool.proofs.AfterSteps.{times-own, without-own}
-use Rattle.pinned_pool.proofs.Still.{won-holds, won-credits, won-returns, won-claims, won-looks, won-key, won-class}
-use Rattle.pinned_pool.proofs.InClasses.{in_class, found_each, looked-more}
+use Rattle.pinned_pool.proofs.Still.{won-holds, won-credits, won-returns, won-claims, won-looks, won-key}
+use Rattle.pinned_pool.proofs.InClasses.{looked-more}
 
 pub claimed-more : (ks : List Key) (k : Key) (hs : List Holding) → with_claimed (ks ++ k ∷ []) hs ≡ fresh k.buffer
     ∷ with_claimed ks hs
@@ -113,17 +114,17 @@ claims_then ks js u v w a b = record {
       (apart-both ks u.holds v.holds js a.holds b.apart);
 }
 
-pub claims_one : (z : Sizes) (class : Class) (k : Key) (v w : View) → Wins z class k v w → Claims (k ∷ []) v w
-claims_one z class k v w won = record {
+pub claims_one : (first count : ℕ) (k : Key) (v w : View) → WinsIn first count k v w → Claims (k ∷ []) v w
+claims_one first count k v w won = record {
   keeps = record {
-    credits = won-credits z class k v w won;
-    returns = won-returns z class k v w won;
-    looks = (won.looks, won-looks z class k v w won);
+    credits = won-credits first count k v w won;
+    returns = won-returns first count k v w won;
+    looks = (won.looks, won-looks first count k v w won);
   };
-  holds = won-holds z class k v w won;
-  claims = won-claims z class k v w won;
+  holds = won-holds first count k v w won;
+  claims = won-claims first count k v w won;
   lasts = ap (λ (x : View). x.lasts) won.seat;
-  loose = (won-key z class k v w won, tt);
+  loose = (won-key first count k v w won, tt);
   apart = (won.alone, tt);
 }
 
@@ -153,44 +154,37 @@ more_none z class had v = record {
 }
 
 pub more_won : (z : Sizes) (class : Class) (n : ℕ) (had has next : List Key) (k : Key) (u v w : View)
-    → ClaimsMore z class n had has u v → next ≡ has ++ k ∷ [] → Wins z class k v w
+    → ClaimsMore z class n had has u v → next ≡ has ++ k ∷ [] → ClaimsOne z class k v w
     → ClaimsMore z class (n + 1) had next u w
-more_won z class n had has next k u v w was one won =
-    let range = won-class z class k v w won in
-    record {
-      more = was.more ++ k ∷ [];
-      list = one ∙ ap (λ l. l ++ k ∷ []) was.list ∙ append_assoc had was.more (k ∷ []);
-      few = omega (arith, length-append was.more (k ∷ []), was.few);
-      class_is = each-append (IsIn z class) was.more (k ∷ []) was.class_is
-          (in_class z class k.buffer range.0 range.1, tt);
-      claims = claims_then was.more (k ∷ []) u v w was.claims (claims_one z class k v w won);
-    }
+more_won z class n had has next k u v w was one won = record {
+  more = was.more ++ k ∷ [];
+  list = one ∙ ap (λ l. l ++ k ∷ []) was.list ∙ append_assoc had was.more (k ∷ []);
+  few = omega (arith, length-append was.more (k ∷ []), was.few);
+  class_is = each-append (IsIn z class) was.more (k ∷ []) was.class_is (won.class_is, tt);
+  claims = claims_then was.more (k ∷ []) u v w was.claims won.claims;
+}
 
-pub more_passed : (z : Sizes) (class : Class) (n count b m : ℕ) (had has : List Key) (u v w : View)
-    → ClaimsMore z class n had has u v → n ≤ count → Passed b m v w → ClaimsMore z class count had has u w
-more_passed z class n count b m had has u v w was fewer passed = record {
+pub more_passed : (z : Sizes) (class : Class) (n count : ℕ) (had has : List Key) (u v w : View)
+    → ClaimsMore z class n had has u v → n ≤ count → Claims [] v w → ClaimsMore z class count had has u w
+more_passed z class n count had has u v w was fewer passed = record {
   more = was.more;
   list = was.list;
   few = omega (arith, was.few);
   class_is = was.class_is;
-  claims = subst (λ l. Claims l u w) (append-nil was.more)
-      (claims_then was.more [] u v w was.claims (claims_passed b m v w passed));
+  claims = subst (λ l. Claims l u w) (append-nil was.more) (claims_then was.more [] u v w was.claims passed);
 }
 
-pub none_free : (z : Sizes) (class : Class) (ks : List Key) (e : NoBuffer) (u v w : View) → Claims ks u v
-    → e.class ≡ class → e.looked ≡ count_of z class → Passed (class_start z class) e.looked v w → NoneFree z e u w
-none_free z class ks e u v w was class_is looked passed =
-    let all : Passed (class_start z class) (count_of z class) v w = subst (λ m. Passed (class_start z class) m v w)
-    looked passed in
-    record {
-      looked = looked ∙ ap (count_of z) (sym class_is);
-      found = λ b near at. omega (
-        arith,
-        looked-more b u v was.keeps.looks.0 was.keeps.looks.1,
-        found_each z class v w all b near
-            (at ∙ class_is),
-      );
-    }
+-- a claim that found none, behind others
+pub none_free : (z : Sizes) (ks : List Key) (e : NoBuffer) (u v w : View) → Claims ks u v → NoneFree z e v w
+    → NoneFree z e u w
+none_free z ks e u v w was free = record {
+  looked = free.looked;
+  found = λ b near at. omega (
+    arith,
+    looked-more b u v was.keeps.looks.0 was.keeps.looks.1,
+    free.found b near at,
+  );
+}
 
 pub ruleset many_claims = (
   claimed-more,

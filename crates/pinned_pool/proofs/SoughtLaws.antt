@@ -1,6 +1,5 @@
 -- How what seats sought adds up, and where it begins.
 use Rattle.std.proofs.Common.{◌≡◌, ℕ, ◌+◌, ◌<◌, ◌≤◌, ⊎_elim, [], ◌∷◌, refl, ap, ◌∙◌, subst, arith}
-use Rattle.std.specs.Prelude.{Result, Ok, Err, IfOk, IfErr}
 use Rattle.pin_core.specs.Buffers.{buffers}
 use Rattle.pin_core.specs.Holding.{Key}
 use Rattle.pin_core.specs.declared.sizes.Sizes.{Sizes}
@@ -8,8 +7,7 @@ use Rattle.pin_core.specs.declared.class.Class.{Class}
 use Rattle.pinned_pool.specs.Views.{looked_at}
 use Rattle.pinned_pool.specs.Claims.{class_start, count_of, Passed, Wins}
 use Rattle.pinned_pool.specs.Classes.{class_at, just, buffers_in}
-use Rattle.pinned_pool.specs.Sought.{Sought, missing}
-use Rattle.pinned_pool.specs.declared.pool.NoBuffer.{NoBuffer}
+use Rattle.pinned_pool.specs.Sought.{Sought}
 use Rattle.pinned_pool.specs.declared.view.View.{View}
 use Rattle.pinned_pool.proofs.Still.{won-class, won-claims, won-looks}
 use Rattle.pinned_pool.proofs.InClasses.{in_class, found_each, looked-more, buffers-append, decide, just-else}
@@ -60,18 +58,19 @@ sought_won z class k v w won = record {
   missed = λ other. 0;
   missed_are = refl;
   claims = claimed;
-  looks = λ b near. omega (arith, looked-more b v w won.looks (won-looks z class k v w won));
+  looks = λ b near. omega
+      (arith, looked-more b v w won.looks (won-looks (class_start z class) (count_of z class) k v w won));
 }
   where
     claimed : (other : Class) → buffers_in z other w.claims + 0 ≤ buffers_in z other v.claims + just class 1 other
     claimed other =
-        let range = won-class z class k v w won in
+        let range = won-class (class_start z class) (count_of z class) k v w won in
         let is : class_at z k.buffer ≡ class = (in_class z class k.buffer range.0 range.1).1 in
         let here : just (class_at z k.buffer) 1 other ≡ just class 1 other = ap (λ c. just c 1 other) is in
         omega (
           arith,
           here,
-          ap (buffers_in z other) (won-claims z class k v w won),
+          ap (buffers_in z other) (won-claims (class_start z class) (count_of z class) k v w won),
           buffers-append z other v.claims
               (k.buffer ∷ []),
         )
@@ -99,15 +98,6 @@ sought_lost z class v w passed = record {
         ))
         (decide class here)
 
--- one claim, however it ended
-pub sought_claim : (z : Sizes) (class : Class) (said : Result Key NoBuffer) (v w : View)
-    → IfOk said (λ k. Wins z class k v w)
-    → IfErr said (λ e. (e.class ≡ class) × (e.looked ≡ count_of z class) × Passed (class_start z class) e.looked v w)
-    → Sought z (just class 1) (missing said) v w
-sought_claim z class (Ok k) v w won none = sought_won z class k v w won
-sought_claim z class (Err e) v w won none = sought_lost z class v w
-    (subst (λ n. Passed (class_start z class) n v w) none.1 none.2)
-
 -- some claims of a class, and one more
 pub sought_more : (z : Sizes) (class : Class) (n m : ℕ) (u v w : View) → Sought z (just class n) 0 u v
     → Sought z (just class 1) m v w → Sought z (just class (n + 1)) m u w
@@ -130,7 +120,6 @@ pub ruleset sought_laws = (
   sought_still,
   sought_won,
   sought_lost,
-  sought_claim,
   sought_more,
   sought_fewer,
 )

@@ -5,17 +5,16 @@ use Rattle.std.proofs.lemmas.List.{length-append, length-take-le}
 use Rattle.view_sums.specs.Total.{total, Each}
 use Rattle.pin_core.specs.Holding.{Holding, Key, at, sole_at, fresh}
 use Rattle.pin_core.specs.declared.sizes.Sizes.{Sizes}
-use Rattle.pin_core.specs.declared.class.Class.{Class}
 use Rattle.pinned_pool.specs.Moves.{means, same_key, meant_count, times_asked, HasHolds, front_of, pinned_hold, put}
 use Rattle.pinned_pool.specs.Moves.{sharing, taking, unpin, split_old, split_new, joined_views}
-use Rattle.pinned_pool.specs.Claims.{class_start, count_of, Passed, Wins}
+use Rattle.pinned_pool.specs.Claims.{Passed, WinsIn}
 use Rattle.pinned_pool.specs.Named.{IsSeat}
 use Rattle.pinned_pool.specs.declared.view.View.{View}
 use Rattle.pinned_pool.proofs.Keys.{same_key-refl, some-at, times-without}
 use Rattle.pinned_pool.proofs.AfterSteps as list
 
 -- a claim that won
-module _ (z : Sizes) (class : Class) (k : Key) (v w : View) (won : Wins z class k v w) where
+module _ (first count : ℕ) (k : Key) (v w : View) (won : WinsIn first count k v w) where
   pub won-holds : w.holds ≡ fresh k.buffer ∷ v.holds
   won-holds = ap (λ (x : View). x.holds) won.seat
 
@@ -31,8 +30,8 @@ module _ (z : Sizes) (class : Class) (k : Key) (v w : View) (won : Wins z class 
   pub won-looks : w.looks ≡ v.looks ++ won.looks
   won-looks = ap (λ (x : View). x.looks) won.seat
 
-  -- the buffer is one of the class
-  pub won-class : (class_start z class ≤ k.buffer) × (k.buffer < class_start z class + count_of z class)
+  -- the buffer is one of the stretch
+  pub won-class : (first ≤ k.buffer) × (k.buffer < first + count)
   won-class = let b = ap (λ (j : Key). j.buffer) won.key in (omega (arith, b), omega (arith, b, won.within))
 
   pub won-key : k ≡ record { buffer = k.buffer; pinned = false }

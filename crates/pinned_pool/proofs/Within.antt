@@ -90,10 +90,17 @@ module _ (z : Sizes) (v : View) (s : IsSeat z v) where
             (λ h n e. e ∙ sym (refronted-else b [] s.fronts.0 h.buffer n)) v.holds free s.fronts.1,
       ),
     );
+    claimed = each-append (λ (c : ℕ). c < buffers z) v.claims (b ∷ []) s.claimed (near, tt);
   }
 
   pub seat_lost : (b found : ℕ) → IsSeat z (lost b found v)
-  seat_lost b found = record { live = s.live; near = s.near; loose = s.loose; fronts = s.fronts }
+  seat_lost b found = record {
+    live = s.live;
+    near = s.near;
+    loose = s.loose;
+    fronts = s.fronts;
+    claimed = s.claimed;
+  }
 
   pub seat_pin : (b : ℕ) → 0 < total (at b) v.holds → 1 < v.credits → IsSeat z (pin b v)
   seat_pin b has rich =
@@ -124,6 +131,7 @@ module _ (z : Sizes) (v : View) (s : IsSeat z v) where
                 (λ h p. p) v.holds s.fronts.1,
           ),
         );
+        claimed = s.claimed;
       }
 
   pub seat_put : (b i x : ℕ) → i < buffer_words z b → IsSeat z (put b i x v)
@@ -147,6 +155,7 @@ module _ (z : Sizes) (v : View) (s : IsSeat z v) where
               v.holds
               s.fronts.1,
         );
+        claimed = s.claimed;
       }
     where
       short : (n : ℕ) (xs : List ℕ) → i < n → length xs ≤ n → length (take i xs ++ x ∷ []) ≤ n
@@ -158,6 +167,7 @@ module _ (z : Sizes) (v : View) (s : IsSeat z v) where
     near = each-without (IsNearby z) k v.holds s.near;
     loose = λ c. omega (arith, total-without (loose_at c) k v.holds, s.loose c);
     fronts = (s.fronts.0, each-without (λ h. h.front ≡ s.fronts.0 h.buffer) k v.holds s.fronts.1);
+    claimed = s.claimed;
   }
 
   pub seat_kept : (ks : List Key) (n : ℕ) → n < v.credits → IsSeat z (split_old ks n v)
@@ -166,6 +176,7 @@ module _ (z : Sizes) (v : View) (s : IsSeat z v) where
     near = each-left_by (IsNearby z) ks v.holds s.near;
     loose = λ c. omega (arith, total-left_by (loose_at c) ks v.holds, s.loose c);
     fronts = (s.fronts.0, each-left_by (λ h. h.front ≡ s.fronts.0 h.buffer) ks v.holds s.fronts.1);
+    claimed = s.claimed;
   }
 
   pub seat_given : (ks : List Key) (n : ℕ) → 0 < n → IsSeat z (split_new ks n v)
@@ -174,6 +185,7 @@ module _ (z : Sizes) (v : View) (s : IsSeat z v) where
     near = each-taken_by (IsNearby z) ks v.holds s.near;
     loose = λ c. omega (arith, total-left_by (loose_at c) ks v.holds, s.loose c);
     fronts = (s.fronts.0, each-taken_by (λ h. h.front ≡ s.fronts.0 h.buffer) ks v.holds s.fronts.1);
+    claimed = tt;
   }
 
   pub seat_joined : (w : View) → IsSeat z w → IsLoose (joined_views v w) → OneFront (joined_views v w)
@@ -184,6 +196,7 @@ module _ (z : Sizes) (v : View) (s : IsSeat z v) where
         near = each-append (IsNearby z) v.holds w.holds s.near other.near;
         loose = loose;
         fronts = fronts;
+        claimed = each-append (λ (b : ℕ). b < buffers z) v.claims w.claims s.claimed other.claimed;
       }
 
 -- a seat after a step
@@ -196,4 +209,10 @@ next_seat {S} table z id new me next w was same to kept_by = record {
 }
 
 pub seat_opened : (z : Sizes) (credits : ℕ) → 0 < credits → IsSeat z (opener credits)
-seat_opened z credits rich = record { live = rich; near = tt; loose = λ b. zero-le; fronts = (λ b. [], tt) }
+seat_opened z credits rich = record {
+  live = rich;
+  near = tt;
+  loose = λ b. zero-le;
+  fronts = (λ b. [], tt);
+  claimed = tt;
+}

@@ -34,12 +34,16 @@ pub record Passed (b n : ℕ) (old new : View) : Type 0 where
   pub count : length looks ≡ n
   pub seat : new ≡ looking looks old
 
--- some buffers of the class were found held, and then this one was won
-pub record Wins (z : Sizes) (class : Class) (k : Key) (old new : View) : Type 0 where
+-- some of the buffers of a stretch were found held, and then this one was won
+pub record WinsIn (first count : ℕ) (k : Key) (old new : View) : Type 0 where
   pub looks : List (ℕ × ℕ)
-  pub from : LooksFrom (class_start z class) looks
-  pub within : length looks < count_of z class
-  pub key : k ≡ record { buffer = class_start z class + length looks; pinned = false }
+  pub from : LooksFrom first looks
+  pub within : length looks < count
+  pub key : k ≡ record { buffer = first + length looks; pinned = false }
   pub seat : new ≡ won k.buffer (looking looks old)
   -- no other hold of the seat names the buffer
   pub alone : total (at k.buffer) old.holds ≡ 0
+
+-- some buffers of the class were found held, and then this one was won
+abbrev pub Wins : Sizes → Class → Key → View → View → Type 0
+Wins z class k old new = WinsIn (class_start z class) (count_of z class) k old new

@@ -5,6 +5,7 @@ pub mod Plays
 pub mod Claims
 pub mod Classes
 pub mod Claimed
+pub mod Starts
 pub mod Sought
 pub mod Bytes
 pub mod Named

@@ -1,5 +1,5 @@
 -- What a name ties to its pool.
-use Rattle.std.specs.Prelude.{◌≡◌, ◌<◌, ◌≤◌, [], length, Bool, true, false}
+use Rattle.std.specs.Prelude.{◌≡◌, ℕ, ◌<◌, ◌≤◌, [], length, Bool, true, false}
 use Rattle.atomic_table.specs.Seated.{TableId}
 use Rattle.atomic_table.specs.Table.{Me}
 use Rattle.view_sums.specs.Total.{Each}
@@ -23,6 +23,10 @@ no_pool_sizes = record { small = 0; large = 0; credits = 0 }
 abbrev pub IsNearby : Sizes → Holding → Type 0
 IsNearby z h = (h.buffer < buffers z) × (length h.front ≤ buffer_words z h.buffer)
 
+-- each buffer that the seat claimed is one of the pool's
+abbrev pub ClaimsAreNearby : Sizes → View → Type 0
+ClaimsAreNearby z v = Each (λ (b : ℕ). b < buffers z) v.claims
+
 -- what is true of every seat
 pub record IsSeat (z : Sizes) (v : View) : Type 0 where
   -- it has a credit at least
@@ -30,6 +34,7 @@ pub record IsSeat (z : Sizes) (v : View) : Type 0 where
   pub near : Each (IsNearby z) v.holds
   pub loose : IsLoose v
   pub fronts : OneFront v
+  pub claimed : ClaimsAreNearby z v
 
 -- a seat of the pool
 pub record IsSeatOf {S : Type 0} (table : TableId) (sizes : Sizes) (id : TableId) (me : Me S View) : Type 0 where

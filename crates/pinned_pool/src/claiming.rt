@@ -9,6 +9,8 @@ ghost use Rattle.std.specs.Prelude.{
   length,
   vec_len,
   vec_capacity,
+  IfNone,
+  IfSome,
   IfOk,
   IfErr,
   OnOk,
@@ -20,15 +22,17 @@ ghost use Rattle.view_sums.specs.Total.{total, Each};
 ghost use Rattle.pin_core.specs.Buffers.{buffers};
 ghost use Rattle.pin_core.specs.Holding.{Holding, Key, at};
 ghost use Rattle.pinned_pool.specs.Moves.{won, lost, loose_key};
-ghost use Rattle.pinned_pool.specs.Claims.{Passed, Wins, class_start, count_of};
+ghost use Rattle.pinned_pool.specs.Claims.{Passed, Wins, WinsIn, class_start, count_of};
 ghost use Rattle.pinned_pool.specs.Claimed.{with_claimed, ClaimsMore, NoneFree, GivesBack};
 ghost use Rattle.pinned_pool.specs.Classes.{just};
+ghost use Rattle.pinned_pool.specs.Starts.{tried_last, ClaimsNone, ClaimsOne, WinsAround};
 ghost use Rattle.pinned_pool.specs.Sought.{Sought, missing};
 
 use crate::hold::Hold;
 use crate::name::PoolName;
 use crate::pool::{NoBuffer, Pool};
 use crate::seat::PoolSeat;
+use crate::start::ClaimStart;
 use pin_core::Class;
 use std::marker::PhantomData;
 
@@ -92,28 +96,24 @@ impl<N: PoolName> Pool<N> {
         passed
     }
 
-    // Goes over the buffers of the class in ascending order.
-    fn scan(&self, seat: &mut PoolSeat<N>, class: Class) -> Result<Hold<N>, NoBuffer>
-        ensures won { IfOk result (λ h. Wins N.sizes class h seat.old seat.new) }
-        ensures none { IfErr result (λ e. (e.class ≡ class) × (e.looked ≡ count_of N.sizes class)
-            × Passed (class_start N.sizes class) e.looked seat.old seat.new) }
+    // Goes over a stretch of buffers in ascending order, and takes the first one that it finds free.
+    fn scan(&self, seat: &mut PoolSeat<N>, first: u32, count: u32) -> Option<Hold<N>>
+        requires { first + count ≤ buffers N.sizes }
+        ensures won { IfSome result (λ h. WinsIn first count h seat.old seat.new) }
+        ensures none { IfNone result (Passed first count seat.old seat.new) }
     {
-        let (first, count) = self.range(class);
         let passed = self.pass_held(seat, first, count);
         for k in passed..count {
             let buffer = first + k;
             if self.win(seat, buffer) {
-                return Ok(Hold {
+                return Some(Hold {
                     buffer,
                     pinned: false,
                     name: PhantomData,
                 });
             }
         }
-        Err(NoBuffer {
-            class,
-            looked: count,
-        })
+        None
     }
 
     /// Takes the first buffer of the class that it finds free, in ascending order. The hold is exclusive, and its front
@@ -124,15 +124,52 @@ impl<N: PoolName> Pool<N> {
             × Passed (class_start N.sizes class) e.looked seat.old seat.new) }
         ensures sought { Sought N.sizes (just class 1) (missing result) seat.old seat.new }
     {
-        self.scan(seat, class)
+        let (first, count) = self.range(class);
+        match self.scan(seat, first, count) {
+            Some(hold) => Ok(hold),
+            None => Err(NoBuffer {
+                class,
+                looked: count,
+            }),
+        }
     }
 
-    /// Claims so many buffers of the class. Their holds go to the end of the list, also after a refusal.
+    /// Takes a buffer of the class like `claim`, but begins at the start, and tries those in front of it last. Where
+    /// the start is behind them all it begins at the first.
+    pub fn claim_from(
+        &self,
+        seat: &mut PoolSeat<N>,
+        class: Class,
+        start: ClaimStart,
+    ) -> Result<Hold<N>, NoBuffer>
+        ensures won { IfOk result
+            (λ h. WinsAround N.sizes class (tried_last N.sizes class start) h seat.old seat.new) }
+        ensures claims { IfOk result (λ h. ClaimsOne N.sizes class h seat.old seat.new) }
+        ensures none { IfErr result (λ e. ClaimsNone N.sizes class e seat.old seat.new) }
+        ensures sought { Sought N.sizes (just class 1) (missing result) seat.old seat.new }
+    {
+        let (first, count) = self.range(class);
+        let last = start.last_of(class, count);
+        if let Some(hold) = self.scan(seat, first + last, count - last) {
+            return Ok(hold);
+        }
+        match self.scan(seat, first, last) {
+            Some(hold) => Ok(hold),
+            None => Err(NoBuffer {
+                class,
+                looked: count,
+            }),
+        }
+    }
+
+    /// Claims so many buffers of the class, each from the start on. Their holds go to the end of the list, also after a
+    /// refusal.
     pub fn claim_each(
         &self,
         seat: &mut PoolSeat<N>,
         class: Class,
         count: usize,
+        start: ClaimStart,
         holds: &mut Vec<Hold<N>>,
     ) -> Result<(), NoBuffer>
         requires room { vec_len holds.old + count ≤ vec_capacity holds.old }
@@ -145,7 +182,7 @@ impl<N: PoolName> Pool<N> {
     {
         let all = holds.len() + count;
         while holds.len() < all {
-            let hold = self.claim(seat, class)?;
+            let hold = self.claim_from(seat, class, start)?;
             holds.push_reserved(hold);
         }
         Ok(())

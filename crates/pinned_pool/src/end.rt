@@ -2,6 +2,7 @@
 ghost use Rattle.std.specs.Prelude.{◌≡◌, ◌+◌, ◌<◌, ◌≤◌};
 ghost use Rattle.std.specs.Slots.{slots_items, slots_len, IsFull};
 ghost use Rattle.pinned_pool.specs.Ends.{nonzero_in, pool_end, LooksClaimed, AllEnded};
+ghost use Rattle.pinned_pool.specs.Named.{ClaimsAreNearby};
 ghost use Rattle.pinned_pool.specs.Views.{IsLoose};
 
 use crate::name::PoolName;
@@ -60,6 +61,7 @@ impl<N: PoolName> Pool<N> {
         ensures loose { IsLoose seat }
         ensures looks { LooksClaimed seat }
         ensures lasts { AllEnded seat }
+        ensures claimed { ClaimsAreNearby N.sizes seat }
     {
         let Pool {
             table,

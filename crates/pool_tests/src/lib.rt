@@ -11,6 +11,8 @@ mod pool;
 #[cfg(test)]
 mod rings;
 #[cfg(test)]
+mod starts;
+#[cfg(test)]
 mod values;
 #[cfg(test)]
 mod workers;

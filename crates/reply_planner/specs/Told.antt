@@ -33,4 +33,4 @@ module _ {N : Type 0} (z : Sizes) where
 
   abbrev pub told : History N → PlanTaken
   told Nothing = record { taken = []; begun = None }
-  told (Then' step _ before) = does (told before) step
+  told (Then' step _ before) = does (told before) step.value

@@ -35,17 +35,18 @@ pub(crate) enum Step<N: PoolName> {
     Finished,
 }
 
-/// All that a plan was given. The program keeps the last step alone, and contracts see all.
+/// All that a plan was given. The program keeps nothing of it, and contracts see all.
 #[derive(Drop)]
 pub(crate) enum History<N: PoolName> {
     Nothing,
-    Then(Step<N>, Snapshot<History<N>>),
+    Then(Snapshot<Step<N>>, Snapshot<History<N>>),
 }
 
 impl<N: PoolName> History<N> {
     pub(crate) fn add(&mut self, step: Step<N>)
         ensures { told N.sizes self.new ≡ does N.sizes (told N.sizes self.old) step }
     {
+        let step = Snapshot::of(&step);
         let before = Snapshot::of(self);
         *self = History::Then(step, before);
     }

@@ -35,7 +35,7 @@ ghost use Rattle.reply_planner.specs.Stages.{
 use crate::error::OpenError;
 use crate::lists::Lists;
 use flake_base::Memory;
-use pinned_pool::{Class, Hold, Pool, PoolName, PoolSeat};
+use pinned_pool::{ClaimStart, Class, Hold, Pool, PoolName, PoolSeat};
 use reply_layout::Need;
 use std::alloc::Global;
 use std::marker::Model;
@@ -100,7 +100,13 @@ impl<N: PoolName> Stage<N> {
             spare: Vec::with_capacity(alloc, STAGE_SIZE)?,
             alloc,
         };
-        if let Err(none) = pool.claim_each(seat, Class::Small, STAGE_SIZE, &mut holds) {
+        if let Err(none) = pool.claim_each(
+            seat,
+            Class::Small,
+            STAGE_SIZE,
+            ClaimStart::FIRST,
+            &mut holds,
+        ) {
             pool.unclaim(seat, &mut holds);
             return Err(OpenError::NoBuffer(none));
         }

@@ -12,6 +12,7 @@ use Rattle.pin_core.specs.declared.sizes.Sizes as pool_sizes
 use Rattle.pinned_pool.specs.Moves.{joined_views}
 use Rattle.pinned_pool.specs.Views.{IsLoose}
 use Rattle.pinned_pool.specs.Ends.{End, pool_end, LooksClaimed}
+use Rattle.pinned_pool.specs.Named.{ClaimsAreNearby}
 use Rattle.pinned_pool.specs.declared.view.View.{View}
 use Rattle.order_book.specs.Closed.{AreClosed}
 use Rattle.order_book.specs.Pages.{ShardList, SessionList}
@@ -40,8 +41,8 @@ Texts z givens endeds ends lists journal texts replies end =
 pub closed : (books : book_sizes.Sizes) (z : pool_sizes.Sizes) (shards : List ShardList) (lists : List SessionList)
     (journal : List (List Entry)) (main store last : View) (end : End) → AreClosed books shards lists
     → AreParts z books.shards shards journal store → last ≡ joined_views main store → IsLoose last → LooksClaimed last
-    → end ≡ pool_end z last → WasClosed books z lists main journal end
-closed books z shards lists journal main store last end tied parts last_is loose looked end_is = record {
+    → ClaimsAreNearby z last → end ≡ pool_end z last → WasClosed books z lists main journal end
+closed books z shards lists journal main store last end tied parts last_is loose looked nearby end_is = record {
   shards = shards;
   store = store;
   last = last;
@@ -50,6 +51,7 @@ closed books z shards lists journal main store last end tied parts last_is loose
   last_is = last_is;
   loose = loose;
   looked = looked;
+  nearby = nearby;
   closed_is = end_is;
 }
 
@@ -58,19 +60,20 @@ pub shown : (books : book_sizes.Sizes) (z : pool_sizes.Sizes) (shards : List Sha
     (journal : List (List Entry)) (main store last : View) (closed : End)
     → ServedTogether → WholeRun → SeenMakesDump → AreClosed books shards lists → length lists ≡ books.sessions
     → AreParts z books.shards shards journal store → last ≡ joined_views main store
-    → IsLoose last → LooksClaimed last → closed ≡ pool_end z last
+    → IsLoose last → LooksClaimed last → ClaimsAreNearby z last → closed ≡ pool_end z last
     → (each : List OneRun) → AreRuns z books.shards each lists main → HaveShown z each journal closed
 shown books z shards lists journal main store last closed together whole makes are_closed as_many parts last_is loose
-    looked closed_is each runs =
+    looked nearby closed_is each runs =
     let own : List SessionList = map (λ (one : OneRun). one.list) each in
     let ends : List SessionEnd = map (λ (one : OneRun). one.end) each in
     let seats : List View = map (λ (one : OneRun). one.seat) each in
-    let is : IsLastSeat store (runs.spare ∷ []) seats last = record {
+    let is : IsLastSeat z store (runs.spare ∷ []) seats last = record {
       all = subst (HasAll (store ∷ runs.spare ∷ seats)) (sym last_is)
           (joins_add (runs.spare ∷ seats) main store runs.seats);
       spare_is = (runs.spare_is, tt);
       loose = loose;
       looked = looked;
+      nearby = nearby;
     } in
     let served = together z books.shards each runs.all in
     let own_closed = subst (AreClosed books shards) runs.lists_are are_closed in

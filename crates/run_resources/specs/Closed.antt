@@ -4,6 +4,7 @@ use Rattle.flake_base.specs.declared.journal.Entry.{Entry}
 use Rattle.pin_core.specs.declared.sizes.Sizes as pool
 use Rattle.pinned_pool.specs.Ends.{End, pool_end, LooksClaimed}
 use Rattle.pinned_pool.specs.Moves.{joined_views}
+use Rattle.pinned_pool.specs.Named.{ClaimsAreNearby}
 use Rattle.pinned_pool.specs.Views.{IsLoose}
 use Rattle.pinned_pool.specs.declared.view.View.{View}
 use Rattle.order_book.specs.Closed.{AreClosed}
@@ -23,4 +24,5 @@ pub record WasClosed (b : book.Sizes) (z : pool.Sizes) (lists : List SessionList
   pub last_is : last ≡ joined_views main store
   pub loose : IsLoose last
   pub looked : LooksClaimed last
+  pub nearby : ClaimsAreNearby z last
   pub closed_is : closed ≡ pool_end z last

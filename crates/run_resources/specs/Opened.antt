@@ -17,10 +17,10 @@ use Rattle.session_pass.specs.Views.{SessionView, whole_view}
 use Rattle.tx_ring.specs.Rule.{blank_driver, blank_device}
 use Rattle.tx_ring.specs.Shown.{device_ring, device_view}
 use Rattle.tx_ring.specs.declared.device.DeviceEnd.{DeviceEnd}
-use Rattle.run_resources.specs.declared.sizes.Sizes.{Sizes}
+use Rattle.run_resources.specs.declared.sizes.RunSizes.{RunSizes}
 
 -- the sizes that can be opened for so many sources
-pub record HasRunSizes (count : ℕ) (sizes : Sizes) : Type 0 where
+pub record HasRunSizes (count : ℕ) (sizes : RunSizes) : Type 0 where
   pub count_is : (1 ≤ count) × (count ≤ 16)
   pub shards : (1 ≤ sizes.shards) × (sizes.shards ≤ 16)
   pub small : (128 * count ≤ sizes.small) × (sizes.small ≤ 65_536)
@@ -42,7 +42,7 @@ abbrev pub credits_of_dump : Option ℕ → ℕ → ℕ
 credits_of_dump None credits = 0
 credits_of_dump (Some before) credits = credits
 
-abbrev pub dump_credits : Sizes → ℕ
+abbrev pub dump_credits : RunSizes → ℕ
 dump_credits sizes = credits_of_dump sizes.dump (sizes.shards * (sizes.small + sizes.large) + 4)
 
 -- how many wires a dump needs
@@ -50,7 +50,7 @@ abbrev pub dump_wires : Option ℕ → ℕ
 dump_wires None = 0
 dump_wires (Some before) = 1
 
-abbrev pub pool_sizes : ℕ → Sizes → pool.Sizes
+abbrev pub pool_sizes : ℕ → RunSizes → pool.Sizes
 pool_sizes count sizes = record {
   small = sizes.small;
   large = sizes.large;
@@ -70,10 +70,10 @@ pub record AreSeats (count : ℕ) (seats : SeatList) : Type 0 where
   pub bare : Each IsBare seats.items
 
 -- the pool and the book of these sizes
-abbrev pub IsPool : ℕ → Sizes → pool.Sizes → Type 0
+abbrev pub IsPool : ℕ → RunSizes → pool.Sizes → Type 0
 IsPool count sizes z = z ≡ pool_sizes count sizes
 
-abbrev pub IsBook : ℕ → Sizes → book.Sizes → Type 0
+abbrev pub IsBook : ℕ → RunSizes → book.Sizes → Type 0
 IsBook count sizes b = (b.shards ≡ sizes.shards) × (b.sessions ≡ count)
 
 module _ {g : Ghosts Sent} where

@@ -12,5 +12,6 @@ mod slot;
 pub use closing::{Closed, close_all};
 pub use passing::SESSION_CREDITS;
 pub use resources::{RunResources, open_resources};
-pub use sizes::Sizes;
+pub use shard_store::ClaimSpread;
+pub use sizes::RunSizes;
 pub use slot::SessionSlot;

@@ -1,8 +1,11 @@
 use crate::passing::SESSION_CREDITS;
+use pinned_pool::ClaimStart;
+use reply_planner::STAGE_SIZE;
+use shard_store::ClaimSpread;
 
 /// How much of everything a run is given.
 #[derive(Clone, Copy, Debug, PartialEq, Eq)]
-pub struct Sizes {
+pub struct RunSizes {
     pub shards: u16,
     /// How many buffers of each class the pool has.
     pub small: u32,
@@ -17,8 +20,8 @@ pub struct Sizes {
     pub mtu: Option<u16>,
 }
 
-impl Sizes {
-    ghost use Rattle.std.specs.Prelude.{◌≡◌, ◌^◌, ◌<◌, ◌≤◌};
+impl RunSizes {
+    ghost use Rattle.std.specs.Prelude.{◌≡◌, ◌-◌, ◌*◌, ◌/◌, ◌^◌, ◌<◌, ◌≤◌};
     ghost use Rattle.run_resources.specs.Opened.{HasRunSizes, dump_credits, pool_sizes};
 
     /// So many credits the pool of so many sessions has.
@@ -37,6 +40,28 @@ impl Sizes {
         match self.dump {
             Some(_) => u64::from(self.shards) * (u64::from(self.small) + u64::from(self.large)) + 4,
             None => 0,
+        }
+    }
+
+    /// Where the shards' claims may begin in a run of so many sessions: what stands behind the sessions' stages is
+    /// shared out evenly.
+    pub fn spread(&self, count: usize) -> ClaimSpread
+        requires { HasRunSizes count self.now }
+        ensures first { (result.first.small ≡ 128 * count) × (result.first.large ≡ 0) }
+        ensures step { (result.step.small ≡ (self.now.small - 128 * count) / self.now.shards)
+            × (result.step.large ≡ self.now.large / self.now.shards) }
+    {
+        let staged = STAGE_SIZE as u32 * count as u32;
+        let shards = u32::from(self.shards);
+        ClaimSpread {
+            first: ClaimStart {
+                small: staged,
+                large: 0,
+            },
+            step: ClaimStart {
+                small: (self.small - staged) / shards,
+                large: self.large / shards,
+            },
         }
     }
 }

@@ -23,7 +23,7 @@ use Rattle.run_resources.specs.Opened.{pool_sizes}
 use Rattle.run_resources.specs.Ran.{AreReads}
 use Rattle.serve_inputs.specs.Dumped.{DumpTold, IsDumpTold, no_dump}
 use Rattle.serve_inputs.specs.Ran.{RanAll}
-use Rattle.run_resources.specs.declared.sizes.Sizes.{Sizes}
+use Rattle.run_resources.specs.declared.sizes.RunSizes.{RunSizes}
 use Rattle.serve_generated.specs.Generated.{RanGenerated, AreFronts, commands_in_all, inputs_of, generated_sizes}
 use Rattle.serve_generated.specs.Input.{InputState, new_input, bytes_held, to_come, none_to_come}
 use Rattle.serve_generated.proofs.Inputs.{inputs_below}
@@ -58,7 +58,7 @@ none_told : (commands : List (List Command)) (journal : List (List Entry)) (dump
 none_told commands journal dump told = untaken commands journal dump dump.taken refl told
 
 module _ {W : Type 0} (put_may : W → Bor (List ℕ) → (W × Bool) → Type 0) (flush_may : W → (W × Bool) → Type 0) where
-  pub ran_generated : (task : GenTask) (sizes : Sizes) (sources lasts : List InputState) (ends : List SessionEnd)
+  pub ran_generated : (task : GenTask) (sizes : RunSizes) (sources lasts : List InputState) (ends : List SessionEnd)
       (counts : List ℕ) (journal : List (List Entry)) (pool : End) (dump : DumpTold) (olds news : List W)
       → task.sessions ≤ 16 → task.requests ≤ 4000 → sizes ≡ generated_sizes task
       → sources ≡ inputs_below task.number task.requests task.sessions
@@ -82,7 +82,7 @@ module _ {W : Type 0} (put_may : W → Bor (List ℕ) → (W × Bool) → Type 0
       let gave = fronts_of (inputs_of task) lasts held in
       let commands = all_commands was.ran.served.sessions in
       let none = none_told commands journal dump
-      (subst (λ (asked : Option ℕ). IsDumpTold asked commands journal dump) (ap (λ (s : Sizes). s.dump) sizes_are)
+      (subst (λ (asked : Option ℕ). IsDumpTold asked commands journal dump) (ap (λ (s : RunSizes). s.dump) sizes_are)
       was.dumped) in
       let ran : RanAll None put_may flush_may (pool_sizes task.sessions (generated_sizes task)) givens endeds ends
       counts

@@ -17,7 +17,7 @@ use Rattle.gen_words.specs.declared.task.GenTask.{GenTask}
 use Rattle.run_resources.specs.Opened.{pool_sizes}
 use Rattle.serve_inputs.specs.Dumped.{no_dump}
 use Rattle.serve_inputs.specs.Ran.{RanAll}
-use Rattle.run_resources.specs.declared.sizes.Sizes.{Sizes}
+use Rattle.run_resources.specs.declared.sizes.RunSizes.{RunSizes}
 
 -- the input of each session
 abbrev pub inputs_of : GenTask → List (List ℕ)
@@ -29,7 +29,7 @@ abbrev pub commands_in_all : GenTask → List (List Command)
 commands_in_all task = sessions_of task.number task.sessions task.requests
 
 -- the pool has as many buffers of each class as the commands may claim, and at least one large one
-abbrev pub generated_sizes : GenTask → Sizes
+abbrev pub generated_sizes : GenTask → RunSizes
 generated_sizes task = record {
   shards = 8;
   small = demand_of Small (commands_in_all task);

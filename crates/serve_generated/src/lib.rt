@@ -7,4 +7,4 @@ mod sizes;
 mod sources;
 
 pub use input::InputSource;
-pub use serve::{Refused, serve_generated};
+pub use serve::{GeneratedRefusal, serve_generated};

@@ -15,7 +15,7 @@ use std::thread::Threads;
 
 /// Why nothing was served.
 #[derive(Clone, Copy, Debug, PartialEq, Eq)]
-pub enum Refused {
+pub enum GeneratedRefusal {
     /// The commands may claim more buffers than a pool can have.
     TooMuch,
     Memory,
@@ -37,7 +37,7 @@ pub fn serve_generated<
     gate: &G,
     put: &PUT,
     flush: &FLUSH,
-) -> Result<Served<InputSource, W>, (Refused, Vec<W>)>
+) -> Result<Served<InputSource, W>, (GeneratedRefusal, Vec<W>)>
     requires calls { PUT.IsAlwaysCallable put.now × FLUSH.IsAlwaysCallable flush.now }
     requires task { IsAllowedGenerated task.now }
     requires wires { task.now.sessions ≤ length wires.items }
@@ -46,15 +46,15 @@ pub fn serve_generated<
         (histories r.journal.items) r.pool wires.items r.wires.items) }
     ensures shards { IfOk result (λ r. length r.journal.items ≡ 8) }
     ensures fits { IfOk result (λ r. IsTooMuch task.now → ⊥) }
-    ensures too_much { IfErr result (λ e. e.0 ≡ Refused.TooMuch → IsTooMuch task.now) }
-    ensures memory { IfErr result (λ e. e.0 ≡ Refused.Memory → IsTooMuch task.now → ⊥) }
+    ensures too_much { IfErr result (λ e. e.0 ≡ GeneratedRefusal.TooMuch → IsTooMuch task.now) }
+    ensures memory { IfErr result (λ e. e.0 ≡ GeneratedRefusal.Memory → IsTooMuch task.now → ⊥) }
     ensures back { IfErr result (λ e. e.1.items ≡ wires.items) }
 {
     let Some(sizes) = sizes_for(task) else {
-        return Err((Refused::TooMuch, wires));
+        return Err((GeneratedRefusal::TooMuch, wires));
     };
     let Ok(sources) = generated_sources(alloc, task.number, task.sessions, task.requests) else {
-        return Err((Refused::Memory, wires));
+        return Err((GeneratedRefusal::Memory, wires));
     };
     match serve_inputs(
         rt,
@@ -68,6 +68,6 @@ pub fn serve_generated<
         flush,
     ) {
         Ok(served) => Ok(served),
-        Err((_, wires)) => Err((Refused::Memory, wires)),
+        Err((_, wires)) => Err((GeneratedRefusal::Memory, wires)),
     }
 }

@@ -5,7 +5,7 @@ ghost use Rattle.serve_generated.specs.Generated.{IsTooMuch, generated_sizes};
 
 use gen_words::GenTask;
 use request_demand::generated_demand;
-use serve_inputs::Sizes;
+use serve_inputs::RunSizes;
 
 /// The most buffers of each class that a pool can have.
 const MOST_SMALL: u32 = 65_536;
@@ -14,7 +14,7 @@ const MOST_LARGE: u32 = 16_384;
 
 /// The usual sizes, with as many buffers of each class as the commands may claim, and at least one large one; none
 /// where no pool can have as many.
-pub(crate) fn sizes_for(task: &GenTask) -> Option<Sizes>
+pub(crate) fn sizes_for(task: &GenTask) -> Option<RunSizes>
     requires { IsAllowedGenerated task.now }
     ensures sizes { IfSome result (λ sizes. sizes ≡ generated_sizes task.now) }
     ensures sized { IfSome result (λ sizes. HasRunSizes task.now.sessions sizes) }
@@ -25,7 +25,7 @@ pub(crate) fn sizes_for(task: &GenTask) -> Option<Sizes>
     if demand.small > MOST_SMALL || demand.large > MOST_LARGE {
         return None;
     }
-    Some(Sizes {
+    Some(RunSizes {
         shards: 8,
         small: demand.small,
         large: demand.large.max(1),

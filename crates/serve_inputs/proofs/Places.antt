@@ -14,7 +14,7 @@ use Rattle.pinned_pool.specs.declared.view.View.{View}
 use Rattle.serve_model.specs.Seats.{HasAll, IsSpare}
 use Rattle.serve_model.proofs.Seats.{joins_add}
 use Rattle.run_resources.specs.Opened.{credits_of_dump, dump_credits, pool_sizes}
-use Rattle.run_resources.specs.declared.sizes.Sizes.{Sizes}
+use Rattle.run_resources.specs.declared.sizes.RunSizes.{RunSizes}
 use Rattle.session_serve.specs.Dumps.{CanKeepAll}
 use Rattle.serve_inputs.specs.Orders.{DumpRequest, IsUnasked, IsFirstAsked}
 use Rattle.serve_inputs.specs.declared.orders.Order.{Order}
@@ -79,7 +79,7 @@ module _ {X : Type 0} where
         ap (map h) went ∙ ap (λ (v : Y). v ∷ map h xs) (same_part ∙ ap h is)
 
 -- a seat that was split off for a dump can keep the values of a pool of these sizes
-pub can_keep : {P W : Type 0} (order : Option (Order P W)) (count : ℕ) (sizes : Sizes) (z : pool.Sizes) (shards : ℕ)
+pub can_keep : {P W : Type 0} (order : Option (Order P W)) (count : ℕ) (sizes : RunSizes) (z : pool.Sizes) (shards : ℕ)
     → IfSome order (λ o. sizes.dump ≡ Some o.plan.before)
     → IfSome order (λ o. IsSpare o.plan.seat × (o.plan.seat.credits ≡ dump_credits sizes))
     → z ≡ pool_sizes count sizes → shards ≡ sizes.shards

@@ -13,8 +13,8 @@ use order_book::BookName;
 use pinned_pool::PoolName;
 use run_resources::SessionSlot;
 use session_pass::Gate;
-use session_serve::{DumpTurn, Line};
-use session_workers::{Done, Job, serve_all, serve_job};
+use session_serve::{DumpTurn, Link};
+use session_workers::{FinishedJob, ServeJob, serve_all, serve_job};
 use std::alloc::Global;
 use std::sync::Wait;
 use std::thread::Threads;
@@ -28,22 +28,22 @@ pub(crate) fn line_up<N: BookName, P: PoolName + Send, S: Source + Drop, W: Drop
     slots: Vec<SessionSlot<N, P>>,
     sources: Vec<S>,
     wires: Vec<W>,
-    jobs: Vec<Job<N, P, S, W>>,
-) -> (Vec<Job<N, P, S, W>>, IntoIter<W>)
+    jobs: Vec<ServeJob<N, P, S, W>>,
+) -> (Vec<ServeJob<N, P, S, W>>, IntoIter<W>)
     requires slots { All (λ d. IsSessionSlot P.sizes d.session d.device.end d.device.failed) slots.items }
     requires sources { length sources.items ≡ length slots.items }
     requires unread { All (λ s. S.given s ≡ []) sources.items }
     requires wires { length slots.items ≤ length wires.items }
     requires room { (jobs.items ≡ []) × (length slots.items ≤ vec_capacity jobs) }
     requires mtu { CanFrame mtu }
-    ensures fresh { All (λ job. IsNewJob P.sizes N.sizes.shards job.line.session job.line.pump job.line.device.end
-        job.line.device.failed job.line.mtu job.line.dump.plan job.line.dump.taken job.dump_wire) result.0.items }
-    ensures unasked { All (λ job. job.line.dump.plan ≡ None) result.0.items }
-    ensures mtus { All (λ job. job.line.mtu ≡ mtu) result.0.items }
-    ensures sessions { map (λ job. job.line.session) result.0.items ≡ map (λ d. d.session) slots.items }
-    ensures names { map (λ job. job.line.pump.origin.name) result.0.items ≡ map (λ s. S.name s) sources.items }
-    ensures wholes { map (λ job. job.line.pump.origin.whole) result.0.items ≡ map (λ s. S.whole s) sources.items }
-    ensures faults { map (λ job. job.line.pump.faults) result.0.items ≡ map (λ s. S.read_faults s) sources.items }
+    ensures fresh { All (λ job. IsNewJob P.sizes N.sizes.shards job.link.session job.link.pump job.link.device.end
+        job.link.device.failed job.link.mtu job.link.dump.plan job.link.dump.taken job.dump_wire) result.0.items }
+    ensures unasked { All (λ job. job.link.dump.plan ≡ None) result.0.items }
+    ensures mtus { All (λ job. job.link.mtu ≡ mtu) result.0.items }
+    ensures sessions { map (λ job. job.link.session) result.0.items ≡ map (λ d. d.session) slots.items }
+    ensures names { map (λ job. job.link.pump.origin.name) result.0.items ≡ map (λ s. S.name s) sources.items }
+    ensures wholes { map (λ job. job.link.pump.origin.whole) result.0.items ≡ map (λ s. S.whole s) sources.items }
+    ensures faults { map (λ job. job.link.pump.faults) result.0.items ≡ map (λ s. S.read_faults s) sources.items }
     ensures wires { map (λ job. job.wire) result.0.items ++ into_iter_items result.1 ≡ wires.items }
 {
     let mut jobs = jobs;
@@ -63,15 +63,15 @@ pub(crate) fn line_up<N: BookName, P: PoolName + Send, S: Source + Drop, W: Drop
         } = slot;
         let pump = Pump::new(alloc, source);
         let dump = DumpTurn::new(alloc, None);
-        let line = Line {
+        let link = Link {
             session,
             pump,
             device,
             dump,
             mtu,
         };
-        jobs.push_reserved(Job {
-            line,
+        jobs.push_reserved(ServeJob {
+            link,
             room,
             wire,
             dump_wire: None,
@@ -94,18 +94,18 @@ fn serve_here<
     rt: &R,
     alloc: Global,
     shop: &Shop<'_, N, P>,
-    jobs: Vec<Job<N, P, S, W>>,
-    dones: Vec<Done<N, P, S, W>>,
+    jobs: Vec<ServeJob<N, P, S, W>>,
+    dones: Vec<FinishedJob<N, P, S, W>>,
     gate: &G,
     put: &PUT,
     flush: &FLUSH,
-) -> Vec<Done<N, P, S, W>>
+) -> Vec<FinishedJob<N, P, S, W>>
     requires calls { PUT.IsAlwaysCallable put.now × FLUSH.IsAlwaysCallable flush.now }
-    requires fresh { All (λ job. IsNewJob P.sizes N.sizes.shards job.line.session job.line.pump job.line.device.end
-        job.line.device.failed job.line.mtu job.line.dump.plan job.line.dump.taken job.dump_wire) jobs.items }
+    requires fresh { All (λ job. IsNewJob P.sizes N.sizes.shards job.link.session job.link.pump job.link.device.end
+        job.link.device.failed job.link.mtu job.link.dump.plan job.link.dump.taken job.dump_wire) jobs.items }
     requires room { (dones.items ≡ []) × (length jobs.items ≤ vec_capacity dones) }
-    ensures { AllZip (λ job done. IsDone job.line.mtu (λ w p r. PUT.post put.now w p r)
-        (λ w r. FLUSH.post flush.now w r) P.sizes N.sizes.shards job.line.session job.line.pump job.line.dump.plan
+    ensures { AllZip (λ job done. IsDone job.link.mtu (λ w p r. PUT.post put.now w p r)
+        (λ w r. FLUSH.post flush.now w r) P.sizes N.sizes.shards job.link.session job.link.pump job.link.dump.plan
         job.wire job.dump_wire done.account.end done.account.sent done.account.mine done.account.seat
         done.account.pump done.wire done.dump) jobs.items result.items }
 {
@@ -130,20 +130,20 @@ pub(crate) fn serve_jobs<
     rt: &R,
     alloc: Global,
     shop: &Shop<'_, N, P>,
-    jobs: Vec<Job<N, P, S, W>>,
-    dones: Vec<Done<N, P, S, W>>,
+    jobs: Vec<ServeJob<N, P, S, W>>,
+    dones: Vec<FinishedJob<N, P, S, W>>,
     workers: u16,
     gate: &G,
     put: &PUT,
     flush: &FLUSH,
-) -> Vec<Done<N, P, S, W>>
+) -> Vec<FinishedJob<N, P, S, W>>
     requires calls { PUT.IsAlwaysCallable put.now × FLUSH.IsAlwaysCallable flush.now }
     requires workers { (0 < workers) × (workers ≤ 16) }
-    requires fresh { All (λ job. IsNewJob P.sizes N.sizes.shards job.line.session job.line.pump job.line.device.end
-        job.line.device.failed job.line.mtu job.line.dump.plan job.line.dump.taken job.dump_wire) jobs.items }
+    requires fresh { All (λ job. IsNewJob P.sizes N.sizes.shards job.link.session job.link.pump job.link.device.end
+        job.link.device.failed job.link.mtu job.link.dump.plan job.link.dump.taken job.dump_wire) jobs.items }
     requires room { (dones.items ≡ []) × (length jobs.items ≤ vec_capacity dones) }
-    ensures { AllZip (λ job done. IsDone job.line.mtu (λ w p r. PUT.post put.now w p r)
-        (λ w r. FLUSH.post flush.now w r) P.sizes N.sizes.shards job.line.session job.line.pump job.line.dump.plan
+    ensures { AllZip (λ job done. IsDone job.link.mtu (λ w p r. PUT.post put.now w p r)
+        (λ w r. FLUSH.post flush.now w r) P.sizes N.sizes.shards job.link.session job.link.pump job.link.dump.plan
         job.wire job.dump_wire done.account.end done.account.sent done.account.mine done.account.seat
         done.account.pump done.wire done.dump) jobs.items result.items }
 {

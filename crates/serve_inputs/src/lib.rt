@@ -13,5 +13,5 @@ mod space;
 
 pub use dumped::DumpEnd;
 pub use run::serve_inputs;
-pub use run_resources::Sizes;
+pub use run_resources::RunSizes;
 pub use serving::Served;

@@ -14,9 +14,9 @@ use crate::dumped::DumpEnd;
 use flake_base::Source;
 use order_book::BookName;
 use pinned_pool::{Pool, PoolName, PoolSeat};
-use run_resources::Sizes;
+use run_resources::RunSizes;
 use session_serve::{DumpPlan, DumpTurn};
-use session_workers::{Done, Dumped, Job};
+use session_workers::{Dumped, FinishedJob, ServeJob};
 use std::alloc::Global;
 
 /// A dump that a session is to be asked for.
@@ -30,7 +30,7 @@ pub(crate) struct Order<P: PoolName, W> {
 pub(crate) fn split_order<P: PoolName, W: Drop>(
     pool: &Pool<P>,
     main: &mut PoolSeat<P>,
-    sizes: &Sizes,
+    sizes: &RunSizes,
     count: usize,
     wires: &mut Vec<W>,
 ) -> Option<Order<P, W>>
@@ -55,28 +55,28 @@ pub(crate) fn split_order<P: PoolName, W: Drop>(
 /// The first session is asked for it.
 pub(crate) fn ask_first<N: BookName, P: PoolName + Send, S: Source + Drop, W: Drop>(
     alloc: Global,
-    jobs: &mut Vec<Job<N, P, S, W>>,
+    jobs: &mut Vec<ServeJob<N, P, S, W>>,
     order: Option<Order<P, W>>,
 )
     requires order { IfSome order (λ o. CanKeepAll P.sizes N.sizes.shards o.plan.seat) }
     requires one { 0 < length jobs.old.items }
-    requires fresh { All (λ job. IsNewJob P.sizes N.sizes.shards job.line.session job.line.pump job.line.device.end
-        job.line.device.failed job.line.mtu job.line.dump.plan job.line.dump.taken job.dump_wire) jobs.old.items }
-    requires unasked { All (λ job. job.line.dump.plan ≡ None) jobs.old.items }
-    ensures fresh { All (λ job. IsNewJob P.sizes N.sizes.shards job.line.session job.line.pump job.line.device.end
-        job.line.device.failed job.line.mtu job.line.dump.plan job.line.dump.taken job.dump_wire) jobs.new.items }
-    ensures asked { IsFirstAsked order (map (λ job. (job.line.dump.plan, job.dump_wire)) jobs.new.items) }
-    ensures sessions { map (λ job. job.line.session) jobs.new.items ≡ map (λ job. job.line.session) jobs.old.items }
-    ensures pumps { map (λ job. job.line.pump) jobs.new.items ≡ map (λ job. job.line.pump) jobs.old.items }
+    requires fresh { All (λ job. IsNewJob P.sizes N.sizes.shards job.link.session job.link.pump job.link.device.end
+        job.link.device.failed job.link.mtu job.link.dump.plan job.link.dump.taken job.dump_wire) jobs.old.items }
+    requires unasked { All (λ job. job.link.dump.plan ≡ None) jobs.old.items }
+    ensures fresh { All (λ job. IsNewJob P.sizes N.sizes.shards job.link.session job.link.pump job.link.device.end
+        job.link.device.failed job.link.mtu job.link.dump.plan job.link.dump.taken job.dump_wire) jobs.new.items }
+    ensures asked { IsFirstAsked order (map (λ job. (job.link.dump.plan, job.dump_wire)) jobs.new.items) }
+    ensures sessions { map (λ job. job.link.session) jobs.new.items ≡ map (λ job. job.link.session) jobs.old.items }
+    ensures pumps { map (λ job. job.link.pump) jobs.new.items ≡ map (λ job. job.link.pump) jobs.old.items }
     ensures wires { map (λ job. job.wire) jobs.new.items ≡ map (λ job. job.wire) jobs.old.items }
-    ensures mtus { map (λ job. job.line.mtu) jobs.new.items ≡ map (λ job. job.line.mtu) jobs.old.items }
+    ensures mtus { map (λ job. job.link.mtu) jobs.new.items ≡ map (λ job. job.link.mtu) jobs.old.items }
 {
     let Some(order) = order else {
         return;
     };
     let Order { plan, wire } = order;
     let mut job = jobs.remove(0);
-    job.line.dump = DumpTurn::new(alloc, Some(plan));
+    job.link.dump = DumpTurn::new(alloc, Some(plan));
     job.dump_wire = Some(wire);
     let Ok(()) = jobs.insert(0, job) else {
         unreachable!()
@@ -85,7 +85,7 @@ pub(crate) fn ask_first<N: BookName, P: PoolName + Send, S: Source + Drop, W: Dr
 
 /// What came of the first session's dump.
 pub(crate) fn first_dumped<N: BookName, P: PoolName, S: Source + Drop, W: Drop>(
-    dones: &mut Vec<Done<N, P, S, W>>,
+    dones: &mut Vec<FinishedJob<N, P, S, W>>,
 ) -> Option<Dumped<P, W>>
     ensures first { result ≡ first_or_none (map (λ d. d.dump) dones.old.items) }
     ensures accounts { map (λ d. d.account) dones.new.items ≡ map (λ d. d.account) dones.old.items }

@@ -6,8 +6,8 @@ ghost use Rattle.run_resources.specs.Joined.{HasJoined};
 use flake_base::{Ends, Memory, Source};
 use order_book::{BookName, SessionSeats};
 use pinned_pool::{Pool, PoolName, PoolSeat};
-use session_serve::Account;
-use session_workers::Done;
+use session_serve::ServedAccount;
+use session_workers::FinishedJob;
 use std::alloc::Global;
 use std::vec::IntoIter;
 
@@ -44,7 +44,7 @@ impl<N: BookName, S: Drop, W: Drop> Results<N, S, W> {
 pub(crate) fn bring_in<N: BookName, P: PoolName, S: Source + Drop, W: Drop>(
     pool: &Pool<P>,
     main: &mut PoolSeat<P>,
-    dones: Vec<Done<N, P, S, W>>,
+    dones: Vec<FinishedJob<N, P, S, W>>,
     past: IntoIter<W>,
     results: Results<N, S, W>,
 ) -> Results<N, S, W>
@@ -74,12 +74,12 @@ pub(crate) fn bring_in<N: BookName, P: PoolName, S: Source + Drop, W: Drop>(
         mut wires,
     } = results;
     for done in dones {
-        let Done {
+        let FinishedJob {
             account,
             wire,
             dump: _,
         } = done;
-        let Account {
+        let ServedAccount {
             end,
             seat,
             mine,

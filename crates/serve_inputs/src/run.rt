@@ -10,7 +10,7 @@ use crate::serving::{Room, Served, serve_opened};
 use flake_base::{End, Source};
 use order_book::{BookBlank, BookName};
 use pinned_pool::{PoolBlank, PoolName};
-use run_resources::{Sizes, open_resources};
+use run_resources::{RunSizes, open_resources};
 use session_pass::Gate;
 use std::alloc::Global;
 use std::marker::Brand;
@@ -30,7 +30,7 @@ fn serve_named<
 >(
     rt: &R,
     alloc: Global,
-    sizes: &Sizes,
+    sizes: &RunSizes,
     workers: u16,
     pool: PoolBlank,
     book: BookBlank,
@@ -65,7 +65,9 @@ fn serve_named<
     let Ok(space) = Room::<N, P, S, W>::taken(alloc, sources.len(), wires.len()) else {
         return Err((sources, wires));
     };
-    let Ok(resources) = open_resources::<N, P>(alloc, sizes, sources.len(), pool, book) else {
+    let count = sources.len();
+    let spread = sizes.spread(count);
+    let Ok(resources) = open_resources::<N, P>(alloc, sizes, count, spread, pool, book) else {
         return Err((sources, wires));
     };
     Ok(serve_opened(
@@ -86,7 +88,7 @@ pub fn serve_inputs<
 >(
     rt: &R,
     alloc: Global,
-    sizes: &Sizes,
+    sizes: &RunSizes,
     workers: u16,
     sources: Vec<S>,
     wires: Vec<W>,

@@ -18,15 +18,15 @@ use command_exec::Shop;
 use flake_base::{End, Ends, Journal, Source};
 use order_book::BookName;
 use pinned_pool::{PoolEnd, PoolName};
-use run_resources::{Closed, RunResources, Sizes, close_all};
+use run_resources::{Closed, RunResources, RunSizes, close_all};
 use session_pass::Gate;
-use session_workers::{Done, Job};
+use session_workers::{FinishedJob, ServeJob};
 use std::alloc::Global;
 use std::sync::Wait;
 use std::thread::Threads;
 
 /// Room for a run.
-pub(crate) type Room<N, P, S, W> = Space<Job<N, P, S, W>, Done<N, P, S, W>, N, S, W>;
+pub(crate) type Room<N, P, S, W> = Space<ServeJob<N, P, S, W>, FinishedJob<N, P, S, W>, N, S, W>;
 
 /// What a run leaves. Ends, counts, sources and wires stand at their sources' places.
 #[derive(Drop)]
@@ -55,7 +55,7 @@ pub(crate) fn serve_opened<
 >(
     rt: &R,
     alloc: Global,
-    sizes: &Sizes,
+    sizes: &RunSizes,
     workers: u16,
     resources: RunResources<N, P>,
     space: Room<N, P, S, W>,

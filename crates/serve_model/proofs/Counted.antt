@@ -55,7 +55,7 @@ spare_claims z class (v ∷ spare) each =
 module _ (books : book_sizes.Sizes) (all : List SessionRun) (shards : List ShardList) (sessions : List SessionList)
     (lists : AreLists books (runs_in all) shards sessions) (z : pool_sizes.Sizes) (store last : View)
     (spare seats : List View) (stock : IsStock z shards store) (idle : IsIdle store)
-    (spent : AreSpentSeats z (runs_in all) seats) (is : IsLastSeat store spare seats last) where
+    (spent : AreSpentSeats z (runs_in all) seats) (is : IsLastSeat z store spare seats last) where
   abbrev runs : List Run
   runs = runs_in all
 
@@ -176,4 +176,5 @@ module _ (books : book_sizes.Sizes) (all : List SessionRun) (shards : List Shard
           is.all.returns,
           total-append (λ (v : View). v.returns) spare seats,
         );
+        nearby = is.nearby;
       }

@@ -30,4 +30,7 @@ mixed_is_none given taken = record {
         looked,
       ) in
       no;
+  not_far = λ sessions journal counted.
+      let no : ⊥ = omega (arith, counted.nearby.0) in
+      no;
 }

@@ -90,7 +90,7 @@ module _ (books : book_sizes.Sizes) (z : pool_sizes.Sizes) (shards : List ShardL
   abbrev Ran : View → List (List Entry) → Type 0
   Ran last j = (run : WasRun z givens endeds ends j (pool_end z last)) × AreThose all run.served.sessions j
 
-  pub was_run : (last : View) (spare : List View) → IsLastSeat store spare seats last → Ran last journal
+  pub was_run : (last : View) (spare : List View) → IsLastSeat z store spare seats last → Ran last journal
   unfolding own
   was_run last spare is =
       let run : Ran last (journal_of shards) = (

@@ -319,7 +319,7 @@ served = record {
   );
 }
 
-is_last : IsLastSeat store [] seats last
+is_last : IsLastSeat pool store [] seats last
 is_last = record {
   all = record {
     holds = λ weight. omega arith;
@@ -331,6 +331,7 @@ is_last = record {
   spare_is = tt;
   loose = λ b. omega (arith, same_few 0 b);
   looked = λ b some. some;
+  nearby = (omega arith, tt);
 }
 
 -- by the text of each reply

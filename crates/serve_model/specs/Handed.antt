@@ -4,6 +4,7 @@ use Rattle.view_sums.specs.Total.{Each}
 use Rattle.flake_base.specs.declared.session.SessionEnd.{SessionEnd}
 use Rattle.pin_core.specs.declared.sizes.Sizes.{Sizes}
 use Rattle.pinned_pool.specs.Ends.{LooksClaimed}
+use Rattle.pinned_pool.specs.Named.{ClaimsAreNearby}
 use Rattle.pinned_pool.specs.Views.{IsLoose}
 use Rattle.pinned_pool.specs.declared.view.View.{View}
 use Rattle.flake_model.specs.Session.{Session, IsSession}
@@ -63,9 +64,10 @@ pub record AreServed (z : Sizes) (shards : ℕ) (givens : List (List ℕ)) (ende
   pub seats_are : AreSpentSeats z (runs_in all) seats
 
 -- The last seat of a pool: that of the store, those of the sessions, and others that never claimed and hold nothing.
-pub record IsLastSeat (store : View) (spare seats : List View) (last : View) : Type 0 where
+pub record IsLastSeat (z : Sizes) (store : View) (spare seats : List View) (last : View) : Type 0 where
   pub all : HasAll (store ∷ spare ++ seats) last
   pub spare_is : Each IsSpare spare
   -- what closing the pool says
   pub loose : IsLoose last
   pub looked : LooksClaimed last
+  pub nearby : ClaimsAreNearby z last

@@ -41,7 +41,13 @@ mixed_end = record {
   large = 0;
 }
 
+-- a claim of a buffer that a pool of these sizes doesn't have
+abbrev pub far_end : End
+far_end = record { seat = view [] 4 (201 ∷ []) [] 0 []; small = 0; large = 0 }
+
 -- All three writes are missing, and such an end isn't counted right, whatever the bytes were.
 pub record MixedIsNone (given : List ℕ) (taken : ℕ) : Type 0 where
   pub missing : missing_writes (mixed_session given taken ∷ []) mixed_journal ≡ 3
   pub not_so : IsCounted mixed_pool (mixed_session given taken ∷ []) mixed_journal mixed_end → ⊥
+  pub not_far : (sessions : List Session) (journal : List (List Entry))
+      → IsCounted mixed_pool sessions journal far_end → ⊥

@@ -22,6 +22,6 @@ OneRan = (books : book_sizes.Sizes) (z : pool_sizes.Sizes) (shards : List ShardL
     (texts : List (List ℕ)) (spare : List View) (last : View)
     → AreClosed books shards (list ∷ []) → books.sessions ≡ 1 → AreParts z books.shards shards journal store
     → SessionHasRun z books.shards 0 given ended end list seat texts
-    → IsLastSeat store spare (seat ∷ []) last
+    → IsLastSeat z store spare (seat ∷ []) last
     → (run : WasRun z (given ∷ []) (ended ∷ []) (end ∷ []) journal (pool_end z last))
     × (flat_map (λ text. text) texts ≡ wire_text (all_commands run.served.sessions) journal 0 end.replies)

@@ -11,6 +11,7 @@ use Rattle.pin_core.specs.declared.sizes.Sizes.{Sizes}
 use Rattle.pinned_pool.specs.Claims.{count_of}
 use Rattle.pinned_pool.specs.Classes.{buffers_in}
 use Rattle.pinned_pool.specs.Ends.{End}
+use Rattle.pinned_pool.specs.Named.{ClaimsAreNearby}
 use Rattle.pinned_pool.specs.Views.{looked_at}
 use Rattle.frag_value.specs.Fragments.{fragments_in}
 use Rattle.flake_model.specs.Command.{Command}
@@ -57,6 +58,8 @@ pub record IsCounted (z : Sizes) (sessions : List Session) (journal : List (List
   pub looks_large : (b : ℕ) → z.small ≤ b → b < z.small + z.large → missed Large ≤ looked_at b end.seat.looks
   pub exceeded : (class : Class) → 0 < missed class → count_of z class < demand_of class (all_commands sessions)
   pub returned : long_found sessions journal ≤ end.seat.returns
+  -- each claim is of a buffer that this pool has
+  pub nearby : ClaimsAreNearby z end.seat
 
 -- What a whole run says: the inputs were served, and the end of the pool is that of their commands.
 pub record WasRun (z : Sizes) (givens : List (List ℕ)) (endeds : List Bool) (ends : List SessionEnd)

@@ -55,7 +55,7 @@ WholeRun = (books : book_sizes.Sizes) (z : pool_sizes.Sizes) (shards : List Shar
     → AreClosed books shards sessions → length sessions ≡ books.sessions
     → AreParts z books.shards shards journal store
     → (served : AreServed z books.shards givens endeds ends sessions seats)
-    → IsLastSeat store spare seats last
+    → IsLastSeat z store spare seats last
     → (run : WasRun z givens endeds ends journal (pool_end z last))
     × AreThose served.all run.served.sessions journal
 

@@ -128,7 +128,7 @@ pub record WorkedRun : Type 0 where
   pub parts : AreParts pool books.shards shards (journal_of shards) store
   pub served : AreServed pool books.shards (map (λ (ran : SessionRun). ran.given) all)
       (map (λ (ran : SessionRun). ran.ended) all) (map (λ (ran : SessionRun). ran.run.end) all) sessions seats
-  pub last_is : IsLastSeat store [] seats last
+  pub last_is : IsLastSeat pool store [] seats last
   pub run : WasRun pool (map (λ (ran : SessionRun). ran.given) all) (map (λ (ran : SessionRun). ran.ended) all)
       (map (λ (ran : SessionRun). ran.run.end) all) (journal_of shards) (pool_end pool last)
   pub texts_are : texts_told (runs_in all) ≡ texts

@@ -8,9 +8,9 @@ use command_pump::Pump;
 use flake_base::MemorySource;
 use order_book::{Book, BookBlank, BookName, SessionSeats};
 use pinned_pool::{Pool, PoolBlank, PoolName, PoolSeat};
-use run_resources::{RunResources, SESSION_CREDITS, Sizes, close_all, open_resources};
+use run_resources::{RunResources, RunSizes, SESSION_CREDITS, close_all, open_resources};
 use session_pass::NoGate;
-use session_serve::{Account, DumpTurn, Line, Room, serve_beside};
+use session_serve::{DumpTurn, Link, Room, ServedAccount, serve_beside};
 use shard_store::Store;
 use std::alloc::Global;
 use std::marker::Brand;
@@ -25,13 +25,13 @@ fn close_one<N: BookName, P: PoolName>(
     book: Book<N>,
     store: Store<N, P>,
     main: PoolSeat<P>,
-    account: Account<N, P, MemorySource>,
+    account: ServedAccount<N, P, MemorySource>,
     wire: Watched,
 ) -> Result<(String, u64), Fail>
     requires credits { main.credits + account.seat.credits + N.sizes.shards ≡ P.sizes.credits }
     requires sessions { N.sizes.sessions ≡ 1 }
 {
-    let Account {
+    let ServedAccount {
         end,
         seat,
         mine,
@@ -55,7 +55,7 @@ fn close_one<N: BookName, P: PoolName>(
 fn serve_named<R: Threads + Wait + Sync, N: BookName, P: PoolName + Send + Sync>(
     rt: &R,
     alloc: Global,
-    sizes: &Sizes,
+    sizes: &RunSizes,
     pool: PoolBlank,
     book: BookBlank,
     source: MemorySource,
@@ -72,7 +72,7 @@ fn serve_named<R: Threads + Wait + Sync, N: BookName, P: PoolName + Send + Sync>
         store,
         main,
         mut slots,
-    } = open_resources::<N, P>(alloc, sizes, 1, pool, book)?;
+    } = open_resources::<N, P>(alloc, sizes, 1, sizes.spread(1), pool, book)?;
     let Some(slot) = slots.pop() else {
         return Err(Fail::from("no slot"));
     };
@@ -81,7 +81,7 @@ fn serve_named<R: Threads + Wait + Sync, N: BookName, P: PoolName + Send + Sync>
         book: &book,
         store: &store,
     };
-    let line = Line {
+    let link = Link {
         session: slot.session,
         pump: Pump::new(alloc, source),
         device: slot.device,
@@ -89,7 +89,7 @@ fn serve_named<R: Threads + Wait + Sync, N: BookName, P: PoolName + Send + Sync>
         mtu: None,
     };
     let room = Room::new(alloc)?;
-    let (wire, account) = serve_beside(rt, alloc, &shop, line, room, &NoGate, wire, &put, &flush);
+    let (wire, account) = serve_beside(rt, alloc, &shop, link, room, &NoGate, wire, &put, &flush);
     close_one(alloc, pool, book, store, main, account, wire)
 }
 
@@ -100,7 +100,7 @@ fn served<R: Threads + Wait + Sync>(
     lines: &str,
     fails: Option<u64>,
 ) -> Result<(String, u64), Fail> {
-    let sizes = Sizes {
+    let sizes = RunSizes {
         shards: 2,
         small: 256,
         large: 8,

@@ -7,7 +7,7 @@ use drive_script::LineRoom;
 use drive_show::held_line;
 use flake_base::{Fails, Files, MemoryHost, MemorySource};
 use pinned_pool::Held;
-use run_resources::Sizes;
+use run_resources::RunSizes;
 use schedule_text::read_schedule;
 use std::alloc::Global;
 use std::sync::Wait;
@@ -32,7 +32,7 @@ fn driven<R: Wait>(
     if count == 0 || count > 4 || wires.len() < count {
         return Err(Fail::from("too few or too many"));
     }
-    let sizes = Sizes {
+    let sizes = RunSizes {
         shards: 3,
         small: 512,
         large: 8,

@@ -3,7 +3,7 @@ ghost use Rattle.std.specs.Prelude.{◌≡◌, []};
 
 use super::common::{Watched, flush, put, source, tell, wires_of};
 use flake_base::MemorySource;
-use serve_inputs::{Sizes, serve_inputs};
+use serve_inputs::{RunSizes, serve_inputs};
 use session_pass::NoGate;
 use std::alloc::Global;
 use std::sync::Wait;
@@ -28,7 +28,7 @@ fn served<R: Threads + Wait + Sync>(
     if count == 0 || count > 4 || wires.len() < count || workers == 0 || workers > 16 {
         return Err(Fail::from("too few or too many"));
     }
-    let sizes = Sizes {
+    let sizes = RunSizes {
         shards: 3,
         small: 1024,
         large: 8,

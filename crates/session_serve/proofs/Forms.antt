@@ -5,7 +5,7 @@ use Rattle.std.proofs.lemmas.List.{length-map, map-append}
 use Rattle.std.proofs.lemmas.List.Folds.{flat_map-map}
 use Rattle.mtu_frames.specs.Frames.{framed}
 use Rattle.reply_planner.specs.Parcels.{Sent, texts_in}
-use Rattle.device_model.specs.Devices.{as_sent, sent_as}
+use Rattle.device_model.specs.Devices.{reply_as_sent, joined_as_sent}
 use Rattle.any_wire.specs.Texts.{joined}
 use Rattle.session_serve.specs.Forms.{framed_from, all_as_sent, each_as_sent, AreNumberedByPlace}
 
@@ -22,11 +22,12 @@ each-none (Some mtu) = refl
 
 -- one more
 pub each-more : (mtu : Option ℕ) (replies : List Sent) (reply : Sent)
-    → each_as_sent mtu (replies ++ reply ∷ []) ≡ each_as_sent mtu replies ++ as_sent mtu reply ∷ []
+    → each_as_sent mtu (replies ++ reply ∷ []) ≡ each_as_sent mtu replies ++ reply_as_sent mtu reply ∷ []
 each-more None replies reply = map-append (λ (r : Sent). r.text) replies (reply ∷ [])
 each-more (Some mtu) replies reply = map-append (λ (r : Sent). framed r.text r.call mtu) replies (reply ∷ [])
 
-pub sent-joined : (mtu : Option ℕ) (replies : List Sent) → sent_as mtu replies ≡ joined (each_as_sent mtu replies)
+pub sent-joined : (mtu : Option ℕ) (replies : List Sent)
+    → joined_as_sent mtu replies ≡ joined (each_as_sent mtu replies)
 sent-joined None replies = sym (flat_map-map (λ (text : List ℕ). text) (λ (reply : Sent). reply.text) replies)
 sent-joined (Some mtu) replies =
     sym (flat_map-map (λ (text : List ℕ). text) (λ (reply : Sent). framed reply.text reply.call mtu) replies)

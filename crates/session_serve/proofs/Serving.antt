@@ -14,8 +14,8 @@ use Rattle.any_wire.specs.Sends.{Sends, Flushes}
 use Rattle.any_wire.proofs.Sending.{sends-none, sends-on, sends-same, sends-flush}
 use Rattle.reply_planner.specs.Owned.{bare_all, fresh_all}
 use Rattle.reply_planner.specs.Parcels.{Sent, texts_in}
-use Rattle.device_model.specs.Devices.{sent_as, ForwardsAs}
-use Rattle.device_model.proofs.Forwarding.{as-none}
+use Rattle.device_model.specs.Devices.{joined_as_sent, ForwardsAs}
+use Rattle.device_model.proofs.Forwarding.{joined-none}
 use Rattle.any_wire.specs.Texts.{joined}
 use Rattle.call_model.specs.Outcomes.{SessionDeeds}
 use Rattle.serve_model.specs.Going.{CallsNoMore}
@@ -91,7 +91,7 @@ module _
   forwards-nothing failed before after wire same = record {
     taken = [];
     in_order = same ∙ sym (append-nil before);
-    sends = sends-same put_may flush_may failed failed [] (sent_as mtu []) wire wire (sym (as-none mtu))
+    sends = sends-same put_may flush_may failed failed [] (joined_as_sent mtu []) wire wire (sym (joined-none mtu))
         (sends-none put_may flush_may failed wire);
   }
 
@@ -108,9 +108,9 @@ module _
   -- all that was forwarded is all that was posted
   pub forwards-all : (failed now : Bool) (posted : List Sent) (old new : W)
       → ForwardsAs mtu put_may flush_may failed now [] posted old new
-      → Sends put_may flush_may failed now (sent_as mtu posted) old new
-  forwards-all failed now posted old new f = sends-same put_may flush_may failed now (sent_as mtu f.taken)
-      (sent_as mtu posted) old new (ap (sent_as mtu) (sym f.in_order)) f.sends
+      → Sends put_may flush_may failed now (joined_as_sent mtu posted) old new
+  forwards-all failed now posted old new f = sends-same put_may flush_may failed now (joined_as_sent mtu f.taken)
+      (joined_as_sent mtu posted) old new (ap (joined_as_sent mtu) (sym f.in_order)) f.sends
 
 module _ {W : Type 0} (put_may : W → Bor (List ℕ) → (W × Bool) → Type 0) (flush_may : W → (W × Bool) → Type 0) where
   pub sends-out : (failed now : Bool) (text : List ℕ) (old new : W) → SendsOut put_may flush_may failed now text old new
@@ -163,7 +163,7 @@ module _
         sends = record {
           between = between;
           middle = middle;
-          sends = sends-same put_may flush_may false between (sent_as mtu session.posted)
+          sends = sends-same put_may flush_may false between (joined_as_sent mtu session.posted)
               (joined (all_as_sent mtu texts)) old middle (sent-joined mtu session.posted ∙ ap joined sent)
               (forwards-all mtu put_may flush_may false between session.posted old middle forwards);
           flushed = flushed;

@@ -5,39 +5,23 @@ use Rattle.std.specs.Borrow.{Bor}
 use Rattle.std.proofs.Math.Seq.{take-append-add, take-length}
 use Rattle.std.proofs.lemmas.List.{map-append, take-append-le, append_cancel_left}
 use Rattle.std.proofs.lemmas.Grind.{flat_map-append}
-use Rattle.view_sums.specs.Total.{Each}
-use Rattle.any_wire.specs.Sends.{WireStep, puts, flushes, steps_bytes as steps_joined, IsShortPut, Chain, Sends}
-use Rattle.any_wire.specs.Sends.{Flushes}
-use Rattle.any_wire.proofs.Sending.{sends-none, sends-on, sends-same, sends-flush}
+use Rattle.any_wire.specs.Sends.{Sends, Flushes}
+use Rattle.any_wire.proofs.Sending.{sends-same, sends-flush}
+use Rattle.any_wire.proofs.Behind.{stays-behind, puts-are-sending}
 use Rattle.tx_descriptor.specs.declared.framed.Framed.{Ghosts}
 use Rattle.tx_ring.specs.Shown.{completed}
 use Rattle.tx_ring.specs.declared.device.DeviceEnd.{DeviceEnd}
 use Rattle.reply_planner.specs.Parcels.{Sent, texts_in}
-use Rattle.device_model.specs.Devices.{as_sent, sent_as, PutsAs, IsFound, IfTaken, IfIdle}
+use Rattle.device_model.specs.Devices.{reply_as_sent, joined_as_sent, PutsAs, IsFound, IfTaken, IfIdle}
 use Rattle.device_model.specs.declared.gathered.Gathered.{Gathered}
 use Rattle.device_model.specs.declared.gathered.Gathered.TheVariants as found
-use Rattle.device_model.proofs.Forwarding.{as-one}
+use Rattle.device_model.proofs.Forwarding.{joined-one}
 use Rattle.device_model.proofs.Puts.{sends-loosened}
 use Rattle.any_wire.specs.Texts.{Sending, joined, IsSending}
 use Rattle.any_wire.proofs.Texts.{wire_fresh, wire_longer, wire_sent, wire_cut, wire_idle}
 use Rattle.session_serve.specs.Forms.{each_as_sent}
 use Rattle.session_serve.specs.Whole.{SentWhole, KeepsWhole, SendsMore, raised, whole_bytes_of}
 use Rattle.session_serve.proofs.Forms.{each-length, each-none, each-more}
-
--- a put for each byte
-bytewise : List ℕ → List WireStep
-bytewise [] = []
-bytewise (byte ∷ bytes) = puts (byte ∷ []) ∷ bytewise bytes
-
-all_bytes : (bytes : List ℕ) → bytes ≡ steps_joined (bytewise bytes)
-unfolding bytewise
-all_bytes [] = refl
-all_bytes (byte ∷ bytes) = ap (λ rest. byte ∷ rest) (all_bytes bytes)
-
-all_short : (bytes : List ℕ) → Each IsShortPut (bytewise bytes)
-unfolding bytewise
-all_short [] = tt
-all_short (byte ∷ bytes) = ((omega arith, omega arith), all_short bytes)
 
 -- the place of the last text, and what is taken with it
 last_at : (texts : List (List ℕ)) (text : List ℕ) → slice_get (texts ++ text ∷ []) (length texts) ≡ Some text
@@ -69,35 +53,8 @@ module _ {W : Type 0} (put_may : W → Bor (List ℕ) → (W × Bool) → Type 0
   abbrev sends : Sending W
   sends = Sends put_may flush_may false
 
-  none_done : (bytes : List ℕ) (wire : W) → Chain put_may flush_may (bytewise bytes) true true wire wire
-  unfolding bytewise
-  none_done [] wire = (refl, refl)
-  none_done (byte ∷ bytes) wire = none_done bytes wire
-
-  -- nothing more is put behind a failure
-  nothing_more : (bytes : List ℕ) (wire : W) → Sends put_may flush_may true true bytes wire wire
-  nothing_more bytes wire = record {
-    steps = bytewise bytes;
-    whole = all_bytes bytes;
-    short = all_short bytes;
-    chain = none_done bytes wire;
-  }
-
-  -- and so the wire is as it was
-  chain_stays : (steps : List WireStep) (now : Bool) (wire end : W) → Chain put_may flush_may steps true now wire end
-      → (end ≡ wire) × (now ≡ true)
-  chain_stays [] now wire end chain = chain
-  chain_stays (puts piece ∷ steps) now wire end chain = chain_stays steps now wire end chain
-  chain_stays (flushes ∷ steps) now wire end chain = chain_stays steps now wire end chain
-
   is_sending : IsSending sends
-  is_sending = record {
-    nothing = λ wire. sends-none put_may flush_may false wire;
-    joins = λ failed text more old middle new first next. sends-on put_may flush_may false false failed text more old
-        middle new first next;
-    longer = λ text more old new first. sends-on put_may flush_may false true true text more old new new first
-        (nothing_more more new);
-  }
+  is_sending = puts-are-sending put_may flush_may
 
   whole-none : (wire : W) → SentWhole put_may flush_may false [] [] 0 wire wire
   whole-none wire = record {
@@ -114,7 +71,7 @@ module _ {W : Type 0} (put_may : W → Bor (List ℕ) → (W × Bool) → Type 0
       → SentWhole put_may flush_may failed sents texts bytes start old → Sends put_may flush_may failed now sent old new
       → SentWhole put_may flush_may now (sents ++ sent ∷ []) (texts ++ text ∷ []) (raised bytes more) start new
   whole-one true now sents texts sent text bytes more start old new as_many all none was put =
-      let stays = chain_stays put.steps now old new put.chain in
+      let stays = stays-behind put_may flush_may now sent old new put in
       let few : was.whole ≤ length texts = was.are_whole in
       let front : was.whole ≤ length sents = omega (arith, few, as_many) in
       let here : SentWhole put_may flush_may true (sents ++ sent ∷ []) (texts ++ text ∷ []) (raised bytes more) start
@@ -249,19 +206,20 @@ module _
       → SendsMore mtu put_may flush_may failed now before after more old new
   reply-more failed now before after reply more old new is all none put bytes start was =
       let one : put.taken ≡ reply ∷ [] = append_cancel_left before put.taken (reply ∷ []) (sym put.in_order ∙ is) in
-      let form : sent_as mtu put.taken ≡ as_sent mtu reply = ap (sent_as mtu) one ∙ as-one mtu reply in
-      let sent : Sends put_may flush_may failed now (as_sent mtu reply) old new =
-      sends-same put_may flush_may failed now (sent_as mtu put.taken) (as_sent mtu reply) old new form
-      (sends-loosened put_may flush_may failed now (sent_as mtu put.taken) old new put.sends) in
+      let form : joined_as_sent mtu put.taken ≡ reply_as_sent mtu reply =
+      ap (joined_as_sent mtu) one ∙ joined-one mtu reply in
+      let sent : Sends put_may flush_may failed now (reply_as_sent mtu reply) old new =
+      sends-same put_may flush_may failed now (joined_as_sent mtu put.taken) (reply_as_sent mtu reply) old new form
+      (sends-loosened put_may flush_may failed now (joined_as_sent mtu put.taken) old new put.sends) in
       let texts : texts_in before ++ reply.text ∷ [] ≡ texts_in (before ++ reply ∷ []) =
       sym (map-append (λ (parcel : Sent). parcel.text) before (reply ∷ [])) in
       subst (λ (xs : List Sent). SentAll now xs (raised bytes more) start new) (sym is)
       (subst (λ (sents : List (List ℕ)). SentWhole put_may flush_may now sents (texts_in (before ++ reply ∷ []))
       (raised bytes more) start new) (sym (each-more mtu before reply))
       (subst (λ (ts : List (List ℕ)). SentWhole put_may flush_may now
-      (each_as_sent mtu before ++ as_sent mtu reply ∷ []) ts (raised bytes more) start new) texts
-      (whole-one put_may flush_may failed now (each_as_sent mtu before) (texts_in before) (as_sent mtu reply) reply.text
-      bytes more start old new (each-length mtu before) all none was sent)))
+      (each_as_sent mtu before ++ reply_as_sent mtu reply ∷ []) ts (raised bytes more) start new) texts
+      (whole-one put_may flush_may failed now (each_as_sent mtu before) (texts_in before) (reply_as_sent mtu reply)
+      reply.text bytes more start old new (each-length mtu before) all none was sent)))
 
   pub more-as : (failed other now then : Bool) (before front after all : List Sent) (more shown : ℕ) (old new : W)
       → failed ≡ other → now ≡ then → before ≡ front → after ≡ all → more ≡ shown

@@ -10,7 +10,7 @@ ghost use Rattle.session_serve.specs.Working.{IsFresh};
 
 use crate::device_side::DeviceSide;
 use crate::lending::{DeviceSlot, Start};
-use crate::line::{Account, Line};
+use crate::link::{Link, ServedAccount};
 use crate::room::Room;
 use crate::serve::serve_in_turns;
 use crate::session_side::{Ended, SessionSide};
@@ -32,7 +32,7 @@ use std::thread::Threads;
 /// session's device puts the replies meanwhile, on a thread of its own; where none can be started for it, each reply is
 /// put before the next command is read. Last the wire is flushed. After a failed put or flush nothing more is put, and
 /// all commands are still run. The dump that the session is asked for is taken behind the gate of its call, or last.
-/// Where the line has a bound, a reply is put as its frames of at most so many bytes.
+/// Where the link has a bound, a reply is put as its frames of at most so many bytes.
 pub fn serve_beside<
     R: Threads + Wait + Sync,
     N: BookName,
@@ -46,38 +46,38 @@ pub fn serve_beside<
     rt: &R,
     alloc: Global,
     shop: &Shop<'_, N, P>,
-    line: Line<N, P, S>,
+    link: Link<N, P, S>,
     room: Room,
     gate: &G,
     wire: W,
     put: &PUT,
     flush: &FLUSH,
-) -> (W, Account<N, P, S>)
+) -> (W, ServedAccount<N, P, S>)
     requires calls { PUT.IsAlwaysCallable put.now × FLUSH.IsAlwaysCallable flush.now }
-    requires fresh { IsFresh P.sizes line.session line.pump }
-    requires ring { device_ring line.device.end ≡ line.session.ring }
-    requires unfailed { line.device.failed ≡ false }
-    requires plan { CanTake P.sizes N.sizes.shards line.dump.plan }
-    requires untried { line.dump.taken ≡ None }
-    requires mtu { CanFrame line.mtu }
-    ensures served { IsServed line.mtu (λ w p r. PUT.post put.now w p r) (λ w r. FLUSH.post flush.now w r) P.sizes
-        N.sizes.shards line.session result.1.pump.given result.1.pump.ended result.1.end result.1.sent
+    requires fresh { IsFresh P.sizes link.session link.pump }
+    requires ring { device_ring link.device.end ≡ link.session.ring }
+    requires unfailed { link.device.failed ≡ false }
+    requires plan { CanTake P.sizes N.sizes.shards link.dump.plan }
+    requires untried { link.dump.taken ≡ None }
+    requires mtu { CanFrame link.mtu }
+    ensures served { IsServed link.mtu (λ w p r. PUT.post put.now w p r) (λ w r. FLUSH.post flush.now w r) P.sizes
+        N.sizes.shards link.session result.1.pump.given result.1.pump.ended result.1.end result.1.sent
         result.1.mine result.1.seat wire result.0 }
-    ensures origin { result.1.pump.origin ≡ line.pump.origin }
-    ensures reads { EndFaults result.1.end.end line.pump.faults result.1.pump.faults }
+    ensures origin { result.1.pump.origin ≡ link.pump.origin }
+    ensures reads { EndFaults result.1.end.end link.pump.faults result.1.pump.faults }
     ensures to_the_end { result.1.end.end ≢ End.Left }
-    ensures credits { result.1.seat.credits ≡ line.session.opened.credits }
-    ensures dump { DumpCame N.sizes.shards line.dump.plan result.1.dump line.session.pass.list result.1.mine }
+    ensures credits { result.1.seat.credits ≡ link.session.opened.credits }
+    ensures dump { DumpCame N.sizes.shards link.dump.plan result.1.dump link.session.pass.list result.1.mine }
 {
-    let mut line = line;
-    laws::both_ends(&mut line.session, &mut line.device);
-    let Line {
+    let mut link = link;
+    laws::both_ends(&mut link.session, &mut link.device);
+    let Link {
         session,
         pump,
         device,
         dump,
         mtu,
-    } = line;
+    } = link;
     let session_side = SessionSide {
         session,
         pump,
@@ -112,7 +112,7 @@ fn serve_sides<
     gate: &G,
     device_side: DeviceSide<P, W>,
     calls: &Calls<'_, PUT, FLUSH>,
-) -> (W, Account<N, P, S>)
+) -> (W, ServedAccount<N, P, S>)
     requires calls { PUT.IsAlwaysCallable calls.now.put.now × FLUSH.IsAlwaysCallable calls.now.flush.now }
     requires mtu { CanFrame calls.now.mtu }
     requires fresh { IsFresh P.sizes session_side.session session_side.pump }
@@ -297,7 +297,7 @@ fn take_turns<
     gate: &G,
     device_side: DeviceSide<P, W>,
     calls: &Calls<'_, PUT, FLUSH>,
-) -> (W, Account<N, P, S>)
+) -> (W, ServedAccount<N, P, S>)
     requires calls { PUT.IsAlwaysCallable calls.now.put.now × FLUSH.IsAlwaysCallable calls.now.flush.now }
     requires mtu { CanFrame calls.now.mtu }
     requires fresh { IsFresh P.sizes session_side.session session_side.pump }
@@ -322,21 +322,21 @@ fn take_turns<
         sent: _,
         helped: _,
     } = device_side;
-    let line = Line {
+    let link = Link {
         session,
         pump,
         device,
         dump,
         mtu: calls.mtu,
     };
-    serve_in_turns(rt, shop, line, room, gate, wire, calls.put, calls.flush)
+    serve_in_turns(rt, shop, link, room, gate, wire, calls.put, calls.flush)
 }
 
 // With both ends of the ring at hand.
 fn settled<N: BookName, P: PoolName + Send, S: Source, W: Drop>(
     ended: Ended<N, P, S>,
     device_side: DeviceSide<P, W>,
-) -> (W, Account<N, P, S>)
+) -> (W, ServedAccount<N, P, S>)
     requires { device_ring device_side.device.end ≡ closed_ring ended.remains.closed }
     ensures all { completed device_side.device.end ≡ (closed_view ended.remains.closed).posted }
     ensures end { result.1.end ≡ ended_at ended.end ended.pump.taken ended.replies device_side.device.failed }
@@ -372,7 +372,7 @@ fn settled<N: BookName, P: PoolName + Send, S: Source, W: Drop>(
         replies,
         failed: device.failed(),
     };
-    let account = Account {
+    let account = ServedAccount {
         end,
         seat,
         mine,

@@ -5,14 +5,14 @@ ghost use Rattle.any_wire.specs.Sends.{Flushes};
 ghost use Rattle.session_serve.specs.Working.{IsGathered, IsLeft};
 
 use crate::dump::DumpTurn;
-use crate::line::{Account, Line};
+use crate::link::{Link, ServedAccount};
 use command_exec::Shop;
 use flake_base::{End, SessionEnd, Source};
 use order_book::BookName;
 use pinned_pool::PoolName;
 use session_pass::Finish;
 
-impl<N: BookName, P: PoolName + Send, S: Source> Line<N, P, S> {
+impl<N: BookName, P: PoolName + Send, S: Source> Link<N, P, S> {
     /// Gives all replies back, closes ring and pass, and flushes the wire. So many bytes were put in whole replies.
     pub(crate) fn close<W: Drop, PUT: Fn(W, &[u8]) -> (W, bool), FLUSH: Fn(W) -> (W, bool)>(
         self,
@@ -22,7 +22,7 @@ impl<N: BookName, P: PoolName + Send, S: Source> Line<N, P, S> {
         wire: W,
         put: &PUT,
         flush: &FLUSH,
-    ) -> (W, Account<N, P, S>)
+    ) -> (W, ServedAccount<N, P, S>)
         requires calls { PUT.IsAlwaysCallable put.now × FLUSH.IsAlwaysCallable flush.now }
         requires gathered { IsGathered self.session self.device.end }
         ensures left { IsLeft self.session result.1.seat result.1.mine }
@@ -33,7 +33,7 @@ impl<N: BookName, P: PoolName + Send, S: Source> Line<N, P, S> {
         ensures flushed { Flushes (λ w r. FLUSH.post flush.now w r) self.device.failed result.1.end.failed wire
             result.0 }
     {
-        let Line {
+        let Link {
             session,
             pump,
             mut device,
@@ -56,7 +56,7 @@ impl<N: BookName, P: PoolName + Send, S: Source> Line<N, P, S> {
                     replies,
                     failed: device.failed(),
                 };
-                let account = Account {
+                let account = ServedAccount {
                     end,
                     seat,
                     mine,

@@ -2,7 +2,7 @@
 ghost use Rattle.std.specs.Prelude.{◌≡◌, true, IfOk, IfErr};
 ghost use Rattle.tx_ring.specs.Shown.{device_ring, completed, ended};
 ghost use Rattle.any_wire.specs.Sends.{Flushes};
-ghost use Rattle.device_model.specs.Devices.{IfIdle, IsFound};
+ghost use Rattle.device_model.specs.Devices.{CanFrame, IfIdle, IsFound};
 ghost use Rattle.session_serve.specs.Beside.{ForwardsMore, ForwardsOut};
 
 use crate::backoff::Backoff;
@@ -88,8 +88,9 @@ impl<P: PoolName + Send, W: Drop> DeviceSide<P, W> {
             helped,
         } = self;
         let mut round = Round::Idle;
+        let mtu = wiring.mtu();
         for _ in 0..MOST_AT_ONCE {
-            let (after, found) = gathered(&mut device, wire, &mut sent, pool, wiring);
+            let (after, found) = gathered(&mut device, wire, &mut sent, pool, wiring, mtu);
             wire = after;
             match found {
                 Gathered::Sent { .. } | Gathered::Dropped { .. } => round = Round::Busy,
@@ -152,8 +153,11 @@ fn gathered<P: PoolName + Send, W: Drop, Q: Wiring<W>>(
     sent: &mut u64,
     pool: &Pool<P>,
     wiring: &Q,
+    mtu: Option<u16>,
 ) -> (W, Gathered)
-    requires { Q.ready wiring.now }
+    requires ready { Q.ready wiring.now }
+    requires mtu { mtu ≡ Q.mtu wiring.now }
+    requires can_frame { CanFrame mtu }
     ensures ring { device_ring device.new.end ≡ device_ring device.old.end }
     ensures found { IsFound result.1 device.new.failed device.old.end device.new.end }
     ensures more { ForwardsMore (Q.mtu wiring.now) (Q.put_may wiring.now) (Q.flush_may wiring.now) device.old.failed
@@ -165,7 +169,7 @@ fn gathered<P: PoolName + Send, W: Drop, Q: Wiring<W>>(
         device,
         pool,
         wire,
-        wiring.mtu(),
+        mtu,
         &|wire: W, piece: &[u8]| -> (W, bool)
             requires { Q.ready wiring.now }
             ensures { Q.put_may wiring.entry.now wire piece.entry result }

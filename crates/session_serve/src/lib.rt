@@ -10,7 +10,7 @@ mod dump;
 mod gather;
 pub mod laws;
 mod lending;
-mod line;
+mod link;
 mod room;
 mod serve;
 mod session_side;
@@ -21,5 +21,5 @@ mod wiring;
 
 pub use beside::serve_beside;
 pub use dump::{DumpPlan, DumpTaken, DumpTurn};
-pub use line::{Account, Line};
+pub use link::{Link, ServedAccount};
 pub use room::{MOST_FRAGMENTS, MOST_SEGMENTS, Room};

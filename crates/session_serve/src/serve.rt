@@ -8,7 +8,7 @@ ghost use Rattle.session_serve.specs.Served.{IsServed};
 ghost use Rattle.session_serve.specs.Working.{IsFresh};
 
 use crate::counting::counted;
-use crate::line::{Account, Line};
+use crate::link::{Link, ServedAccount};
 use crate::room::Room;
 use command_exec::Shop;
 use flake_base::{End, Source};
@@ -19,7 +19,7 @@ use std::sync::Wait;
 
 /// Runs the commands of a source in order, each behind the gate, and puts each reply before the next command is read,
 /// to the source's end or until memory is wanting; then the wire is flushed. After a failed put or flush nothing more
-/// is put, and all commands are still run. The dump is taken before its call, or last. Where the line has a bound, a
+/// is put, and all commands are still run. The dump is taken before its call, or last. Where the link has a bound, a
 /// reply is put as its frames of at most so many bytes.
 pub(crate) fn serve_in_turns<
     R: Wait,
@@ -33,42 +33,42 @@ pub(crate) fn serve_in_turns<
 >(
     rt: &R,
     shop: &Shop<'_, N, P>,
-    line: Line<N, P, S>,
+    link: Link<N, P, S>,
     room: Room,
     gate: &G,
     wire: W,
     put: &PUT,
     flush: &FLUSH,
-) -> (W, Account<N, P, S>)
+) -> (W, ServedAccount<N, P, S>)
     requires calls { PUT.IsAlwaysCallable put.now × FLUSH.IsAlwaysCallable flush.now }
-    requires fresh { IsFresh P.sizes line.session line.pump }
-    requires ring { device_ring line.device.end ≡ line.session.ring }
-    requires unfailed { line.device.failed ≡ false }
-    requires plan { CanTake P.sizes N.sizes.shards line.dump.plan }
-    requires untried { line.dump.taken ≡ None }
-    requires mtu { CanFrame line.mtu }
-    ensures served { IsServed line.mtu (λ w p r. PUT.post put.now w p r) (λ w r. FLUSH.post flush.now w r) P.sizes
-        N.sizes.shards line.session result.1.pump.given result.1.pump.ended result.1.end result.1.sent
+    requires fresh { IsFresh P.sizes link.session link.pump }
+    requires ring { device_ring link.device.end ≡ link.session.ring }
+    requires unfailed { link.device.failed ≡ false }
+    requires plan { CanTake P.sizes N.sizes.shards link.dump.plan }
+    requires untried { link.dump.taken ≡ None }
+    requires mtu { CanFrame link.mtu }
+    ensures served { IsServed link.mtu (λ w p r. PUT.post put.now w p r) (λ w r. FLUSH.post flush.now w r) P.sizes
+        N.sizes.shards link.session result.1.pump.given result.1.pump.ended result.1.end result.1.sent
         result.1.mine result.1.seat wire result.0 }
-    ensures origin { result.1.pump.origin ≡ line.pump.origin }
-    ensures reads { EndFaults result.1.end.end line.pump.faults result.1.pump.faults }
+    ensures origin { result.1.pump.origin ≡ link.pump.origin }
+    ensures reads { EndFaults result.1.end.end link.pump.faults result.1.pump.faults }
     ensures to_the_end { result.1.end.end ≢ End.Left }
-    ensures credits { result.1.seat.credits ≡ line.session.opened.credits }
-    ensures dump { DumpCame N.sizes.shards line.dump.plan result.1.dump line.session.pass.list result.1.mine }
+    ensures credits { result.1.seat.credits ≡ link.session.opened.credits }
+    ensures dump { DumpCame N.sizes.shards link.dump.plan result.1.dump link.session.pass.list result.1.mine }
 {
-    let mut line = line;
+    let mut link = link;
     let mut room = room;
     let mut wire = wire;
     let mut sent = 0;
-    laws::both_ends(&mut line.session, &mut line.device);
+    laws::both_ends(&mut link.session, &mut link.device);
     let end = 'turns: loop {
-        let (after, turned) = line.turn(rt, shop, gate, &mut room, wire, put, flush);
+        let (after, turned) = link.turn(rt, shop, gate, &mut room, wire, put, flush);
         wire = after;
         match turned {
             Ok(bytes) => sent = counted(sent, bytes),
             Err(end) => break end,
         }
     };
-    line.dump.take(rt, shop, &mut line.session);
-    line.close(shop, end, sent, wire, put, flush)
+    link.dump.take(rt, shop, &mut link.session);
+    link.close(shop, end, sent, wire, put, flush)
 }

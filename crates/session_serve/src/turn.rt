@@ -14,7 +14,7 @@ ghost use Rattle.session_serve.specs.declared.dump.DumpPlan.{DumpPlan as Asked};
 
 use crate::counting::whole_bytes;
 use crate::gather::gather_next;
-use crate::line::Line;
+use crate::link::Link;
 use crate::room::Room;
 use command_exec::Shop;
 use flake_base::{End, Source};
@@ -23,7 +23,7 @@ use pinned_pool::PoolName;
 use session_pass::{CallError, Gate, laws};
 use std::sync::Wait;
 
-impl<N: BookName, P: PoolName + Send, S: Source> Line<N, P, S> {
+impl<N: BookName, P: PoolName + Send, S: Source> Link<N, P, S> {
     /// Runs the next command and puts its reply, and answers how many bytes were put in a whole reply; or says how the
     /// session ends. Before the command the dump is taken, if it is to stand there.
     pub(crate) fn turn<

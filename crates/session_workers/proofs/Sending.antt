@@ -17,7 +17,7 @@ use Rattle.session_pass.proofs.ready.Ready.TheSendSync as ready
 use Rattle.session_serve.proofs.room.Room.TheSendSync as room
 use Rattle.session_serve.specs.contracts.dump.DumpPlan as plan
 use Rattle.session_serve.specs.contracts.dump.DumpTurn as turn
-use Rattle.session_serve.specs.contracts.line.Line as line
+use Rattle.session_serve.specs.contracts.link.Link as link
 use Rattle.session_workers.specs.contracts.job.Waiting as waiting
 use Rattle.order_book.proofs.seat.SessionSeat.TheSendSync as mine
 use Rattle.pin_dump.proofs.dump.Dump.TheSendSync as dumped
@@ -92,9 +92,9 @@ module _ (N P : RattleType) (book : Book N.Denot) (pool : Pool P.Denot) (n : IsS
   )
 
   module _ (S : RattleType) (source : Source S.Denot) (s : IsSend S) where
-    pub line-sends : IsSend (line.the_row N P S pool (framed.ghosts P pool framed.no_dict) book source)
-    line-sends =
-        declared_send (line.the_type N P S pool (framed.ghosts P pool framed.no_dict) book source) (
+    pub link-sends : IsSend (link.the_row N P S pool (framed.ghosts P pool framed.no_dict) book source)
+    link-sends =
+        declared_send (link.the_type N P S pool (framed.ghosts P pool framed.no_dict) book source) (
           session-sends,
           (
             search (sendable, crosses, pump.the_send),
@@ -109,10 +109,10 @@ module _ (N P : RattleType) (book : Book N.Denot) (pool : Pool P.Denot) (n : IsS
         )
 
     pub job-sends : (W : RattleType) → IsSend W
-        → IsSend (waiting.the_row (line.the_row N P S pool (framed.ghosts P pool framed.no_dict) book source) W)
+        → IsSend (waiting.the_row (link.the_row N P S pool (framed.ghosts P pool framed.no_dict) book source) W)
     job-sends W w =
-        declared_send (waiting.the_type (line.the_row N P S pool (framed.ghosts P pool framed.no_dict) book source) W) (
-          line-sends,
+        declared_send (waiting.the_type (link.the_row N P S pool (framed.ghosts P pool framed.no_dict) book source) W) (
+          link-sends,
           (
             search (sendable, crosses, room.the_send),
             (

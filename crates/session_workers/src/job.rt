@@ -2,19 +2,19 @@
 use flake_base::Source;
 use order_book::BookName;
 use pinned_pool::{PoolName, PoolSeat};
-use session_serve::{Account, Line, Room};
+use session_serve::{Link, Room, ServedAccount};
 
 /// What waits for a worker: with its room and its wire, and the wire of the dump that it is asked for.
 #[derive(Drop)]
 pub struct Waiting<L, W> {
-    pub line: L,
+    pub link: L,
     pub room: Room,
     pub wire: W,
     pub dump_wire: Option<W>,
 }
 
 /// A session that waits for a worker.
-pub type Job<N, P, S, W> = Waiting<Line<N, P, S>, W>;
+pub type ServeJob<N, P, S, W> = Waiting<Link<N, P, S>, W>;
 
 /// What came of a dump. Where none was taken, there are no points and no bytes, and the wire is as it was.
 #[derive(Drop)]
@@ -32,8 +32,8 @@ pub struct Dumped<P: PoolName, W> {
 
 /// A session that was served, and the dump that it was asked for.
 #[derive(Drop)]
-pub struct Done<N: BookName, P: PoolName, S: Source, W> {
-    pub account: Account<N, P, S>,
+pub struct FinishedJob<N: BookName, P: PoolName, S: Source, W> {
+    pub account: ServedAccount<N, P, S>,
     pub wire: W,
     pub dump: Option<Dumped<P, W>>,
 }

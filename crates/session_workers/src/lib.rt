@@ -4,5 +4,5 @@
 mod job;
 mod serve;
 
-pub use job::{Done, Dumped, Job, Waiting};
+pub use job::{Dumped, FinishedJob, ServeJob, Waiting};
 pub use serve::{serve_all, serve_job};

@@ -3,7 +3,7 @@ ghost use Rattle.std.specs.Prelude.{◌≡◌, ◌<◌, ◌≤◌, [], false, Al
 ghost use Rattle.std.specs.List.{AllZip};
 ghost use Rattle.session_workers.specs.Jobs.{IsNewJob, IsDone, IsWritten};
 
-use crate::job::{Done, Dumped, Job};
+use crate::job::{Dumped, FinishedJob, ServeJob};
 use command_exec::Shop;
 use flake_base::Source;
 use order_book::BookName;
@@ -30,18 +30,18 @@ pub fn serve_all<
     rt: &R,
     alloc: Global,
     shop: &Shop<'_, N, P>,
-    jobs: Vec<Job<N, P, S, W>>,
+    jobs: Vec<ServeJob<N, P, S, W>>,
     workers: u16,
     gate: &G,
     put: &PUT,
     flush: &FLUSH,
-) -> Result<Vec<Done<N, P, S, W>>, Vec<Job<N, P, S, W>>>
+) -> Result<Vec<FinishedJob<N, P, S, W>>, Vec<ServeJob<N, P, S, W>>>
     requires calls { PUT.IsAlwaysCallable put.now × FLUSH.IsAlwaysCallable flush.now }
     requires workers { (0 < workers) × (workers ≤ 16) }
-    requires fresh { All (λ job. IsNewJob P.sizes N.sizes.shards job.line.session job.line.pump job.line.device.end
-        job.line.device.failed job.line.mtu job.line.dump.plan job.line.dump.taken job.dump_wire) jobs.items }
-    ensures served { IfOk result (λ dones. AllZip (λ job done. IsDone job.line.mtu (λ w p r. PUT.post put.now w p r)
-        (λ w r. FLUSH.post flush.now w r) P.sizes N.sizes.shards job.line.session job.line.pump job.line.dump.plan
+    requires fresh { All (λ job. IsNewJob P.sizes N.sizes.shards job.link.session job.link.pump job.link.device.end
+        job.link.device.failed job.link.mtu job.link.dump.plan job.link.dump.taken job.dump_wire) jobs.items }
+    ensures served { IfOk result (λ dones. AllZip (λ job done. IsDone job.link.mtu (λ w p r. PUT.post put.now w p r)
+        (λ w r. FLUSH.post flush.now w r) P.sizes N.sizes.shards job.link.session job.link.pump job.link.dump.plan
         job.wire job.dump_wire done.account.end done.account.sent done.account.mine done.account.seat
         done.account.pump done.wire done.dump) jobs.items dones.items) }
     ensures back { IfErr result (λ back. back ≡ jobs) }
@@ -51,13 +51,13 @@ pub fn serve_all<
         alloc,
         jobs,
         workers,
-        &|job: Job<N, P, S, W>| -> Done<N, P, S, W>
-            requires { IsNewJob P.sizes N.sizes.shards job.line.session job.line.pump job.line.device.end
-                job.line.device.failed job.line.mtu job.line.dump.plan job.line.dump.taken job.dump_wire
+        &|job: ServeJob<N, P, S, W>| -> FinishedJob<N, P, S, W>
+            requires { IsNewJob P.sizes N.sizes.shards job.link.session job.link.pump job.link.device.end
+                job.link.device.failed job.link.mtu job.link.dump.plan job.link.dump.taken job.dump_wire
                 × (PUT.IsAlwaysCallable put.now × FLUSH.IsAlwaysCallable flush.now) }
-            ensures { IsDone job.line.mtu (λ w p r. PUT.post put.entry.now w p r)
-                (λ w r. FLUSH.post flush.entry.now w r) P.sizes N.sizes.shards job.line.session job.line.pump
-                job.line.dump.plan job.wire job.dump_wire result.account.end result.account.sent result.account.mine
+            ensures { IsDone job.link.mtu (λ w p r. PUT.post put.entry.now w p r)
+                (λ w r. FLUSH.post flush.entry.now w r) P.sizes N.sizes.shards job.link.session job.link.pump
+                job.link.dump.plan job.wire job.dump_wire result.account.end result.account.sent result.account.mine
                 result.account.seat result.account.pump result.wire result.dump }
         { serve_job(rt, alloc, shop, job, gate, put, flush) },
     );
@@ -130,32 +130,32 @@ pub fn serve_job<
     rt: &R,
     alloc: Global,
     shop: &Shop<'_, N, P>,
-    job: Job<N, P, S, W>,
+    job: ServeJob<N, P, S, W>,
     gate: &G,
     put: &PUT,
     flush: &FLUSH,
-) -> Done<N, P, S, W>
+) -> FinishedJob<N, P, S, W>
     requires calls { PUT.IsAlwaysCallable put.now × FLUSH.IsAlwaysCallable flush.now }
-    requires fresh { IsNewJob P.sizes N.sizes.shards job.line.session job.line.pump job.line.device.end
-        job.line.device.failed job.line.mtu job.line.dump.plan job.line.dump.taken job.dump_wire }
-    ensures { IsDone job.line.mtu (λ w p r. PUT.post put.now w p r) (λ w r. FLUSH.post flush.now w r) P.sizes
-        N.sizes.shards job.line.session job.line.pump job.line.dump.plan job.wire job.dump_wire result.account.end
+    requires fresh { IsNewJob P.sizes N.sizes.shards job.link.session job.link.pump job.link.device.end
+        job.link.device.failed job.link.mtu job.link.dump.plan job.link.dump.taken job.dump_wire }
+    ensures { IsDone job.link.mtu (λ w p r. PUT.post put.now w p r) (λ w r. FLUSH.post flush.now w r) P.sizes
+        N.sizes.shards job.link.session job.link.pump job.link.dump.plan job.wire job.dump_wire result.account.end
         result.account.sent result.account.mine result.account.seat result.account.pump result.wire result.dump }
 {
-    let Job {
-        line,
+    let ServeJob {
+        link,
         room,
         wire,
         dump_wire,
     } = job;
-    let (wire, mut account) = serve_beside(rt, alloc, shop, line, room, gate, wire, put, flush);
+    let (wire, mut account) = serve_beside(rt, alloc, shop, link, room, gate, wire, put, flush);
     let dump = match (account.dump.take(), dump_wire) {
         (Some(taken), Some(dump_wire)) => {
             Some(write_dump(alloc, shop.pool, taken, dump_wire, put, flush))
         }
         _ => None,
     };
-    Done {
+    FinishedJob {
         account,
         wire,
         dump,

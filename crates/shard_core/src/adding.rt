@@ -109,7 +109,7 @@ fn add_more<P: PoolName>(
     kept.own.is_seat();
     let old = exchange(&mut kept.values, key, index, Value::empty(alloc));
     old.is_value();
-    match extend(alloc, pool, &mut kept.own, payer, old, bytes) {
+    match extend(alloc, pool, &mut kept.own, payer, old, bytes, kept.start) {
         Ok(value) => {
             let length = value.len();
             show(pool, &value, stored);

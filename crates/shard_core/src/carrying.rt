@@ -10,8 +10,8 @@ ghost use Rattle.shard_core.specs.Demand.{part_row};
 ghost use Rattle.shard_core.specs.Moved.{IsCarried, IsLonger};
 ghost use Rattle.shard_core.specs.Paid.{IsPaid, LacksBehind, WhyUnadded};
 
-use frag_value::{AppendError, Value, append};
-use pinned_pool::{Pool, PoolName, PoolSeat};
+use frag_value::{AppendError, Value, append_from};
+use pinned_pool::{ClaimStart, Pool, PoolName, PoolSeat};
 use std::alloc::Global;
 
 // The value's holds go to the seat that pays.
@@ -54,7 +54,7 @@ fn bring_back<P: PoolName>(
     own.is_seat();
 }
 
-/// The value with bytes behind it, or the value and why not.
+/// The value with bytes behind it, for which buffers are claimed from the start on, or the value and why not.
 pub(crate) fn extend<P: PoolName>(
     alloc: Global,
     pool: &Pool<P>,
@@ -62,6 +62,7 @@ pub(crate) fn extend<P: PoolName>(
     payer: &mut PoolSeat<P>,
     old: Value<P>,
     bytes: &[u8],
+    start: ClaimStart,
 ) -> Result<Value<P>, (AppendError, Value<P>)>
     requires value { HasValue own.old.holds old }
     requires credits { 1 < payer.old.credits }
@@ -78,7 +79,7 @@ pub(crate) fn extend<P: PoolName>(
     old.is_value();
     bring_out(pool, own, payer, &old);
     payer.is_seat();
-    match append(alloc, pool, payer, old, bytes) {
+    match append_from(alloc, pool, payer, old, bytes, start) {
         Ok(value) => {
             bring_back(pool, own, payer, &value);
             Ok(value)

@@ -6,16 +6,17 @@ ghost use Rattle.shard_core.specs.Kept.{value_at};
 
 use frag_value::Value;
 use indexmap::IndexMap;
-use pinned_pool::{PoolName, PoolSeat};
+use pinned_pool::{ClaimStart, PoolName, PoolSeat};
 use std::mem::replace;
 
 pub(crate) type Values<P> = IndexMap<Vec<u8>, Value<P>>;
 
-/// A shard's values, and the seat that holds their fragments.
+/// A shard's values, the seat that holds their fragments, and where the claims for them begin.
 #[derive(Drop)]
 pub(crate) struct Kept<P: PoolName> {
     pub(crate) own: PoolSeat<P>,
     pub(crate) values: Values<P>,
+    pub(crate) start: ClaimStart,
 }
 
 /// The value that the key has at this index.

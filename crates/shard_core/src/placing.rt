@@ -13,17 +13,18 @@ ghost use Rattle.shard_core.specs.Paid.{IsPaid};
 use crate::kept::{Kept, exchange, insert};
 use crate::showing::show;
 use flake_base::Segs;
-use frag_value::{PlaceError, Value, write};
-use pinned_pool::{Pool, PoolName, PoolSeat};
+use frag_value::{PlaceError, Value, write_from};
+use pinned_pool::{ClaimStart, Pool, PoolName, PoolSeat};
 use std::alloc::Global;
 
-/// Writes bytes into buffers that one seat claims, and hands the holds to another.
+/// Writes bytes into buffers that one seat claims, each from the start on, and hands the holds to another.
 pub(crate) fn bring<P: PoolName>(
     alloc: Global,
     pool: &Pool<P>,
     own: &mut PoolSeat<P>,
     payer: &mut PoolSeat<P>,
     bytes: &[u8],
+    start: ClaimStart,
 ) -> Result<Value<P>, PlaceError>
     requires few { length bytes.now ≤ value_limit }
     requires credits { 1 < payer.old.credits }
@@ -34,7 +35,7 @@ pub(crate) fn bring<P: PoolName>(
         (found_none result)
         payer.old payer.new }
 {
-    let value = write(alloc, pool, payer, bytes)?;
+    let value = write_from(alloc, pool, payer, bytes, start)?;
     payer.is_seat();
     pool.lend(payer, own, &value);
     own.is_seat();
@@ -69,7 +70,7 @@ fn place_over<P: PoolName>(
         (found_none result)
         payer.old payer.new }
 {
-    let value = bring(alloc, pool, &mut kept.own, payer, bytes)?;
+    let value = bring(alloc, pool, &mut kept.own, payer, bytes, kept.start)?;
     show(pool, &value, stored);
     Ok(exchange(&mut kept.values, key, index, value))
 }
@@ -106,7 +107,7 @@ pub(crate) fn place_first<P: PoolName>(
     let Ok(()) = kept.values.reserve(1) else {
         return Err(PlaceError::Memory);
     };
-    let value = bring(alloc, pool, &mut kept.own, payer, bytes)?;
+    let value = bring(alloc, pool, &mut kept.own, payer, bytes, kept.start)?;
     show(pool, &value, stored);
     insert(&mut kept.values, name, value);
     Ok(())

@@ -29,7 +29,7 @@ use crate::pinning::pin_values;
 use flake_base::{Memory, Segs};
 use frag_value::{PlaceError, Taker};
 use indexmap::IndexMap;
-use pinned_pool::{Pool, PoolName, PoolSeat};
+use pinned_pool::{ClaimStart, Pool, PoolName, PoolSeat};
 use shard_part::Part;
 use std::alloc::Global;
 use std::marker::Model;
@@ -58,10 +58,19 @@ impl<P: PoolName> ShardMap<P> {
         requires { IsBare seat }
         ensures { result ≡ record { entries = []; seat = seat } }
     {
+        ShardMap::claiming_from(alloc, seat, ClaimStart::FIRST)
+    }
+
+    /// Likewise. What its values need is claimed from the start on.
+    pub fn claiming_from(alloc: Global, seat: PoolSeat<P>, start: ClaimStart) -> Self
+        requires { IsBare seat }
+        ensures { result ≡ record { entries = []; seat = seat } }
+    {
         ShardMap {
             kept: Kept {
                 own: seat,
                 values: IndexMap::new(alloc),
+                start,
             },
         }
     }
@@ -147,7 +156,11 @@ impl<P: PoolName> ShardMap<P> {
         ensures { result ≡ self.seat }
     {
         let ShardMap { kept } = self;
-        let Kept { own, values: _ } = kept;
+        let Kept {
+            own,
+            values: _,
+            start: _,
+        } = kept;
         own
     }
 }

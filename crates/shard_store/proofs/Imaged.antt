@@ -1,6 +1,6 @@
 -- What a seat has, once a shard's values were pinned for it.
 use Rattle.std.proofs.Common.{◌≡◌, ℕ, ◌+◌, ◌<◌, ◌≤◌, List, [], ◌∷◌, ◌++◌, Bool, true, false, cond, eqb, map, take}
-use Rattle.std.proofs.Common.{length, Option, Some, None, refl, sym, ap, ◌∙◌, subst, arith}
+use Rattle.std.proofs.Common.{length, Option, Some, None, refl, ap, ◌∙◌, subst, arith}
 use mathlib.Core.Logic.{dite}
 use native.Mathlib.Decide.{ℕ_discrete}
 use Rattle.std.specs.Option.{option_map}
@@ -21,7 +21,7 @@ use Rattle.frag_value.specs.Values.{Frags, IsFilled, uses, value_bytes, unmarked
 use Rattle.frag_value.proofs.Framed.{each_there}
 use Rattle.frag_value.proofs.Sames.{same-no}
 use Rattle.frag_value.proofs.Unmarked.{same_front}
-use Rattle.value_pins.specs.Pins.{KeyFrags, IsPinned, all_frags, pairs_shown, pin_holds, pin_key, pin_keys, pinning}
+use Rattle.value_pins.specs.Pins.{KeyFrags, all_frags, pairs_shown, pin_holds, pin_key, pin_keys, pinning}
 use Rattle.shard_core.specs.Kept.{Entries, Agrees, value_at, value_addresses}
 use Rattle.shard_store.specs.Images.{HasPinned}
 

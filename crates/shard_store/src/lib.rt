@@ -6,10 +6,12 @@ mod image;
 mod locks;
 mod parts;
 mod shard;
+mod spread;
 mod store;
 
 pub use image::ShardImage;
 pub use parts::Parts;
 pub use shard_core::PartAnswer;
 pub use shard_part::{Part, PartOp, shard_of};
+pub use spread::ClaimSpread;
 pub use store::{Store, is_shared};

@@ -14,6 +14,7 @@ ghost use Rattle.shard_store.specs.Images.{IsImage};
 
 use crate::image::ShardImage;
 use crate::shard::Shard;
+use crate::spread::ClaimSpread;
 use flake_base::{Entry, Memory, Segs};
 use frag_value::Taker;
 use order_book::{Book, BookName, SessionSeat, ShardSeats};
@@ -23,10 +24,11 @@ use shard_part::Part;
 use std::alloc::Global;
 use std::sync::{Mutex, Wait};
 
-/// The last seats go behind a lock, if the shard is one of the store's.
+/// The last seats go behind a lock, if the shard is one of the store's. Its claims begin where the spread says.
 pub(crate) fn open_lock<N: BookName, P: PoolName, const I: u16>(
     alloc: Global,
     shards: u16,
+    spread: ClaimSpread,
     seats: &mut PoolSeats<P>,
     books: &mut ShardSeats<N>,
 ) -> Option<Mutex<Shard<N, P, I>>>
@@ -45,7 +47,7 @@ pub(crate) fn open_lock<N: BookName, P: PoolName, const I: u16>(
     let Some(seat) = books.pop() else {
         unreachable!()
     };
-    Some(Mutex::new(Shard::new(alloc, own, seat)))
+    Some(Mutex::new(Shard::new(alloc, own, seat, spread.start(I))))
 }
 
 /// Does a part in the shard behind the lock. All that is known behind it is of the caller's seats.

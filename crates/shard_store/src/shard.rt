@@ -17,7 +17,7 @@ use crate::image::ShardImage;
 use flake_base::{Entry, Memory, Segs};
 use frag_value::{PlaceError, Taker};
 use order_book::{Book, BookName, SessionSeat, ShardSeat};
-use pinned_pool::{Pool, PoolName, PoolSeat};
+use pinned_pool::{ClaimStart, Pool, PoolName, PoolSeat};
 use shard_core::{PartAnswer, ShardMap};
 use shard_part::Part;
 use std::alloc::Global;
@@ -44,13 +44,18 @@ impl<N: BookName, P: PoolName, const I: u16> Model for Shard<N, P, I> {
 }
 
 impl<N: BookName, P: PoolName, const I: u16> Shard<N, P, I> {
-    pub(crate) fn new(alloc: Global, own: PoolSeat<P>, seat: ShardSeat<N>) -> Self
+    pub(crate) fn new(
+        alloc: Global,
+        own: PoolSeat<P>,
+        seat: ShardSeat<N>,
+        start: ClaimStart,
+    ) -> Self
         requires bare { IsBare own }
         requires seat { seat ≡ new_shard I }
         ensures { result ≡ seat }
     {
         Shard {
-            shard_map: ShardMap::new(alloc, own),
+            shard_map: ShardMap::claiming_from(alloc, own, start),
             seat,
             journal: Vec::new(alloc),
         }

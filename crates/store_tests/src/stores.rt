@@ -4,8 +4,8 @@ mod world;
 
 use flake_base::{Entry, Journal, Memory, Sequence};
 use order_book::BookBlank;
-use pinned_pool::{Class, Held, NoBuffer, PoolBlank};
-use shard_store::{PartAnswer, PartOp};
+use pinned_pool::{ClaimStart, Class, Held, NoBuffer, PoolBlank};
+use shard_store::{ClaimSpread, PartAnswer, PartOp};
 use std::alloc::Global;
 use std::marker::Brand;
 use std::process::Abort;
@@ -19,12 +19,13 @@ fn run<R: Threads + Wait + Sync>(
     alloc: Global,
     pool: PoolBlank,
     book: BookBlank,
+    spread: ClaimSpread,
     first: &[Ask<'_>],
     second: &[Ask<'_>],
 ) -> Result<Outcome, Memory>
     requires { (0 < book.sizes.shards) × (book.sizes.shards ≤ 16) × (book.sizes.shards + 3 < pool.sizes.credits) }
 {
-    run_named::<Brand, Brand, R>(rt, alloc, pool, book, first, second)
+    run_named::<Brand, Brand, R>(rt, alloc, pool, book, spread, first, second)
 }
 
 // Over so many shards, in a pool of 8 small buffers and so many large ones.
@@ -39,7 +40,8 @@ fn run_over<R: Threads + Wait + Sync + Abort>(
     assert!(rt; 0 < shards && shards <= 16 && large <= 64);
     let pool = PoolBlank::open(alloc, 8, large, 20)?;
     let book = BookBlank::open(alloc, shards, 2)?;
-    Ok(run(rt, alloc, pool, book, first, second)?)
+    let spread = ClaimSpread::TOGETHER;
+    Ok(run(rt, alloc, pool, book, spread, first, second)?)
 }
 
 fn asking<'a>(call: u32, part: u16, op: PartOp, key: &'a [u8], value: &'a [u8]) -> Ask<'a> {
@@ -269,6 +271,39 @@ fn no_buffer_makes_no_entry(rt: HostRuntime) -> Result<(), Fail> {
         held: held(0, 2),
     };
     check(&rt, rt.alloc(), 2, &asks, &wanted)
+}
+
+// Where a small buffer begins.
+fn small(number: u32) -> u64 {
+    1_048_576 + 512 * u64::from(number)
+}
+
+// Shard 0 claims from the third small buffer on, and each other from the next one. The value that comes last finds the
+// two behind its shard's start held, and the first one free.
+#[test]
+fn claims_begin_where_the_spread_says(rt: HostRuntime) -> Result<(), Fail> {
+    let alloc = rt.alloc();
+    let asks = [
+        asking(0, 0, PartOp::Set, b"a", b"1"),
+        asking(1, 0, PartOp::Set, b"b", b"2"),
+        asking(2, 0, PartOp::Set, b"e", b"3"),
+        asking(3, 0, PartOp::Set, b"a", b"4"),
+    ];
+    let spread = ClaimSpread {
+        first: ClaimStart { small: 2, large: 0 },
+        step: ClaimStart { small: 1, large: 0 },
+    };
+    let pool = PoolBlank::open(alloc, 8, 1, 20)?;
+    let book = BookBlank::open(alloc, 8, 2)?;
+    let outcome = run(&rt, alloc, pool, book, spread, &asks, &[])?;
+    let buffers = [6, 7, 2, 0];
+    assert_eq!(rt; outcome.first.len(), buffers.len());
+    for (seen, buffer) in outcome.first.iter().zip(&buffers) {
+        assert_eq!(rt; seen.stored.len(), 1);
+        assert_eq!(rt; seen.stored[0].address, small(*buffer));
+    }
+    assert!(rt; outcome.held == held(3, 0), "{:?}", outcome.held);
+    Ok(())
 }
 
 fn asks_on<'a>(alloc: Global, key: &'a [u8], value: &'a [u8]) -> Result<Vec<Ask<'a>>, Memory> {

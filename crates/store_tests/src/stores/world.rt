@@ -7,7 +7,7 @@ use flake_base::{Entry, Journal, Memory, Seg, Segs, Sequence};
 use order_book::{Book, BookBlank, BookName, SessionSeat};
 use pinned_pool::{Held, Pool, PoolBlank, PoolName, PoolSeat};
 use shard_part::VALUE_LIMIT;
-use shard_store::{Part, PartAnswer, PartOp, Parts, Store};
+use shard_store::{ClaimSpread, Part, PartAnswer, PartOp, Parts, Store};
 use std::alloc::Global;
 use std::sync::Wait;
 use std::thread::{Threads, join};
@@ -181,6 +181,7 @@ pub fn run_named<N: BookName + Send + Sync, P: PoolName + Send + Sync, R: Thread
     alloc: Global,
     pool: PoolBlank,
     book: BookBlank,
+    spread: ClaimSpread,
     first: &[Ask<'_>],
     second: &[Ask<'_>],
 ) -> Result<Outcome, Memory>
@@ -196,7 +197,7 @@ pub fn run_named<N: BookName + Send + Sync, P: PoolName + Send + Sync, R: Thread
     };
     let shard_maps = seats_of(alloc, &pool, &mut seat, books.len())?;
     let second_seat = pool.split(&mut seat, (), 2);
-    let Ok(store) = Store::open(alloc, shard_maps, books) else {
+    let Ok(store) = Store::open_spread(alloc, shard_maps, books, spread) else {
         return Err(Memory);
     };
     let one = Session { seat, mine };

@@ -12,11 +12,11 @@ loop-done-init g c =
     let p = frame_of c.args.job.now in
     let behind = text_behind g.N.PoolName.sizes p c.args.place.now.segment c.args.place.now.offset in
     let room = c.args.room.now in
-    let first = c.min-first.result in
+    let first = c.first_piece_length-first.result in
     let size : length (take (16 + first) room) - 16 ≡ first =
-    omega (arith, length-take (16 + first) room, c.told-room, c.min-first.ensures) in
+    omega (arith, length-take (16 + first) room, c.told-room, c.first_piece_length-first.ensures.1) in
     record {
-      within = omega (arith, c.min-first.ensures);
+      within = c.first_piece_length-first.ensures.0;
       job = c.send_run-after.ensures.job;
       place = c.send_run-after.ensures.place;
       rest = c.send_run-after.ensures.rest ∙ ap (λ n. drop n behind) size;

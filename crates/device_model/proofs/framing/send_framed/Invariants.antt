@@ -1,9 +1,11 @@
-use Rattle.std.proofs.Common.{◌≡◌, ◌+◌, ◌-◌, ◌≤◌, ◌++◌, List, ℕ, length}
-use Rattle.mtu_frames.specs.Frames.{cuts_of, framed}
+use Rattle.std.proofs.Common.{◌≡◌, ◌+◌, ◌-◌, ◌≤◌, ◌++◌, List, ℕ, length, map}
+use Rattle.mtu_frames.specs.Frames.{MtuFrame, cuts_of, framed, frames_of, mtu_frame_bytes}
 use Rattle.tx_ring.specs.Jobs.{frame_of}
 use Rattle.device_model.specs.Devices.{PutsText}
 use Rattle.device_model.specs.Framing.{text_behind, IsInText}
+use Rattle.device_model.specs.Pieces.{PutsEach}
 use Rattle.device_model.proofs.Framed.{frames_left}
+use Rattle.device_model.proofs.FrameByFrame.{frames_to_put}
 use Rattle.device_model.proofs.framing.send_framed.Given as goal
 
 abbrev pub invariant-loop-left : goal.invariant-loop-left
@@ -17,6 +19,10 @@ invariant-loop-left g l =
       sent : (text : List ℕ) × (framed reply.text reply.call l.mtu ≡ text
           ++ frames_left reply.call (length (cuts_of l.mtu reply.text)) l.index (l.mtu - 16) behind)
           × PutsText (λ w p r. goal.P-post g l.put w p r) l.failed l.has_failed text l.fn.wire l.wire;
+      each : (done : List MtuFrame) × (frames_of reply.text reply.call l.mtu ≡ done
+          ++ frames_to_put reply.call (length (cuts_of l.mtu reply.text)) l.index (l.mtu - 16) behind)
+          × PutsEach (λ w p r. goal.P-post g l.put w p r) (map mtu_frame_bytes done) l.failed l.has_failed l.fn.wire
+          l.wire;
     }
 
 abbrev pub decreases-loop-left : goal.decreases-loop-left

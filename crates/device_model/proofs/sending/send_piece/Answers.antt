@@ -1,6 +1,6 @@
-use Rattle.std.proofs.Common.{rules, ◌≡◌, length, true, false, refl, sym, ap, subst, arith}
+use Rattle.std.proofs.Common.{rules, ◌≡◌, length, true, false, refl, sym, subst, arith}
 use Rattle.any_wire.specs.Sends.{Puts}
-use Rattle.any_wire.proofs.Sending.{sends-put, sends-same}
+use Rattle.any_wire.proofs.Sending.{sends-put}
 use Rattle.reply_planner.specs.Places.{buffer_bytes}
 use Rattle.device_model.specs.Devices.{PutsText}
 use Rattle.device_model.proofs.Cutting.{chain-put}
@@ -25,14 +25,12 @@ returns-clause-sends g c =
     let n = run-length g.N.PoolName.sizes p c.args.buffer c.args.from (length c.args.room.now) c.is_parcel.ensures
     c.requires.bytes in
     let read : c.load_bytes.new.room ≡ bytes = search rules in
-    subst (λ f. PutsText (λ w p r. goal.P-post g c.args.put.now w p r) f c.put_unless_failed.result.1 bytes c.args.wire
-    c.put_unless_failed.result.0) (sym c.if-failed.false)
-    (sends-same (λ w p r. goal.P-post g c.args.put.now w p r) (λ w r. ⊥) false c.put_unless_failed.result.1
-    c.load_bytes.new.room bytes c.args.wire c.put_unless_failed.result.0 read
-    (sends-put (λ w p r. goal.P-post g c.args.put.now w p r) (λ w r. ⊥) false c.put_unless_failed.result.1
-    c.load_bytes.new.room c.args.wire c.put_unless_failed.result.0
-    (omega (arith, ap length read, n, c.requires.count.0), omega (arith, ap length read, n, c.requires.count.1))
-    c.put_unless_failed.ensures))
+    let done : Puts (λ w p r. goal.P-post g c.args.put.now w p r) false c.put.result.1 bytes c.args.wire
+    c.put.result.0 = (_, read, c.put.ensures) in
+    subst (λ f. PutsText (λ w p r. goal.P-post g c.args.put.now w p r) f c.put.result.1 bytes c.args.wire
+    c.put.result.0) (sym c.if-failed.false)
+    (sends-put (λ w p r. goal.P-post g c.args.put.now w p r) (λ w r. ⊥) false c.put.result.1 bytes c.args.wire
+    c.put.result.0 (omega (arith, n, c.requires.count.0), omega (arith, n, c.requires.count.1)) done)
 
 pub returns-then-failed-clause-piece : goal.returns-then-failed-clause-piece
 returns-then-failed-clause-piece g c =
@@ -45,9 +43,9 @@ pub returns-clause-piece : goal.returns-clause-piece
 returns-clause-piece g c =
     let bytes = buffer_bytes c.args.parcel.now.holds c.args.buffer c.args.from (length c.args.room.now) in
     let read : c.load_bytes.new.room ≡ bytes = search rules in
-    chain-put (λ w p r. goal.P-post g c.args.put.now w p r) c.args.failed c.put_unless_failed.result.1 bytes c.args.wire
-    c.put_unless_failed.result.0
-    (subst (λ f. Puts (λ w p r. goal.P-post g c.args.put.now w p r) f c.put_unless_failed.result.1 bytes c.args.wire
-    c.put_unless_failed.result.0) (sym c.if-failed.false)
-    (subst (λ t. Puts (λ w p r. goal.P-post g c.args.put.now w p r) false c.put_unless_failed.result.1 t c.args.wire
-    c.put_unless_failed.result.0) read c.put_unless_failed.ensures))
+    let done : Puts (λ w p r. goal.P-post g c.args.put.now w p r) false c.put.result.1 bytes c.args.wire
+    c.put.result.0 = (_, read, c.put.ensures) in
+    chain-put (λ w p r. goal.P-post g c.args.put.now w p r) c.args.failed c.put.result.1 bytes c.args.wire
+    c.put.result.0
+    (subst (λ f. Puts (λ w p r. goal.P-post g c.args.put.now w p r) f c.put.result.1 bytes c.args.wire c.put.result.0)
+    (sym c.if-failed.false) done)

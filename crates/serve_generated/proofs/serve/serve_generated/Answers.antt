@@ -4,7 +4,7 @@ use Rattle.flake_base.specs.declared.session.End.TheVariants.{Left}
 use Rattle.flake_base.specs.declared.session.SessionEnd.{SessionEnd}
 use Rattle.flake_base.specs.Histories.{histories}
 use Rattle.run_resources.specs.Opened.{HasRunSizes, dump_wires}
-use Rattle.run_resources.specs.declared.sizes.Sizes.{Sizes}
+use Rattle.run_resources.specs.declared.sizes.RunSizes.{RunSizes}
 use Rattle.serve_inputs.specs.Dumped.{dump_told}
 use Rattle.serve_generated.proofs.Inputs.{unread}
 use Rattle.serve_generated.proofs.Ran.{ran_generated}
@@ -25,7 +25,7 @@ serve_inputs-requires-clause-wires g c κs within =
       arith,
       c.in-Ok.ensures.many,
       c.requires.wires,
-      ap (λ (s : Sizes). dump_wires s.dump) c.in-Some.ensures.sizes,
+      ap (λ (s : RunSizes). dump_wires s.dump) c.in-Some.ensures.sizes,
     )
 
 pub returns-in-Ok-serve_inputs-clause-ran : goal.returns-in-Ok-serve_inputs-clause-ran

@@ -20,10 +20,10 @@ loop-slot-init g c =
       all = gives.0;
       left = omega (arith, gives.1, long, c.args.slots.ok.0);
       fresh = all_of_none c.args.jobs.items (λ job. IsNewJob g.P.PoolName.sizes g.N.BookName.sizes.shards
-          job.line.session job.line.pump job.line.device.end job.line.device.failed job.line.mtu job.line.dump.plan
-          job.line.dump.taken job.dump_wire) none;
-      unasked = all_of_none c.args.jobs.items (λ job. job.line.dump.plan ≡ None) none;
-      mtus = all_of_none c.args.jobs.items (λ job. job.line.mtu ≡ c.args.mtu) none;
+          job.link.session job.link.pump job.link.device.end job.link.device.failed job.link.mtu job.link.dump.plan
+          job.link.dump.taken job.dump_wire) none;
+      unasked = all_of_none c.args.jobs.items (λ job. job.link.dump.plan ≡ None) none;
+      mtus = all_of_none c.args.jobs.items (λ job. job.link.mtu ≡ c.args.mtu) none;
       sessions = rw none refl;
       names = rw none (ap (map (λ s. g.S.Source.name s)) sources);
       wholes = rw none (ap (map (λ s. g.S.Source.whole s)) sources);
@@ -56,27 +56,27 @@ loop-slot-preserved g c =
     record {
       all = given_on c.loop-slot.yielded _ _ _ _ before.all steps.0;
       left = omega (arith, before.left, steps.1, ap length steps.0);
-      fresh = all_more jobs _ _ (λ job. IsNewJob z shards job.line.session job.line.pump job.line.device.end
-          job.line.device.failed job.line.mtu job.line.dump.plan job.line.dump.taken job.dump_wire) items before.fresh
+      fresh = all_more jobs _ _ (λ job. IsNewJob z shards job.link.session job.link.pump job.link.device.end
+          job.link.device.failed job.link.mtu job.link.dump.plan job.link.dump.taken job.dump_wire) items before.fresh
           (new_job z shards slot.session slot.device.end slot.device.failed _ c.new-pump.result _ _ _ _ None is
           c.new-pump.ensures.pump own.0 own.2 c.new-dump.ensures.plan c.new-dump.ensures.taken refl c.requires.mtu);
-      mtus = all_more jobs _ _ (λ job. job.line.mtu ≡ c.args.mtu) items before.mtus refl;
-      unasked = all_more jobs _ _ (λ job. job.line.dump.plan ≡ None) items before.unasked c.new-dump.ensures.plan;
-      sessions = both_more jobs _ _ c.loop-slot.yielded slot (λ job. job.line.session)
+      mtus = all_more jobs _ _ (λ job. job.link.mtu ≡ c.args.mtu) items before.mtus refl;
+      unasked = all_more jobs _ _ (λ job. job.link.dump.plan ≡ None) items before.unasked c.new-dump.ensures.plan;
+      sessions = both_more jobs _ _ c.loop-slot.yielded slot (λ job. job.link.session)
           (λ d. d.session) items
           before.sessions refl;
-      names = moves_on jobs _ _ (λ job. job.line.pump.origin.name) _ _ _ items
+      names = moves_on jobs _ _ (λ job. job.link.pump.origin.name) _ _ _ items
           (ap (map (λ s. g.S.Source.name s)) sources
           ∙ ap (λ l. l ∷ map (λ s. g.S.Source.name s) (into_iter_items c.next-in-loop-slot.new.self))
           (ap (λ o. o.name) (sym origin)))
           before.names;
-      wholes = moves_on jobs _ _ (λ job. job.line.pump.origin.whole) _ _ _ items
+      wholes = moves_on jobs _ _ (λ job. job.link.pump.origin.whole) _ _ _ items
           (ap (map (λ s. g.S.Source.whole s)) sources
           ∙ ap (λ l. l ∷ map (λ s. g.S.Source.whole s) (into_iter_items c.next-in-loop-slot.new.self))
           (ap (λ o. o.whole) (sym origin)))
           before.wholes;
       unread = all_rest _ _ _ (λ s. g.S.Source.given s ≡ []) sources before.unread;
-      faults = moves_on jobs _ _ (λ job. job.line.pump.faults) _ _ _ items
+      faults = moves_on jobs _ _ (λ job. job.link.pump.faults) _ _ _ items
           (ap (map (λ s. g.S.Source.read_faults s)) sources
           ∙ ap (λ l. l ∷ map (λ s. g.S.Source.read_faults s) (into_iter_items c.next-in-loop-slot.new.self))
           (sym own.2))
@@ -112,7 +112,7 @@ returns-clause-names g c =
       c.in-None.ensures.steps.0,
     )) in
     sym (append-nil _)
-    ∙ ap (λ l. map (λ job. job.line.pump.origin.name) c.loop-slot.jobs.items ++ map (λ s. g.S.Source.name s) l)
+    ∙ ap (λ l. map (λ job. job.link.pump.origin.name) c.loop-slot.jobs.items ++ map (λ s. g.S.Source.name s) l)
     (sym none)
     ∙ before.names
 
@@ -126,7 +126,7 @@ returns-clause-wholes g c =
       c.in-None.ensures.steps.0,
     )) in
     sym (append-nil _)
-    ∙ ap (λ l. map (λ job. job.line.pump.origin.whole) c.loop-slot.jobs.items ++ map (λ s. g.S.Source.whole s) l)
+    ∙ ap (λ l. map (λ job. job.link.pump.origin.whole) c.loop-slot.jobs.items ++ map (λ s. g.S.Source.whole s) l)
     (sym none)
     ∙ before.wholes
 
@@ -145,6 +145,6 @@ returns-clause-faults g c =
       c.in-None.ensures.steps.0,
     )) in
     sym (append-nil _)
-    ∙ ap (λ l. map (λ job. job.line.pump.faults) c.loop-slot.jobs.items
+    ∙ ap (λ l. map (λ job. job.link.pump.faults) c.loop-slot.jobs.items
     ++ map (λ s. g.S.Source.read_faults s) l)
     (sym none) ∙ before.faults

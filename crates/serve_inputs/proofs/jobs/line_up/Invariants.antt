@@ -6,20 +6,20 @@ use Rattle.serve_inputs.proofs.jobs.line_up.Given as goal
 
 abbrev pub invariant-loop-slot : goal.invariant-loop-slot
 invariant-loop-slot g l = record {
-  fresh : All (λ job. IsNewJob g.P.PoolName.sizes g.N.BookName.sizes.shards job.line.session job.line.pump
-      job.line.device.end job.line.device.failed job.line.mtu job.line.dump.plan job.line.dump.taken job.dump_wire)
+  fresh : All (λ job. IsNewJob g.P.PoolName.sizes g.N.BookName.sizes.shards job.link.session job.link.pump
+      job.link.device.end job.link.device.failed job.link.mtu job.link.dump.plan job.link.dump.taken job.dump_wire)
       l.jobs.items;
-  unasked : All (λ job. job.line.dump.plan ≡ None) l.jobs.items;
-  mtus : All (λ job. job.line.mtu ≡ l.fn.mtu) l.jobs.items;
-  sessions : map (λ job. job.line.session) l.jobs.items ≡ map (λ d. d.session) l.yielded;
-  names : map (λ job. job.line.pump.origin.name) l.jobs.items
+  unasked : All (λ job. job.link.dump.plan ≡ None) l.jobs.items;
+  mtus : All (λ job. job.link.mtu ≡ l.fn.mtu) l.jobs.items;
+  sessions : map (λ job. job.link.session) l.jobs.items ≡ map (λ d. d.session) l.yielded;
+  names : map (λ job. job.link.pump.origin.name) l.jobs.items
       ++ map (λ s. g.S.Source.name s) (into_iter_items l.more_sources)
       ≡ map (λ s. g.S.Source.name s) l.fn.sources.items;
-  wholes : map (λ job. job.line.pump.origin.whole) l.jobs.items
+  wholes : map (λ job. job.link.pump.origin.whole) l.jobs.items
       ++ map (λ s. g.S.Source.whole s) (into_iter_items l.more_sources)
       ≡ map (λ s. g.S.Source.whole s) l.fn.sources.items;
   unread : All (λ s. g.S.Source.given s ≡ []) (into_iter_items l.more_sources);
-  faults : map (λ job. job.line.pump.faults) l.jobs.items
+  faults : map (λ job. job.link.pump.faults) l.jobs.items
       ++ map (λ s. g.S.Source.read_faults s) (into_iter_items l.more_sources)
       ≡ map (λ s. g.S.Source.read_faults s) l.fn.sources.items;
   wires : map (λ job. job.wire) l.jobs.items ++ into_iter_items l.more_wires ≡ l.fn.wires.items;

@@ -5,8 +5,8 @@ use Rattle.serve_inputs.proofs.jobs.serve_here.Goals as goal
 
 pub serve_job-requires-clause-fresh : goal.serve_job-requires-clause-fresh
 serve_job-requires-clause-fresh g c = λ _ _.
-    all_first _ _ c.in-Some.job (λ job. IsNewJob g.P.PoolName.sizes g.N.BookName.sizes.shards job.line.session
-    job.line.pump job.line.device.end job.line.device.failed job.line.mtu job.line.dump.plan job.line.dump.taken
+    all_first _ _ c.in-Some.job (λ job. IsNewJob g.P.PoolName.sizes g.N.BookName.sizes.shards job.link.session
+    job.link.pump job.link.device.end job.link.device.failed job.link.mtu job.link.dump.plan job.link.dump.taken
     job.dump_wire)
     c.in-Some.ensures.steps.0 c.loop-job.invariant.rest
 
@@ -21,8 +21,8 @@ loop-job-preserved g c =
       done = zip_more c.loop-job.yielded c.loop-job.dones.items _ c.in-Some.job _ _ c.push_reserved.ensures.items
           before.done is;
       rest = all_rest _ _ c.in-Some.job (λ job. IsNewJob g.P.PoolName.sizes g.N.BookName.sizes.shards
-          job.line.session job.line.pump job.line.device.end job.line.device.failed job.line.mtu job.line.dump.plan
-          job.line.dump.taken job.dump_wire) steps.0 before.rest;
+          job.link.session job.link.pump job.link.device.end job.link.device.failed job.link.mtu job.link.dump.plan
+          job.link.dump.taken job.dump_wire) steps.0 before.rest;
       room = omega (
         arith,
         before.room,
@@ -47,7 +47,7 @@ loop-job-init g c =
       left = omega (arith, gives.1, long, c.args.jobs.ok.0);
       done = rw c.requires.room.0 tt;
       rest = all_as _ c.args.jobs.items (λ job. IsNewJob g.P.PoolName.sizes g.N.BookName.sizes.shards
-          job.line.session job.line.pump job.line.device.end job.line.device.failed job.line.mtu job.line.dump.plan
-          job.line.dump.taken job.dump_wire) gives.0 c.requires.fresh;
+          job.link.session job.link.pump job.link.device.end job.link.device.failed job.link.mtu job.link.dump.plan
+          job.link.dump.taken job.dump_wire) gives.0 c.requires.fresh;
       room = omega (arith, long, c.requires.room.1, ap length c.requires.room.0, c.args.dones.ok.0);
     }

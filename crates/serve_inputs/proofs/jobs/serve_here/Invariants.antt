@@ -8,13 +8,13 @@ abbrev pub invariant-loop-job : goal.invariant-loop-job
 invariant-loop-job g l = record {
   all : l.yielded ++ into_iter_items l.job-iterator ≡ l.fn.jobs.items;
   left : into_iter_len l.job-iterator ≡ length (into_iter_items l.job-iterator);
-  done : AllZip (λ job done. IsDone job.line.mtu (λ w p r. goal.PUT-post g l.put w p r)
-      (λ w r. goal.FLUSH-post g l.flush w r) g.P.PoolName.sizes g.N.BookName.sizes.shards job.line.session
-      job.line.pump job.line.dump.plan job.wire
+  done : AllZip (λ job done. IsDone job.link.mtu (λ w p r. goal.PUT-post g l.put w p r)
+      (λ w r. goal.FLUSH-post g l.flush w r) g.P.PoolName.sizes g.N.BookName.sizes.shards job.link.session
+      job.link.pump job.link.dump.plan job.wire
       job.dump_wire done.account.end done.account.sent done.account.mine done.account.seat done.account.pump
       done.wire done.dump) l.yielded l.dones.items;
-  rest : All (λ job. IsNewJob g.P.PoolName.sizes g.N.BookName.sizes.shards job.line.session job.line.pump
-      job.line.device.end job.line.device.failed job.line.mtu job.line.dump.plan job.line.dump.taken job.dump_wire)
+  rest : All (λ job. IsNewJob g.P.PoolName.sizes g.N.BookName.sizes.shards job.link.session job.link.pump
+      job.link.device.end job.link.device.failed job.link.mtu job.link.dump.plan job.link.dump.taken job.dump_wire)
       (into_iter_items l.job-iterator);
   room : vec_len l.dones + length (into_iter_items l.job-iterator) ≤ vec_capacity l.dones;
 }

@@ -9,6 +9,6 @@ returns-in-Err g c = rw (← c.in-Err.ensures.back) c.serve_here.ensures
 pub serve_here-requires-clause-fresh : goal.serve_here-requires-clause-fresh
 serve_here-requires-clause-fresh g c = λ _ _.
     all_as c.in-Err.jobs.items c.args.jobs.items (λ job. IsNewJob g.P.PoolName.sizes g.N.BookName.sizes.shards
-    job.line.session job.line.pump job.line.device.end job.line.device.failed job.line.mtu job.line.dump.plan
-    job.line.dump.taken
+    job.link.session job.link.pump job.link.device.end job.link.device.failed job.link.mtu job.link.dump.plan
+    job.link.dump.taken
     job.dump_wire) (ap (λ jobs. jobs.items) c.in-Err.ensures.back) c.requires.fresh

@@ -7,7 +7,7 @@ use Rattle.serve_inputs.proofs.orders.ask_first.Goals as goal
 
 pub returns-in_default-clause-asked : goal.returns-in_default-clause-asked
 returns-in_default-clause-asked g c =
-    none_asked (λ job. (job.line.dump.plan, job.dump_wire)) c.args.order c.args.jobs.now.items c.in_default.is
+    none_asked (λ job. (job.link.dump.plan, job.dump_wire)) c.args.order c.args.jobs.now.items c.in_default.is
     c.requires.unasked
 
 pub returns-clause-fresh : goal.returns-clause-fresh
@@ -16,14 +16,14 @@ returns-clause-fresh g c =
     let shards = g.N.BookName.sizes.shards in
     let can = subst (λ order. IfSome order (λ o. CanKeepAll z shards o.plan.seat)) c.in-Some.is c.requires.order in
     first_all c.args.jobs.now.items c.remove-job.new.self.items c.insert.new.self.items c.remove-job.result _
-    (λ job. IsNewJob z shards job.line.session job.line.pump job.line.device.end job.line.device.failed
-    job.line.mtu job.line.dump.plan job.line.dump.taken job.dump_wire) c.requires.one c.remove-job.ensures.value
+    (λ job. IsNewJob z shards job.link.session job.link.pump job.link.device.end job.link.device.failed
+    job.link.mtu job.link.dump.plan job.link.dump.taken job.dump_wire) c.requires.one c.remove-job.ensures.value
     c.remove-job.ensures.items c.in-Ok.ensures.items c.requires.fresh
     (λ is. asked_job z shards _ _ _ _ _ _ _ _ _ _ c.in-Some.order.plan c.in-Some.order.wire is can c.new.ensures.plan
     c.new.ensures.taken)
 
 pub returns-clause-asked : goal.returns-clause-asked
 returns-clause-asked g c =
-    first_asked (λ job. (job.line.dump.plan, job.dump_wire)) c.args.order c.in-Some.order c.args.jobs.now.items
+    first_asked (λ job. (job.link.dump.plan, job.dump_wire)) c.args.order c.in-Some.order c.args.jobs.now.items
     c.remove-job.new.self.items c.insert.new.self.items _ c.in-Some.is c.requires.one c.remove-job.ensures.items
     c.in-Ok.ensures.items c.requires.unasked (λ i. (c.new.ensures.plan i, Some c.in-Some.order.wire))

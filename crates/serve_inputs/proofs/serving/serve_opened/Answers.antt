@@ -58,7 +58,7 @@ returns-clause-ran g c =
     c.first_dumped-dumped.ensures.accounts)
     ends (c.bring_in-ends.ensures.sent ∙ stays rest dones (λ d. d.account) (λ a. a.sent)
     c.first_dumped-dumped.ensures.accounts)
-    (each_as jobs lined (λ j. j.line.mtu) c.args.sizes.now.mtu c.ask_first.ensures.mtus c.line_up-jobs.ensures.mtus)
+    (each_as jobs lined (λ j. j.link.mtu) c.args.sizes.now.mtu c.ask_first.ensures.mtus c.line_up-jobs.ensures.mtus)
 
 pub returns-clause-names : goal.returns-clause-names
 returns-clause-names g c =
@@ -72,7 +72,7 @@ returns-clause-names g c =
     ∙ c.line_up-jobs.ensures.sessions in
     let all = as_many _ _ _ _ z shards _ _ _ _ _ _ _ _ _ _ _ _ _ c.serve_jobs-dones.ensures in
     names_kept _ _ _ _ z shards _ _ _ _ _ _ _ _ _ _ _ _ _ _ _ c.serve_jobs-dones.ensures
-    (stays jobs lined (λ j. j.line.pump) (λ p. p.origin.name) c.ask_first.ensures.pumps ∙ c.line_up-jobs.ensures.names)
+    (stays jobs lined (λ j. j.link.pump) (λ p. p.origin.name) c.ask_first.ensures.pumps ∙ c.line_up-jobs.ensures.names)
     (c.bring_in-ends.ensures.names ∙ stays rest dones (λ d. d.account) (λ a. a.pump.origin.name)
     c.first_dumped-dumped.ensures.accounts)
 
@@ -88,7 +88,7 @@ returns-clause-wholes g c =
     ∙ c.line_up-jobs.ensures.sessions in
     let all = as_many _ _ _ _ z shards _ _ _ _ _ _ _ _ _ _ _ _ _ c.serve_jobs-dones.ensures in
     wholes_kept _ _ _ _ z shards _ _ _ _ _ _ _ _ _ _ _ _ _ _ _ c.serve_jobs-dones.ensures
-    (stays jobs lined (λ j. j.line.pump) (λ p. p.origin.whole) c.ask_first.ensures.pumps ∙
+    (stays jobs lined (λ j. j.link.pump) (λ p. p.origin.whole) c.ask_first.ensures.pumps ∙
     c.line_up-jobs.ensures.wholes)
     (c.bring_in-ends.ensures.wholes ∙ stays rest dones (λ d. d.account) (λ a. a.pump.origin.whole)
     c.first_dumped-dumped.ensures.accounts)
@@ -105,7 +105,7 @@ returns-clause-reads g c =
     ∙ c.line_up-jobs.ensures.sessions in
     let all = as_many _ _ _ _ z shards _ _ _ _ _ _ _ _ _ _ _ _ _ c.serve_jobs-dones.ensures in
     all_reads _ _ _ _ z shards _ _ _ _ _ _ _ _ _ _ _ _ _ _ _ _ c.serve_jobs-dones.ensures
-    (stays jobs lined (λ j. j.line.pump) (λ p. p.faults) c.ask_first.ensures.pumps ∙ c.line_up-jobs.ensures.faults)
+    (stays jobs lined (λ j. j.link.pump) (λ p. p.faults) c.ask_first.ensures.pumps ∙ c.line_up-jobs.ensures.faults)
     (c.bring_in-ends.ensures.faults ∙ stays rest dones (λ d. d.account) (λ a. a.pump.faults)
     c.first_dumped-dumped.ensures.accounts)
     (c.bring_in-ends.ensures.ends ∙ stays rest dones (λ d. d.account) (λ a. a.end)

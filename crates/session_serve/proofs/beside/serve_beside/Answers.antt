@@ -6,10 +6,10 @@ use Rattle.session_serve.proofs.beside.serve_beside.Goals as goal
 
 pub serve_sides-requires-clause-fresh : goal.serve_sides-requires-clause-fresh
 serve_sides-requires-clause-fresh g c κs within =
-    subst (λ s. IsFresh _ s c.args.line.pump) (sym c.both_ends.ensures.session) (fresh-told _ _ _ _ c.requires.fresh)
+    subst (λ s. IsFresh _ s c.args.link.pump) (sym c.both_ends.ensures.session) (fresh-told _ _ _ _ c.requires.fresh)
 
 pub returns-clause-dump : goal.returns-clause-dump
 returns-clause-dump g c =
     let account = c.serve_sides.result.1 in
-    subst (λ s. DumpCame g.N.BookName.sizes.shards c.args.line.dump.plan account.dump s.pass.list account.mine)
+    subst (λ s. DumpCame g.N.BookName.sizes.shards c.args.link.dump.plan account.dump s.pass.list account.mine)
     c.both_ends.ensures.session c.serve_sides.ensures.dump

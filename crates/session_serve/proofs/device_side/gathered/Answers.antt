@@ -6,4 +6,4 @@ pub returns-clause-more : goal.returns-clause-more
 returns-clause-more g c =
     let e = c.gather_next-wire.ensures in
     more-gathered _ _ _ _ _ (λ w p r may. search of_calls) (λ w r may. search of_calls) _ _ _ _ _ _ _ _ _ _ _ e.found
-    e.put e.flushed e.forwards c.whole_bytes.ensures c.counted.ensures c.mtu.ensures.bound
+    e.put e.flushed e.forwards c.whole_bytes.ensures c.counted.ensures c.requires.mtu

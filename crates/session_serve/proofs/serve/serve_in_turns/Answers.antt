@@ -13,26 +13,26 @@ use Rattle.session_serve.proofs.serve.serve_in_turns.Goals as goal
 
 pub turns-init : goal.turns-init
 turns-init g c =
-    let first = c.args.line.session in
+    let first = c.args.link.session in
     let ends = c.both_ends.ensures in
     let fresh = c.requires.fresh in
     let z = g.P.PoolName.sizes in
     let shards = g.N.BookName.sizes.shards in
-    let asked = c.args.line.dump.plan in
+    let asked = c.args.link.dump.plan in
     record {
-      gathered = gathered-starts first c.both_ends.new.session c.args.line.device.end c.both_ends.new.device.end
+      gathered = gathered-starts first c.both_ends.new.session c.args.link.device.end c.both_ends.new.device.end
           fresh.none_posted ends.order.1 c.requires.ring ends.ring
           (ap (λ v. v.completed) ends.device) ends.session;
       unstopped = ap (λ s. s.stopped) ends.session ∙ fresh.unstopped;
       working = (
         [],
         [],
-        subst (λ s. IsWorking z shards (as_seeing s.pass.list first) c.args.line.pump.origin c.args.line.pump.faults
-            [] [] s c.args.line.pump) (sym ends.session)
-            (work-told _ _ first _ _ [] [] first _ c.args.line.pump (work-starts _ _ first c.args.line.pump fresh)),
+        subst (λ s. IsWorking z shards (as_seeing s.pass.list first) c.args.link.pump.origin c.args.link.pump.faults
+            [] [] s c.args.link.pump) (sym ends.session)
+            (work-told _ _ first _ _ [] [] first _ c.args.link.pump (work-starts _ _ first c.args.link.pump fresh)),
       );
       plan = c.requires.plan;
-      stands = subst (λ s. Stands shards asked asked c.args.line.dump.taken
+      stands = subst (λ s. Stands shards asked asked c.args.link.dump.taken
           first.pass.list s.pass.list) (sym ends.session)
           (subst (λ t. Stands shards asked asked t first.pass.list first.pass.list)
           (sym c.requires.untried)
@@ -43,7 +43,7 @@ turns-init g c =
       forwards = forwards-as _ _ _ _ _ _ _ _ _ _ _ _ _ refl (sym (ends.failed ∙ c.requires.unfailed)) refl refl
           (forwards-nothing _ _ _ _ [] c.both_ends.new.session.posted c.args.wire
           (ap (λ s. s.posted) ends.session ∙ fresh.none_posted));
-      whole = whole-start c.args.line.mtu _ _ _ _ _ c.args.wire (ends.failed ∙ c.requires.unfailed)
+      whole = whole-start c.args.link.mtu _ _ _ _ _ c.args.wire (ends.failed ∙ c.requires.unfailed)
           (ap (λ s. s.posted) ends.session ∙ fresh.none_posted) refl;
     }
 
@@ -53,7 +53,7 @@ turn-after-requires-clause-ready g c κs within =
     let w = before.working in
     record {
       unstopped = before.unstopped;
-      few = work-bounded _ _ _ _ _ w.0 w.1 c.turns.line.session c.turns.line.pump w.2;
+      few = work-bounded _ _ _ _ _ w.0 w.1 c.turns.link.session c.turns.link.pump w.2;
     }
 
 pub turn-after-requires-clause-mtu : goal.turn-after-requires-clause-mtu
@@ -63,8 +63,8 @@ pub turns-smaller : goal.turns-smaller
 turns-smaller g c =
     let w = c.turns.invariant.working in
     let call = rw c.in-Ok.is at c.turn-after.ensures.call in
-    let more = work-longer _ _ _ _ _ _ w.0 w.1 c.turns.line.session c.turn-after.new.self.session
-    c.turns.line.pump c.turn-after.new.self.pump w.2
+    let more = work-longer _ _ _ _ _ _ w.0 w.1 c.turns.link.session c.turn-after.new.self.session
+    c.turns.link.pump c.turn-after.new.self.pump w.2
     (call _ _ _ w.0 w.1 w.2) in
     omega (arith, more.0, more.1)
 
@@ -83,19 +83,19 @@ turns-preserved g c =
       unstopped = unstopped ∙ before.unstopped;
       working = (w.0 ++ more.command ∷ [], w.1 ++ more.outcomes ∷ [], more.working);
       plan = c.turn-after.ensures.plan;
-      stands = c.turn-after.ensures.stands c.args.line.dump.plan c.args.line.session.pass.list before.stands
+      stands = c.turn-after.ensures.stands c.args.link.dump.plan c.args.link.session.pass.list before.stands
           before.in_time;
-      in_time = in_time c.args.line.dump.plan c.args.line.session.pass.list before.stands before.in_time;
+      in_time = in_time c.args.link.dump.plan c.args.link.session.pass.list before.stands before.in_time;
       mtu = c.turn-after.ensures.mtu ∙ before.mtu;
       forwards = forwards-on _ _ _ _ _ _ _ _ _ _ _ _ before.forwards forwards;
-      whole = whole-more c.args.line.mtu _ _ _ _ _ _ _ _ _ c.args.wire _ _ before.whole sent c.counted-sent.ensures;
+      whole = whole-more c.args.link.mtu _ _ _ _ _ _ _ _ _ c.args.wire _ _ before.whole sent c.counted-sent.ensures;
     }
 
 pub returns-clause-served : goal.returns-clause-served
 returns-clause-served g c =
     let before = c.turns.invariant in
     let w = before.working in
-    let first = c.args.line.session in
+    let first = c.args.link.session in
     let end = rw c.in-Err.is at c.turn-after.ensures.end in
     let none = rw (c.in-Err.is, before.mtu) at c.turn-after.ensures.none_sent in
     let forwards = rw before.mtu at c.turn-after.ensures.forwards in
@@ -103,15 +103,15 @@ returns-clause-served g c =
     (end _ _ _ w.0 w.1 w.2) in
     let same : c.take.new.session.posted ≡ c.turn-after.new.self.session.posted =
     ap (λ s. s.posted) c.take.ensures.session.rest in
-    served-so _ _ _ _ _ first c.take.new.session c.args.line.pump c.turn-after.new.self.pump c.in-Err.end
+    served-so _ _ _ _ _ first c.take.new.session c.args.link.pump c.turn-after.new.self.pump c.in-Err.end
     c.close.result.1.end _ c.turn-after.new.self.device.failed
     c.close.result.1.seat c.close.result.1.mine _ _ c.args.wire c.turn-after.result.0 c.close.result.0 c.requires.fresh
     stopped c.close.ensures.left c.close.ensures.end
     (ap (λ p. p.given) c.close.ensures.pump) (ap (λ p. p.ended) c.close.ensures.pump)
     (forwards-as _ _ _ _ _ _ _ _ _ _ _ _ _ refl refl refl (sym same)
     (forwards-on _ _ _ _ _ _ _ _ _ _ _ _ before.forwards forwards)) c.close.ensures.flushed
-    (whole-posted c.args.line.mtu _ _ _ c.take.new.session.posted c.turn-after.new.self.session.posted _ _ _ (sym same)
-    (whole-closed c.args.line.mtu _ _ _ _ _ _ _ _ _ c.args.wire _ _ _ before.whole none c.close.ensures.flushed
+    (whole-posted c.args.link.mtu _ _ _ c.take.new.session.posted c.turn-after.new.self.session.posted _ _ _ (sym same)
+    (whole-closed c.args.link.mtu _ _ _ _ _ _ _ _ _ c.args.wire _ _ _ before.whole none c.close.ensures.flushed
     c.close.ensures.sent))
 
 pub close-requires-clause-gathered : goal.close-requires-clause-gathered
@@ -153,8 +153,8 @@ returns-clause-credits g c =
 pub returns-clause-dump : goal.returns-clause-dump
 returns-clause-dump g c =
     let before = c.turns.invariant in
-    let first = c.args.line.session.pass.list in
-    let asked = c.args.line.dump.plan in
+    let first = c.args.link.session.pass.list in
+    let asked = c.args.link.dump.plan in
     subst (λ t. DumpCame g.N.BookName.sizes.shards asked t first c.close.result.1.mine) (sym c.close.ensures.dump)
     (subst (λ l. DumpCame g.N.BookName.sizes.shards asked c.take.new.self.taken first l) (sym c.close.ensures.left.list)
     (c.take.ensures.came asked first (c.turn-after.ensures.stands asked first before.stands before.in_time)))

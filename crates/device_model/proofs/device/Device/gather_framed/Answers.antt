@@ -33,3 +33,17 @@ pub returns-in-Closed-clause-forwards : goal.returns-in-Closed-clause-forwards
 returns-in-Closed-clause-forwards g c =
     forwards-none (Some c.args.mtu) _ _ _ _ _ _ _ _ (ap (λ m. m.completed) c.in-Closed.ensures.closed.view)
     c.flush_unless_failed-wire-in-Closed.ensures
+
+pub returns-then-failed-clause-frames : goal.returns-then-failed-clause-frames
+returns-then-failed-clause-frames g c = record {
+  reply = c.frame.result.now;
+  completed_is = search rules;
+  frames = c.send_framed-wire.ensures.frames;
+}
+
+pub returns-else-failed-clause-frames : goal.returns-else-failed-clause-frames
+returns-else-failed-clause-frames g c = record {
+  reply = c.frame.result.now;
+  completed_is = search rules;
+  frames = c.send_framed-wire.ensures.frames;
+}

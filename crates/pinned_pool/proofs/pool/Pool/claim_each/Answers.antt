@@ -33,12 +33,12 @@ loop-class-preserved g c =
     omega (arith, c.push_reserved.ensures.len, i.more) in
     record {
       claims = subst (λ m. ClaimsMore z class m c.args.holds.now.items c.push_reserved.new.self.items c.args.seat.now
-          c.claim.new.seat) more
+          c.claim_from.new.seat) more
           (more_won z class n c.args.holds.now.items c.loop-class.holds.items c.push_reserved.new.self.items
-          c.in_ok-hold.hold c.args.seat.now c.loop-class.seat c.claim.new.seat i.claims items
-          c.in_ok-hold.ensures.won);
-      sought = subst (λ m. Sought z (just class m) 0 c.args.seat.now c.claim.new.seat) more
-          (sought_more z class n 0 c.args.seat.now c.loop-class.seat c.claim.new.seat i.sought
+          c.in_ok-hold.hold c.args.seat.now c.loop-class.seat c.claim_from.new.seat i.claims items
+          c.in_ok-hold.ensures.claims);
+      sought = subst (λ m. Sought z (just class m) 0 c.args.seat.now c.claim_from.new.seat) more
+          (sought_more z class n 0 c.args.seat.now c.loop-class.seat c.claim_from.new.seat i.sought
           c.in_ok-hold.ensures.sought);
       more = omega (arith, c.push_reserved.ensures.len, i.more);
       most = omega (arith, c.push_reserved.ensures.len, i.most);
@@ -48,10 +48,9 @@ loop-class-preserved g c =
 pub returns-in_err-hold-clause-claims : goal.returns-in_err-hold-clause-claims
 returns-in_err-hold-clause-claims g c =
     let i = c.loop-class.invariant in
-    let none = c.in_err-hold.ensures.none in
-    more_passed g.N.PoolName.sizes c.args.class (vec_len c.loop-class.holds - vec_len c.args.holds.now) c.args.count _
-    c.in_err-hold.field-0.0.looked c.args.holds.now.items c.loop-class.holds.items c.args.seat.now c.loop-class.seat
-    c.claim.new.seat i.claims (omega (arith, i.most, c.len.ensures)) none.2
+    more_passed g.N.PoolName.sizes c.args.class (vec_len c.loop-class.holds - vec_len c.args.holds.now) c.args.count
+    c.args.holds.now.items c.loop-class.holds.items c.args.seat.now c.loop-class.seat c.claim_from.new.seat i.claims
+    (omega (arith, i.most, c.len.ensures)) c.in_err-hold.ensures.none.claims
 
 pub returns-in_err-hold-clause-none : goal.returns-in_err-hold-clause-none
 returns-in_err-hold-clause-none g c =
@@ -59,11 +58,10 @@ returns-in_err-hold-clause-none g c =
     let i = c.loop-class.invariant in
     let none = c.in_err-hold.ensures.none in
     rw (p.1, p.2) (
-      none.0,
+      none.of_class,
       omega (arith, c.loop-class-test.true, c.len.ensures, c.len-in-loop-class.ensures),
-      none_free
-          g.N.PoolName.sizes c.args.class _ c.in_err-hold.field-0.0 c.args.seat.now c.loop-class.seat c.claim.new.seat
-          i.claims.claims none.0 none.1 none.2,
+      none_free g.N.PoolName.sizes _ c.in_err-hold.field-0.0 c.args.seat.now c.loop-class.seat c.claim_from.new.seat
+          i.claims.claims none.free,
     )
 
 pub returns-in_err-hold-clause-sought : goal.returns-in_err-hold-clause-sought
@@ -73,7 +71,7 @@ returns-in_err-hold-clause-sought g c =
     let z = g.N.PoolName.sizes in
     let n = vec_len c.loop-class.holds - vec_len c.args.holds.now in
     rw p.1
-    (sought_fewer z c.args.class (n + 1) c.args.count 1 c.args.seat.now c.claim.new.seat
+    (sought_fewer z c.args.class (n + 1) c.args.count 1 c.args.seat.now c.claim_from.new.seat
     (omega (arith, c.loop-class-test.true, c.len.ensures, c.len-in-loop-class.ensures, i.more))
-    (sought_more z c.args.class n 1 c.args.seat.now c.loop-class.seat c.claim.new.seat i.sought
+    (sought_more z c.args.class n 1 c.args.seat.now c.loop-class.seat c.claim_from.new.seat i.sought
     c.in_err-hold.ensures.sought))

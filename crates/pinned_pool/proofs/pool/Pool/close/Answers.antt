@@ -1,6 +1,7 @@
 use Rattle.std.proofs.Common.{sym, ◌∙◌, ap, subst}
 use Rattle.atomic_table.specs.declared.shared.Seat.{Seat}
 use Rattle.pin_core.specs.declared.sizes.Sizes.{Sizes}
+use Rattle.pinned_pool.specs.Named.{ClaimsAreNearby}
 use Rattle.pinned_pool.specs.Views.{IsLoose}
 use Rattle.pinned_pool.specs.Ends.{LooksClaimed, AllEnded}
 use Rattle.pinned_pool.specs.declared.view.View.{View}
@@ -37,3 +38,6 @@ returns-clause-lasts g c = let named = c.args.self.named in
     (ap (λ (v : View). v.credits) c.seat.view_is ∙ c.requires ∙ ap (λ (z : Sizes). z.credits) (sym named.sizes_are))
     c.close_with-closed.ensures.values.2 in
     subst AllEnded c.seat.view_is t.lasts
+
+pub returns-clause-claimed : goal.returns-clause-claimed
+returns-clause-claimed g c = subst (ClaimsAreNearby g.N.PoolName.sizes) c.seat.view_is c.seat.invariant.kept.claimed

@@ -6,7 +6,7 @@ use Rattle.session_serve.proofs.Seeing.{ends-seen, breaks-seen, goes-on-seen, mo
 use Rattle.session_serve.proofs.Seeing.{none-more-seen, one-more-seen}
 use Rattle.session_serve.proofs.Serving.{forwards-nothing}
 use Rattle.session_serve.proofs.Whole.{none-more, more-as}
-use Rattle.session_serve.proofs.line.Line.turn.Goals as goal
+use Rattle.session_serve.proofs.link.Link.turn.Goals as goal
 
 pub call-requires-clause-few : goal.call-requires-clause-few
 call-requires-clause-few g c κs within =

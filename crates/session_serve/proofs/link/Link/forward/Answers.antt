@@ -4,7 +4,7 @@ use Rattle.tx_ring.specs.Shown.{completed}
 use Rattle.session_serve.proofs.Gathering.{found-all}
 use Rattle.session_serve.proofs.Serving.{forwards-as}
 use Rattle.session_serve.proofs.Whole.{gathered-more, more-as}
-use Rattle.session_serve.proofs.line.Line.forward.Goals as goal
+use Rattle.session_serve.proofs.link.Link.forward.Goals as goal
 
 pub returns-clause-sent : goal.returns-clause-sent
 returns-clause-sent g c =

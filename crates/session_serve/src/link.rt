@@ -11,7 +11,7 @@ use tx_descriptor::Framed;
 
 /// A session, where its commands come from, and who gathers its replies.
 #[derive(Drop)]
-pub struct Line<N: BookName, P: PoolName + Send, S: Source>
+pub struct Link<N: BookName, P: PoolName + Send, S: Source>
 where
     Parcel<P>: Framed,
 {
@@ -25,7 +25,7 @@ where
 
 /// What a served session leaves.
 #[derive(Drop)]
-pub struct Account<N: BookName, P: PoolName, S: Source> {
+pub struct ServedAccount<N: BookName, P: PoolName, S: Source> {
     pub end: SessionEnd,
     pub seat: PoolSeat<P>,
     pub mine: SessionSeat<N>,

@@ -1,7 +1,7 @@
 use Rattle.std.proofs.Common.{◌≡◌, sym, ◌∙◌}
 use Rattle.tx_ring.specs.Shown.{completed}
 use Rattle.session_serve.proofs.Gathering.{found-none}
-use Rattle.session_serve.proofs.line.Line.close.Goals as goal
+use Rattle.session_serve.proofs.link.Link.close.Goals as goal
 
 pub returns-clause-flushed : goal.returns-clause-flushed
 returns-clause-flushed g c =
