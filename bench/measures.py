@@ -1,6 +1,7 @@
 """What the scripts beside it share: the program that is measured, its requests, and what a run costs."""
 
 import collections
+import itertools
 import os
 import re
 import statistics
@@ -10,10 +11,15 @@ import threading
 import time
 
 TOP = os.path.dirname(os.path.dirname(os.path.realpath(__file__)))
+sys.path.insert(0, os.path.join(TOP, "tools"))
+
+from plain.store import shard_of
+
 BUILT = os.path.join(TOP, "crates", "flake_program", "out", "flake_program")
 
 # Of requests, and of bytes of values, that a session asks for, where a script doesn't say another number.
 REQUESTS, BYTES = 100_000, 40_000_000
+SHARDS = 8  # as many as `serve` has, where it isn't told another number
 
 # Seconds of processor time, user and system, and of the clock; and the most memory at once, in KiB.
 Cost = collections.namedtuple("Cost", "processor clock memory")
@@ -45,12 +51,14 @@ def write(folder, name, requests):
 
 class Load:
     """Requests of one command for values of one length, in a file for each session. A session has keys of its own and
-    first sets all of them, to values that fit together into a pool of the usual size; then it asks for each in turn."""
+    first sets all of them, to values that fit together into a pool of the usual size; then it asks for each in turn.
+    Where sessions are `apart`, no two have keys in the same of the eight shards."""
 
     KEYS = 10
 
-    def __init__(self, folder, command, length, sessions=1, requests=None):
+    def __init__(self, folder, command, length, sessions=1, requests=None, apart=False):
         self.folder, self.command, self.length = folder, command, length
+        self.shards = SHARDS // sessions if apart else None
         self.turns = max(1, (requests or min(REQUESTS, BYTES // length)) // self.KEYS)
         self.files = [write(folder, f"in{session}.resp", self.requests(session)) for session in range(sessions)]
         self.count = sessions * self.KEYS * (1 + self.turns)
@@ -61,7 +69,10 @@ class Load:
 
     def of(self, session):
         """The requests that set a session's keys, and those of one turn."""
-        keys = [b"s%dk%d" % (session, number) for number in range(self.KEYS)]
+        keys = (b"s%dk%d" % (session, number) for number in itertools.count())
+        if self.shards:
+            keys = (key for key in keys if shard_of(key, SHARDS) // self.shards == session)
+        keys = list(itertools.islice(keys, self.KEYS))
         first = b"".join(request(b"SET", key, self.length * b"v") for key in keys)
         return first, first if self.command == "SET" else b"".join(request(b"GET", key) for key in keys)
 

@@ -1,3 +1,4 @@
 pub mod Beginning
 pub mod Each
 pub mod Together
+pub mod Told

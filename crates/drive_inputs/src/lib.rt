@@ -3,11 +3,14 @@
 //! says together stands in one record.
 #![tactic(auto)]
 
+mod held;
+pub mod laws;
 mod pairing;
 mod results;
 mod run;
 mod space;
 mod whole;
 
+pub use held::{HELD_ROOM, held_line};
 pub use run::drive_inputs;
 pub use whole::DrivenRun;

@@ -8,8 +8,8 @@ use Rattle.pin_core.specs.declared.sizes.Sizes.{Sizes}
 use Rattle.pinned_pool.specs.Ends.{End}
 use Rattle.schedule_text.specs.declared.line.Line.{Line}
 use Rattle.transcript_model.specs.Transcript.{IsTranscript}
-use Rattle.drive_show.proofs.Told.{transcript_told}
-use Rattle.drive_show.specs.Drove.{DroveInputs}
+use Rattle.drive_inputs.proofs.Told.{transcript_told}
+use Rattle.drive_inputs.specs.Drove.{DroveInputs}
 use Rattle.drive_told.specs.Together.{driven_run}
 use Rattle.wire_told.specs.Sent.{AreTold}
 use Rattle.flake_run.specs.Driven.{IsDrivenRun}

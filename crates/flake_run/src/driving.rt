@@ -11,7 +11,7 @@ ghost use Rattle.flake_run.specs.Schedule.{IsUndriven};
 use crate::finding::Finding;
 use crate::schedule::schedule_in;
 use crate::source::{flush, put};
-use drive_show::{DrivenRun, drive_inputs};
+use drive_inputs::{DrivenRun, drive_inputs};
 use flake_base::{Host, Source, Wire};
 use run_resources::RunSizes;
 use schedule_text::Line;

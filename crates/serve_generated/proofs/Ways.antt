@@ -17,7 +17,7 @@ use Rattle.flake_model.proofs.OneParse.{one_parse}
 use Rattle.command_pump.specs.Pump.{EndFaults}
 use Rattle.request_gen.specs.Words.{all_words, requests_text}
 use Rattle.request_gen.proofs.Clean.{is_clean}
-use Rattle.request_demand.specs.Sessions.{generated_commands_of}
+use Rattle.serve_generated.specs.Sessions.{generated_commands_of}
 use Rattle.run_resources.specs.Ran.{AreReads}
 use Rattle.serve_generated.specs.Generated.{HadMemory, AreFronts}
 

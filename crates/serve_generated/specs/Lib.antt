@@ -1,2 +1,4 @@
 pub mod Input
 pub mod Generated
+pub mod Rows
+pub mod Sessions

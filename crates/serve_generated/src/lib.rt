@@ -1,10 +1,16 @@
 //! Generated requests, served as inputs are, from a pool that has as many buffers as their commands may claim.
 #![tactic(auto)]
 
+mod demand;
 mod input;
+mod rows;
 mod serve;
 mod sizes;
 mod sources;
+#[cfg(test)]
+mod tests;
 
+pub use demand::generated_demand;
 pub use input::InputSource;
+pub use rows::Demand;
 pub use serve::{GeneratedRefusal, serve_generated};

@@ -3,8 +3,8 @@ ghost use Rattle.gen_words.specs.Task.{IsAllowedGenerated};
 ghost use Rattle.run_resources.specs.Opened.{HasRunSizes};
 ghost use Rattle.serve_generated.specs.Generated.{IsTooMuch, generated_sizes};
 
+use crate::demand::generated_demand;
 use gen_words::GenTask;
-use request_demand::generated_demand;
 use serve_inputs::RunSizes;
 
 /// The most buffers of each class that a pool can have.

@@ -32,8 +32,8 @@ use Rattle.command_pump.specs.Pump.{PumpState}
 use Rattle.serve_model.specs.Seats.{HasAll, IsSpare}
 use Rattle.session_pass.specs.Views.{SessionView}
 use Rattle.session_serve.specs.declared.dump.DumpPlan.{DumpPlan}
-use Rattle.session_workers.specs.Jobs.{IsDumped, IsDumpedBy, IsGivenBack, HasDumped}
-use Rattle.session_workers.specs.declared.job.Dumped.{Dumped}
+use Rattle.serve_inputs.specs.Jobs.{IsDumped, IsDumpedBy, IsGivenBack, HasDumped}
+use Rattle.serve_inputs.specs.declared.job.Dumped.{Dumped}
 use Rattle.run_resources.specs.Opened.{credits_of_dump}
 use Rattle.serve_inputs.specs.Dumped.{DumpTold, no_dump}
 use Rattle.serve_inputs.specs.Orders.{DumpRequest, IsUnasked, IsFirstAsked, first_or_none}

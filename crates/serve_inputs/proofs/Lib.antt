@@ -4,3 +4,6 @@ pub mod Places
 pub mod Runs
 pub mod Told
 pub mod Whole
+mod Many
+mod Sending
+mod Dumps

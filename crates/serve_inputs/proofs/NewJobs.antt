@@ -11,7 +11,7 @@ use Rattle.device_model.specs.Devices.{CanFrame}
 use Rattle.session_pass.specs.Views.{SessionView}
 use Rattle.session_serve.specs.Dumps.{CanTake, CanKeepAll}
 use Rattle.session_serve.specs.declared.dump.DumpPlan.{DumpPlan}
-use Rattle.session_workers.specs.Jobs.{IsNewJob, HasDumpWire}
+use Rattle.serve_inputs.specs.Jobs.{IsNewJob, HasDumpWire}
 use Rattle.run_resources.specs.Opened.{IsSessionSlot}
 use Rattle.run_resources.proofs.SessionSlots.{fresh}
 

@@ -38,8 +38,8 @@ use Rattle.session_serve.specs.Forms.{all_as_sent}
 use Rattle.session_serve.specs.Whole.{SentWhole}
 use Rattle.session_serve.specs.Wires.{SendsOut}
 use Rattle.session_serve.specs.declared.dump.DumpPlan.{DumpPlan}
-use Rattle.session_workers.specs.Jobs.{IsDone}
-use Rattle.session_workers.specs.declared.job.Dumped.{Dumped}
+use Rattle.serve_inputs.specs.Jobs.{IsDone}
+use Rattle.serve_inputs.specs.declared.job.Dumped.{Dumped}
 use Rattle.run_resources.specs.Opened.{session_credits}
 use Rattle.run_resources.specs.Ran.{AreReads, AllSent, AllWhole}
 use Rattle.run_resources.proofs.SessionSlots.{number_of, HasCredits}

@@ -7,7 +7,7 @@ use Rattle.flake_model.specs.Command.{Command}
 use Rattle.order_book.specs.Pages.{SessionList}
 use Rattle.dump_model.specs.Dump.{dumped}
 use Rattle.dump_model.specs.Seen.{HasSeen, IsDumpOf}
-use Rattle.session_workers.specs.Jobs.{HasDumped}
+use Rattle.serve_inputs.specs.Jobs.{HasDumped}
 use Rattle.run_resources.specs.Ran.{AllSent}
 use Rattle.serve_inputs.specs.Dumped.{DumpTold, IsDumpTold, no_dump, dump_texts}
 

@@ -47,7 +47,7 @@ use Rattle.serve_model.specs.Replies.{all_replies}
 use Rattle.session_pass.specs.Views.{SessionView}
 use Rattle.session_serve.specs.Forms.{all_as_sent}
 use Rattle.session_serve.specs.declared.dump.DumpPlan.{DumpPlan}
-use Rattle.session_workers.specs.declared.job.Dumped.{Dumped}
+use Rattle.serve_inputs.specs.declared.job.Dumped.{Dumped}
 use Rattle.run_resources.specs.Opened.{session_credits}
 use Rattle.run_resources.specs.Ran.{AreReads, AllSent, AllWhole}
 use Rattle.run_resources.specs.Together.{AreRuns, HaveShown}

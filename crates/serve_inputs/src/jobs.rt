@@ -3,9 +3,11 @@ ghost use Rattle.std.specs.Prelude.{◌≡◌, ◌<◌, ◌≤◌, ◌++◌, [],
 ghost use Rattle.std.specs.List.{AllZip};
 ghost use Rattle.std.specs.Vec.Iter.{into_iter_items};
 ghost use Rattle.device_model.specs.Devices.{CanFrame};
-ghost use Rattle.session_workers.specs.Jobs.{IsNewJob, IsDone};
+ghost use Rattle.serve_inputs.specs.Jobs.{IsNewJob, IsDone};
 ghost use Rattle.run_resources.specs.Opened.{IsSessionSlot};
 
+use crate::job::{FinishedJob, ServeJob};
+use crate::workers::{serve_all, serve_job};
 use command_exec::Shop;
 use command_pump::Pump;
 use flake_base::Source;
@@ -14,7 +16,6 @@ use pinned_pool::PoolName;
 use run_resources::SessionSlot;
 use session_pass::Gate;
 use session_serve::{DumpTurn, Link};
-use session_workers::{FinishedJob, ServeJob, serve_all, serve_job};
 use std::alloc::Global;
 use std::sync::Wait;
 use std::thread::Threads;

@@ -6,17 +6,17 @@ ghost use Rattle.pinned_pool.specs.Moves.{joined_views};
 ghost use Rattle.serve_model.specs.Seats.{IsSpare};
 ghost use Rattle.run_resources.specs.Opened.{dump_credits, dump_wires};
 ghost use Rattle.session_serve.specs.Dumps.{CanKeepAll};
-ghost use Rattle.session_workers.specs.Jobs.{IsNewJob};
+ghost use Rattle.serve_inputs.specs.Jobs.{IsNewJob};
 ghost use Rattle.serve_inputs.specs.Dumped.{dump_told, no_dump};
 ghost use Rattle.serve_inputs.specs.Orders.{IsFirstAsked, first_or_none};
 
 use crate::dumped::DumpEnd;
+use crate::job::{Dumped, FinishedJob, ServeJob};
 use flake_base::Source;
 use order_book::BookName;
 use pinned_pool::{Pool, PoolName, PoolSeat};
 use run_resources::RunSizes;
 use session_serve::{DumpPlan, DumpTurn};
-use session_workers::{Dumped, FinishedJob, ServeJob};
 use std::alloc::Global;
 
 /// A dump that a session is to be asked for.

@@ -3,11 +3,11 @@ ghost use Rattle.std.specs.Prelude.{◌≡◌, ◌+◌, ◌≤◌, ◌++◌, [],
 ghost use Rattle.std.specs.Vec.Iter.{into_iter_items};
 ghost use Rattle.run_resources.specs.Joined.{HasJoined};
 
+use crate::job::FinishedJob;
 use flake_base::{Ends, Memory, Source};
 use order_book::{BookName, SessionSeats};
 use pinned_pool::{Pool, PoolName, PoolSeat};
 use session_serve::ServedAccount;
-use session_workers::FinishedJob;
 use std::alloc::Global;
 use std::vec::IntoIter;
 

@@ -10,6 +10,7 @@ ghost use Rattle.run_resources.specs.Ran.{AreReads};
 ghost use Rattle.serve_inputs.specs.Ran.{RanAll};
 
 use crate::dumped::DumpEnd;
+use crate::job::{FinishedJob, ServeJob};
 use crate::jobs::{line_up, serve_jobs};
 use crate::orders::{ask_first, first_dumped, put_back, split_order};
 use crate::results::{Results, bring_in};
@@ -20,7 +21,6 @@ use order_book::BookName;
 use pinned_pool::{PoolEnd, PoolName};
 use run_resources::{Closed, RunResources, RunSizes, close_all};
 use session_pass::Gate;
-use session_workers::{FinishedJob, ServeJob};
 use std::alloc::Global;
 use std::sync::Wait;
 use std::thread::Threads;

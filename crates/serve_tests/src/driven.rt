@@ -2,9 +2,8 @@
 ghost use Rattle.std.specs.Prelude.{◌≡◌, []};
 
 use super::common::{Watched, flush, put, source, tell, wires_of};
-use drive_inputs::drive_inputs;
+use drive_inputs::{drive_inputs, held_line};
 use drive_script::LineRoom;
-use drive_show::held_line;
 use flake_base::{Fails, Files, MemoryHost, MemorySource};
 use pinned_pool::Held;
 use run_resources::RunSizes;

@@ -10,9 +10,10 @@ use crate::run::run;
 use crate::session::Session;
 use command_exec::{ExecError, Shop};
 use command_parts::Command;
-use flake_base::Seg;
+use flake_base::{Entry, Seg};
 use order_book::BookName;
 use pinned_pool::PoolName;
+use reply_planner::Need;
 use std::sync::Wait;
 
 /// A call whose reply was posted.
@@ -48,8 +49,8 @@ impl<N: BookName, P: PoolName + Send> Session<N, P> {
         if self.stopped {
             return Err(CallError::Memory);
         }
-        let reaped = self.make_room(shop, command)?;
-        match self.post(rt, shop, command, sent, stored) {
+        let (reaped, need) = self.make_room(shop, command)?;
+        match self.post(rt, shop, command, need, sent, stored) {
             Ok(call) => Ok(Posted { call, reaped }),
             Err(ExecError::Memory) => Err(CallError::Memory),
         }
@@ -61,25 +62,32 @@ impl<N: BookName, P: PoolName + Send> Session<N, P> {
         rt: &R,
         shop: &Shop<'_, N, P>,
         command: &Command,
+        need: Need,
         sent: &mut Vec<Seg>,
         stored: &mut Vec<Seg>,
     ) -> Result<u32, ExecError>
         requires few { length self.old.posted < 2 ^ 32 - 1 }
+        requires need { need ≡ need_of command.now }
         requires fits { FitsBeside self.old.ring self.old.pass.stage (waiting self.old 0) (need_of command.now) }
         ensures posted { IfOk result (λ call. CallPosts P.sizes N.sizes.shards command.now self.old self.new call 0
             sent.new.items stored.new.items) }
         ensures refused { OnErr result (CallRefused P.sizes N.sizes.shards command.now self.old self.new) }
     {
         self.pass.is_pass();
-        let (number, call) = (self.number, self.calls);
+        let call = self.calls;
+        let at = Entry {
+            session: self.number,
+            call,
+            part: 0,
+        };
         match run(
             rt,
             shop,
             &mut self.pass,
             &mut self.ready,
-            number,
-            call,
+            at,
             command,
+            need,
             sent,
             stored,
         ) {

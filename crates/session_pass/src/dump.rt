@@ -27,6 +27,7 @@ impl<N: BookName, P: PoolName + Send> Session<N, P> {
         ensures taken { IfOk result (λ d.
             TookDump N.sizes.shards self.old.pass.list self.new.pass.list d.points d.text) }
         ensures kept { IfOk result (λ d. HasTakenHolds seat d.seat) }
+        ensures unspent { IfOk result (λ d. (d.seat.returns ≡ seat.returns) × (d.seat.lasts ≡ seat.lasts)) }
         ensures refused { IfErr result (λ e. IsSameSeat seat e.1) }
         ensures deeds { KeepsDeeds self.old.pass.list self.new.pass.list }
         ensures rest { self.new

@@ -53,14 +53,17 @@ impl Ready {
         requires left { self.old.left ≤ list.spare + length list.items }
         ensures stored { stored.new.items ≡ list.items }
     {
-        if stored.capacity() < list.len() {
+        let mut list = list;
+        if list.is_empty() {
+            stored.clear();
+        } else if stored.capacity() < list.len() {
             *stored = list.into_vec();
             return;
+        } else {
+            copy(&list, stored);
+            self.left = self.left.saturating_sub(list.len());
+            list.truncate(0);
         }
-        copy(&list, stored);
-        self.left = self.left.saturating_sub(list.len());
-        let mut list = list;
-        list.truncate(0);
         self.list = if MOST_FRAGS <= self.left {
             Some(list)
         } else {

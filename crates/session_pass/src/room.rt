@@ -1,6 +1,6 @@
 // Room for the next reply.
 ghost use Rattle.std.specs.Prelude.{◌≡◌, length, IfOk, IfErr};
-ghost use Rattle.reply_layout.specs.Need.{need};
+ghost use Rattle.reply_layout.specs.Need.{need, need_of};
 ghost use Rattle.session_pass.specs.Waiting.{waiting, room_left, free_of};
 ghost use Rattle.session_pass.specs.Refused.{MakesRoom, WhyCallRefused, full_error};
 
@@ -24,13 +24,14 @@ impl<N: BookName, P: PoolName + Send> Session<N, P> {
         }
     }
 
-    /// Gives the oldest replies back, as long as a command's need isn't there. The answer is how many.
+    /// Gives the oldest replies back, as long as a command's need isn't there. The answer is how many, and the need.
     pub(crate) fn make_room(
         &mut self,
         shop: &Shop<'_, N, P>,
         command: &Command,
-    ) -> Result<u32, CallError>
-        ensures room { IfOk result (λ freed. MakesRoom command.now freed self.old self.new) }
+    ) -> Result<(u32, Need), CallError>
+        ensures room { IfOk result (λ made. MakesRoom command.now made.0 self.old self.new) }
+        ensures need { IfOk result (λ made. made.1 ≡ need_of command.now) }
         ensures full { IfErr result (λ error.
             WhyCallRefused P.sizes N.sizes.shards command.now self.old self.new error) }
     {
@@ -40,7 +41,7 @@ impl<N: BookName, P: PoolName + Send> Session<N, P> {
             self.is_session();
             let left = self.left();
             if need.descriptors <= left.descriptors && need.stage <= left.stage {
-                return Ok(freed);
+                return Ok((freed, need));
             }
             let Some(_) = self.reap_one(shop) else {
                 return Err(full(need, left));

@@ -7,10 +7,10 @@ ghost use Rattle.session_pass.specs.Running.{RunsCommand};
 use crate::ready::Ready;
 use command_exec::{ExecError, Pass, Shop, execute};
 use command_parts::Command;
-use flake_base::Seg;
+use flake_base::{Entry, Seg};
 use order_book::BookName;
 use pinned_pool::PoolName;
-use reply_planner::Parcel;
+use reply_planner::{Need, Parcel};
 use std::sync::Wait;
 
 /// Runs a command's parts. Memory is taken only where the list of the reply's segments has too little room, or where no
@@ -20,28 +20,28 @@ pub(crate) fn run<R: Wait, N: BookName, P: PoolName>(
     shop: &Shop<'_, N, P>,
     pass: &mut Pass<N, P>,
     ready: &mut Ready,
-    session: u16,
-    call: u32,
+    at: Entry,
     command: &Command,
+    need: Need,
     sent: &mut Vec<Seg>,
     stored: &mut Vec<Seg>,
 ) -> Result<Parcel<P>, ExecError>
     requires stage { (need_of command.now).stage ≤ length pass.old.free }
     requires credits { (need_of command.now).descriptors + 5 ≤ pass.old.seat.credits }
-    requires session { session ≡ pass.old.list.number }
-    ensures reply { IfOk result (λ parcel. RunsCommand P.sizes N.sizes.shards command.now call pass.old pass.new parcel
-        sent.new.items stored.new.items) }
-    ensures memory { OnErr result (FallsShort P.sizes N.sizes.shards command.now call pass.old pass.new) }
+    requires session { at.session ≡ pass.old.list.number }
+    requires need { need ≡ need_of command.now }
+    ensures reply { IfOk result (λ parcel. RunsCommand P.sizes N.sizes.shards command.now at.call pass.old pass.new
+        parcel sent.new.items stored.new.items) }
+    ensures memory { OnErr result (FallsShort P.sizes N.sizes.shards command.now at.call pass.old pass.new) }
 {
     sent.clear();
-    let need = command.need();
     if sent.reserve(need.descriptors as usize).is_err() {
         return Err(ExecError::Memory);
     }
     let Ok(mut fragments) = ready.take() else {
         return Err(ExecError::Memory);
     };
-    let parcel = execute(rt, shop, pass, session, call, command, &mut fragments)?;
+    let parcel = execute(rt, shop, pass, at.session, at.call, command, &mut fragments)?;
     ready.hand_out(fragments, stored);
     tell(&parcel, sent);
     Ok(parcel)

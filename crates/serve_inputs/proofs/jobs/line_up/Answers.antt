@@ -1,7 +1,7 @@
 use Rattle.std.proofs.Common.{◌≡◌, [], ◌∷◌, ◌++◌, None, map, length, refl, ap, sym, ◌∙◌, append-nil, arith}
 use Rattle.std.proofs.lemmas.List.{nil_from_length}
 use Rattle.std.specs.Vec.Iter.{into_iter_items}
-use Rattle.session_workers.specs.Jobs.{IsNewJob}
+use Rattle.serve_inputs.specs.Jobs.{IsNewJob}
 use Rattle.run_resources.specs.Opened.{IsSessionSlot}
 use Rattle.run_resources.proofs.Lists.{all_of_none, all_as, all_more, all_first, all_rest, all_given, given_on}
 use Rattle.run_resources.proofs.Lists.{moves_on}

@@ -1,6 +1,6 @@
 use Rattle.std.proofs.Common.{◌≡◌, ◌+◌, ◌≤◌, ◌++◌, [], None, All, length, map, vec_len, vec_capacity}
 use Rattle.std.specs.Vec.Iter.{into_iter_items, into_iter_len}
-use Rattle.session_workers.specs.Jobs.{IsNewJob}
+use Rattle.serve_inputs.specs.Jobs.{IsNewJob}
 use Rattle.run_resources.specs.Opened.{IsSessionSlot}
 use Rattle.serve_inputs.proofs.jobs.line_up.Given as goal
 

@@ -1,5 +1,5 @@
 use Rattle.std.proofs.Common.{length, ap, arith}
-use Rattle.session_workers.specs.Jobs.{IsNewJob}
+use Rattle.serve_inputs.specs.Jobs.{IsNewJob}
 use Rattle.run_resources.proofs.Lists.{all_first, all_rest, all_as, all_given, given_on, zip_more, zip_as}
 use Rattle.serve_inputs.proofs.jobs.serve_here.Goals as goal
 

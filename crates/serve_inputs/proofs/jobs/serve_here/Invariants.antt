@@ -1,7 +1,7 @@
 use Rattle.std.proofs.Common.{◌++◌, ◌≡◌, ◌+◌, ◌≤◌, All, length, vec_len, vec_capacity}
 use Rattle.std.specs.List.{AllZip}
 use Rattle.std.specs.Vec.Iter.{into_iter_items, into_iter_len}
-use Rattle.session_workers.specs.Jobs.{IsNewJob, IsDone}
+use Rattle.serve_inputs.specs.Jobs.{IsNewJob, IsDone}
 use Rattle.serve_inputs.proofs.jobs.serve_here.Given as goal
 
 abbrev pub invariant-loop-job : goal.invariant-loop-job

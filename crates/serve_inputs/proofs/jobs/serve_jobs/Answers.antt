@@ -1,5 +1,5 @@
 use Rattle.std.proofs.Common.{ap}
-use Rattle.session_workers.specs.Jobs.{IsNewJob}
+use Rattle.serve_inputs.specs.Jobs.{IsNewJob}
 use Rattle.run_resources.proofs.Lists.{all_as}
 use Rattle.serve_inputs.proofs.jobs.serve_jobs.Goals as goal
 

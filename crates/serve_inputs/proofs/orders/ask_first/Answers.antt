@@ -1,6 +1,6 @@
 use Rattle.std.proofs.Common.{◌≡◌, Some, IfSome, subst}
 use Rattle.session_serve.specs.Dumps.{CanKeepAll}
-use Rattle.session_workers.specs.Jobs.{IsNewJob}
+use Rattle.serve_inputs.specs.Jobs.{IsNewJob}
 use Rattle.serve_inputs.proofs.NewJobs.{asked_job}
 use Rattle.serve_inputs.proofs.Places.{first_all, first_asked, none_asked}
 use Rattle.serve_inputs.proofs.orders.ask_first.Goals as goal

@@ -1,3 +1,0 @@
-pub mod Held
-pub mod Shown
-pub use Rattle.drive_inputs.specs.Drove

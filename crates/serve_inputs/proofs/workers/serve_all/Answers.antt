@@ -1,0 +1,33 @@
+use denote.Exit.{no}
+use denote.Param.{param}
+use denote.Param.Send.{sendable, param_send, arg_send}
+use Rattle.std.proofs.Common.{of_calls}
+use Rattle.serve_inputs.proofs.Many.{zip-weaker}
+use Rattle.serve_inputs.proofs.Sending.{job-sends}
+use Rattle.serve_inputs.proofs.workers.serve_all.Goals as goal
+
+pub jobs_in_workers-served-requires-send-T : goal.jobs_in_workers-served-requires-send-T
+jobs_in_workers-served-requires-send-T g c = λ κs within.
+    param_send 1 _ (arg_send _ no _ (job-sends (param 1 g.row.N) (param 2 g.row.P) g.N.BookName g.P.PoolName
+    (search sendable) (search sendable) (search sendable) (search sendable)
+    (param 3 g.row.S) g.S.Source (search sendable) (param 5 g.row.W) (search sendable)))
+
+pub jobs_in_workers-served-requires-clause-calls : goal.jobs_in_workers-served-requires-clause-calls
+jobs_in_workers-served-requires-clause-calls g c = λ κs within k d small. (
+  (c.requires.fresh k d small, c.requires.calls),
+  (
+    search sendable,
+    search sendable,
+    search sendable,
+    search sendable,
+    search,
+    search,
+    search,
+    search,
+    search,
+    search,
+  ),
+)
+
+pub returns-in-Ok-clause-served : goal.returns-in-Ok-clause-served
+returns-in-Ok-clause-served g c = zip-weaker _ _ _ _ (λ x y p. search of_calls) c.in-Ok.ensures.each
