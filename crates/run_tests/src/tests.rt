@@ -1,309 +1,239 @@
+//! Tests of whole runs, over memory.
+//!
+//! A case is a text: its lines have what is run, and what must come of it (`asked`, `told`). Functions test what no
+//! text says: runs at once, wires of their own, a run behind another, and what may come out in two ways.
+mod again;
+mod alone;
+mod asked;
 mod beside;
 mod checks;
 mod commands;
-mod dumped;
+mod driven_faults;
+mod dumps;
 mod faults;
+mod frames;
 mod generated;
-mod journals;
+mod joins;
 mod pins;
-mod pool;
+mod pools;
+mod refused;
+mod schedules;
 mod sessions;
+mod together;
+mod told;
+mod wires;
+mod written;
 
-use flake_base::{Bytes, Fails, Files, Journal, MemoryHost, MemoryWire, Wire};
+use asked::{contents_of, lines_of, numbers_of, said_of, sent_of, words_of};
+use flake_base::{Bytes, CountWire, Fails, Files, MemoryHost, MemoryWire, Wire};
 use flake_run::run::run;
-use flake_run::{Detail, Outcome};
-use journal_text::journal_text;
 use session_pass::{Gate, NoGate};
 use std::alloc::Global;
 use std::process::Abort;
 use std::sync::Wait;
 use std::test::Fail;
 use std::thread::Threads;
+use told::{sent_by, told_by};
+use written::{add, written_out};
 
-/// A SET and a GET of one key.
-const PAIR: &[u8] = b"*3\r\n$3\r\nSET\r\n$1\r\na\r\n$1\r\n1\r\n*2\r\n$3\r\nGET\r\n$1\r\na\r\n";
+/// The bytes that a wire has room for.
+const WIRE_ROOM: usize = 2_097_152;
 
-/// A run over memory, and what it must do.
-#[derive(Clone, Copy)]
-struct Row {
-    words: &'static [&'static str],
-    input: &'static [u8],
-    step: usize,
-    read_fails: Option<u64>,
-    put_fails: Option<u64>,
-    host_fails: Option<u64>,
-    status: u8,
-    detail: Detail,
-    said: &'static str,
-    /// What is said behind that of the buffers that values hold.
-    held: &'static str,
-    sent: &'static [u8],
-    /// The text of the journal; empty where nothing was served.
-    journal: &'static str,
-}
+/// The bytes that may be said.
+const SAY_ROOM: usize = 65_536;
 
-/// The file `in.resp` is served, and nothing fails.
-const SERVED: Row = Row {
-    words: &["serve", "in.resp"],
-    input: PAIR,
-    step: 4096,
-    read_fails: None,
-    put_fails: None,
-    host_fails: None,
-    status: 0,
-    detail: Detail::Nothing,
-    said: "session 0 clean taken 47 replies 2 wire whole\n",
-    held: "held 1 0\n",
-    sent: b"+OK\r\n$1\r\n1\r\n",
-    journal: "shards 8\n4 0 0 0\n4 0 1 0\n",
-};
-
-const BAD_WORDS: Row = Row {
-    status: 1,
-    said: "bad words\n",
-    held: "",
-    sent: b"",
-    journal: "",
-    ..SERVED
-};
-
-const CANNOT_OPEN: Row = Row {
-    status: 2,
-    detail: Detail::File(0),
-    said: "cannot open 0\n",
-    held: "",
-    sent: b"",
-    journal: "",
-    ..SERVED
-};
-
-/// What the tests compare of a run, as plain values, and its wires.
+/// What the tests compare of a run, as plain texts, and its wires, for a further run.
 #[derive(Drop)]
 struct Seen {
-    status: u8,
-    detail: Detail,
-    ends: usize,
-    sources: usize,
-    /// The text of the journal; empty where there are no histories.
-    journal: Bytes,
-    /// Whether a dump was taken, how long its text is, and whether its wire failed.
-    dump: (bool, u64, bool),
-    /// How many entries of each shard's history it stands behind.
-    points: Vec<u64>,
-    /// What each wire tells that it was sent; nothing of one that doesn't tell it.
-    sent: Vec<Bytes>,
-    /// All wires, for a further run.
+    told: String,
+    sent: Bytes,
     wires: Vec<Box<dyn Wire>>,
 }
 
-fn text_of(alloc: Global, journal: &Journal) -> Result<Bytes, Fail> {
-    if journal.is_empty() {
-        return Ok(Bytes::new(alloc));
-    }
-    Ok(journal_text(alloc, journal)?)
-}
-
-fn sent_by(alloc: Global, wires: &[Box<dyn Wire>]) -> Result<Vec<Bytes>, Fail> {
-    let mut sent = Vec::new(alloc);
-    for wire in wires {
-        if let Some(bytes) = wire.shown() {
-            sent.push(Bytes::from_slice(alloc, bytes)?)?;
-        }
-    }
-    Ok(sent)
-}
-
-fn make_seen<S: Drop>(alloc: Global, outcome: Outcome<S>) -> Result<Seen, Fail> {
+// The only call of `run`. It has no clauses, so that nothing else carries those of `run`.
+fn ran<R: Threads + Wait + Sync, G: Gate>(
+    rt: &R,
+    alloc: Global,
+    words: &[String],
+    host: &mut MemoryHost,
+    wires: Vec<Box<dyn Wire>>,
+    gate: &G,
+) -> Result<Seen, Fail> {
+    let outcome = run(rt, alloc, words, host, wires, gate);
+    let mut told = told_by(alloc, &outcome)?;
+    add(alloc, &mut told, "", host.opens())?;
+    told.push_str(" opens\n")?;
     Ok(Seen {
-        status: outcome.status,
-        detail: outcome.detail,
-        ends: outcome.ends.len(),
-        sources: outcome.sources.len(),
-        journal: text_of(alloc, &outcome.journal)?,
-        dump: (outcome.dump.taken, outcome.dump.bytes, outcome.dump.failed),
-        points: outcome.dump.points,
+        told,
         sent: sent_by(alloc, outcome.wires.as_slice())?,
         wires: outcome.wires,
     })
 }
 
-// The only call of `run`. It has no clauses, so that nothing else carries those of `run`.
-fn ran_behind<R: Threads + Wait + Sync, G: Gate>(
-    rt: &R,
-    alloc: Global,
-    words: &[&str],
-    host: &mut MemoryHost,
-    wires: Vec<Box<dyn Wire>>,
-    gate: &G,
-) -> Result<Seen, Fail> {
-    let words = typed(alloc, words)?;
-    make_seen(alloc, run(rt, alloc, words.as_slice(), host, wires, gate))
+fn memory_wire(alloc: Global, fails: Fails) -> Result<Box<dyn Wire>, Fail> {
+    let wire = MemoryWire::new(alloc, WIRE_ROOM, fails)?;
+    let wire: Box<dyn Wire> = Box::new(alloc, wire)?;
+    Ok(wire)
 }
 
-fn ran<R: Threads + Wait + Sync>(
-    rt: &R,
-    alloc: Global,
-    words: &[&str],
-    host: &mut MemoryHost,
-    wires: Vec<Box<dyn Wire>>,
-) -> Result<Seen, Fail> {
-    ran_behind(rt, alloc, words, host, wires, &NoGate)
-}
-
-fn fails(alloc: Global, number: Option<u64>) -> Result<Fails, Fail> {
-    let mut fails = Fails::with_room(alloc, 1)?;
-    if let Some(number) = number {
-        fails.push(number)?;
+fn fails_of(alloc: Global, numbers: &[u64]) -> Result<Fails, Fail> {
+    let mut fails = Fails::new(alloc);
+    for number in numbers {
+        fails.push(*number)?;
     }
     Ok(fails)
 }
 
-fn memory_host(alloc: Global, row: &Row, input: Bytes) -> Result<MemoryHost, Fail> {
-    let mut files = Files::with_room(alloc, 1)?;
-    files.push((String::from_str(alloc, "in.resp")?, input))?;
-    let mut host = MemoryHost::new(alloc, files, 4096, fails(alloc, row.host_fails)?)?;
-    host.set_reads(0, row.step.max(1), fails(alloc, row.read_fails)?);
+// The puts that fail on a wire, of what the lines of a case say.
+fn put_fails(alloc: Global, case: &str, wire: u64) -> Result<Fails, Fail> {
+    match numbers_of(alloc, case, "put fails ")?.as_slice() {
+        [number, fails @ ..] if *number == wire => fails_of(alloc, fails),
+        _ => Ok(Fails::new(alloc)),
+    }
+}
+
+// The wires of a case: those that keep what is put, and behind them those that only count.
+fn wires_of(alloc: Global, case: &str) -> Result<Vec<Box<dyn Wire>>, Fail> {
+    let mut wires = Vec::new(alloc);
+    for wire in 0..numbers_of(alloc, case, "wires ")?.pop().unwrap_or(3) {
+        wires.push(memory_wire(alloc, put_fails(alloc, case, wire)?)?)?;
+    }
+    for _ in 0..numbers_of(alloc, case, "counted ")?.pop().unwrap_or(0) {
+        wires.push(Box::new(alloc, CountWire::new())?)?;
+    }
+    Ok(wires)
+}
+
+// A file is taken out of those of a case.
+fn take_file(files: &mut Vec<(String, Bytes)>, place: usize) -> Option<(String, Bytes)> {
+    if place < files.len() {
+        Some(files.remove(place))
+    } else {
+        None
+    }
+}
+
+// A host that has this file before the others: its reads are so long at most, and these of them fail.
+fn reading_host(
+    alloc: Global,
+    first: (String, Bytes),
+    others: Vec<(String, Bytes)>,
+    step: u64,
+    reads: Fails,
+    fails: Fails,
+) -> Result<MemoryHost, Fail> {
+    let mut files = others;
+    files.insert(0, first)?;
+    let mut host = MemoryHost::new(alloc, Files::from_vec(files), SAY_ROOM, fails)?;
+    host.set_reads(0, (step as usize).max(1), reads);
     Ok(host)
 }
 
-fn typed(alloc: Global, texts: &[&str]) -> Result<Vec<String>, Fail> {
-    let mut words = Vec::new(alloc);
-    for text in texts {
-        words.push(String::from_str(alloc, text)?)?;
+// The host of a case. At most one file has reads of its own, which then stands first: files are opened by their names.
+fn host_of(alloc: Global, case: &str, reads: &[u64]) -> Result<MemoryHost, Fail> {
+    let fails = numbers_of(alloc, case, "host fails ")?;
+    let files = contents_of(alloc, case, "file ")?;
+    if let [place, step, failing @ ..] = reads {
+        let mut files = files.into_vec();
+        let first = take_file(&mut files, *place as usize).ok_or("no such file")?;
+        let failing = fails_of(alloc, failing)?;
+        return reading_host(alloc, first, files, *step, failing, fails);
     }
-    Ok(words)
+    Ok(MemoryHost::new(alloc, files, SAY_ROOM, fails)?)
 }
 
-fn one_wire(
-    alloc: Global,
-    room: usize,
-    put_fails: Option<u64>,
-) -> Result<Vec<Box<dyn Wire>>, Fail> {
-    let mut wires: Vec<Box<dyn Wire>> = Vec::with_capacity(alloc, 1)?;
-    let wire = MemoryWire::new(alloc, room, fails(alloc, put_fails)?)?;
-    wires.push(Box::new(alloc, wire)?)?;
-    Ok(wires)
-}
-
-// Each wire was sent this.
-fn expect_sent(rt: &impl Abort, seen: &Seen, sent: &[u8]) {
-    for bytes in seen.sent.as_slice() {
-        assert_eq!(rt; bytes.as_slice(), sent);
-    }
-}
-
-// This is said, and each wire was sent that.
-fn expect(rt: &impl Abort, host: &MemoryHost, seen: &Seen, status: u8, said: &[u8], sent: &[u8]) {
-    assert_eq!(rt; host.said(), said);
-    assert_eq!(rt; seen.status, status);
-    expect_sent(rt, seen, sent);
-}
-
-fn expect_row(rt: &impl Abort, host: &MemoryHost, seen: &Seen, row: &Row) {
-    let is_served = row.journal != "";
-    assert_eq!(rt; seen.detail, row.detail);
-    assert_eq!(rt; seen.ends, usize::from(is_served));
-    assert_eq!(rt; seen.sources, usize::from(is_served));
-    assert_eq!(rt; seen.journal.as_slice(), row.journal.as_bytes());
-    assert_eq!(rt; seen.sent.len(), 1);
-    assert_eq!(rt; (seen.dump, seen.points.len()), ((false, 0, false), 0));
-    assert_eq!(rt; host.opens(), u64::from(row.status != 1));
-}
-
-// Serves an input in place of the row's own.
-fn check_input<R: Abort + Threads + Wait + Sync>(
+// Runs what a case asks for over these wires, behind this gate, and checks what comes of it.
+fn check_over<R: Abort + Threads + Wait + Sync, G: Gate>(
     rt: &R,
     alloc: Global,
-    row: &Row,
-    input: Bytes,
+    case: &str,
+    last: Option<&str>,
+    reads: &[u64],
+    wires: Vec<Box<dyn Wire>>,
+    gate: &G,
+) -> Result<Seen, Fail> {
+    let mut host = host_of(alloc, case, reads)?;
+    let words = words_of(alloc, case, last)?;
+    let seen = ran(rt, alloc, words.as_slice(), &mut host, wires, gate)?;
+    check_seen(rt, alloc, case, &host, &seen)?;
+    Ok(seen)
+}
+
+fn check_seen(
+    rt: &impl Abort,
+    alloc: Global,
+    case: &str,
+    host: &MemoryHost,
+    seen: &Seen,
 ) -> Result<(), Fail> {
-    let mut host = memory_host(alloc, row, input)?;
-    let wires = one_wire(alloc, 65_536, row.put_fails)?;
-    let seen = ran(rt, alloc, row.words, &mut host, wires)?;
-    let mut said = Bytes::from_slice(alloc, row.said.as_bytes())?;
-    said.append(row.held.as_bytes())?;
-    expect(rt, &host, &seen, row.status, said.as_slice(), row.sent);
-    expect_row(rt, &host, &seen, row);
+    let name = lines_of(alloc, case, "case", "case")?;
+    assert_eq!(rt; seen.told, lines_of(alloc, case, "told", "both")?, "{name}");
+    assert_eq!(rt; host.said(), said_of(alloc, case)?.as_slice(), "{name}");
+    assert_eq!(rt;
+        seen.sent.as_slice(),
+        sent_of(alloc, case)?.as_slice(),
+        "{name}"
+    );
     Ok(())
 }
 
-fn check<R: Abort + Threads + Wait + Sync>(rt: &R, alloc: Global, row: &Row) -> Result<(), Fail> {
-    check_input(rt, alloc, row, Bytes::from_slice(alloc, row.input)?)
-}
-
-fn check_all<R: Abort + Threads + Wait + Sync>(
+// A run for each length of the first file's reads.
+fn check_steps<R: Abort + Threads + Wait + Sync>(
     rt: &R,
     alloc: Global,
-    rows: &[Row],
+    case: &str,
+    last: Option<&str>,
 ) -> Result<(), Fail> {
-    for row in rows {
-        check(rt, alloc, row)?;
+    let steps = numbers_of(alloc, case, "steps ")?;
+    if steps.is_empty() {
+        let reads = numbers_of(alloc, case, "reads ")?;
+        let wires = wires_of(alloc, case)?;
+        check_over(rt, alloc, case, last, reads.as_slice(), wires, &NoGate)?;
+    }
+    for step in steps.as_slice() {
+        let wires = wires_of(alloc, case)?;
+        check_over(rt, alloc, case, last, &[0, *step], wires, &NoGate)?;
     }
     Ok(())
 }
 
-// Each row, its input in pieces of at most so many bytes.
-fn check_in_steps<R: Abort + Threads + Wait + Sync>(
+// A run for each of the words that a case leaves a choice of.
+fn check_case<R: Abort + Threads + Wait + Sync>(
     rt: &R,
     alloc: Global,
-    rows: &[Row],
-    step: usize,
+    case: &str,
 ) -> Result<(), Fail> {
-    for row in rows {
-        check(rt, alloc, &Row { step, ..*row })?;
+    let words = lines_of(alloc, case, "either", "either")?;
+    if words.is_empty() {
+        return check_steps(rt, alloc, case, None);
+    }
+    for last in words.as_str().trim_end().split('\n') {
+        check_steps(rt, alloc, case, Some(last))?;
     }
     Ok(())
 }
 
-// Adds a word of so many bytes.
-fn add_word(input: &mut Bytes, head: &[u8], byte: u8, count: usize) -> Result<(), Fail> {
-    input.append(head)?;
-    for _ in 0..count {
-        input.push(byte)?;
+// Checks each case of a text, in which an empty line parts them. What stands before the first belongs to each.
+fn check<R: Abort + Threads + Wait + Sync>(rt: &R, alloc: Global, text: &str) -> Result<(), Fail> {
+    let (shared, cases) = match text.split_once("\n\n") {
+        Some((shared, cases)) if !shared.starts_with("case ") => (shared, cases),
+        _ => ("", text),
+    };
+    for case in cases.split("\n\n") {
+        let case = format!(in alloc; "{shared}\n{case}")?;
+        check_case(rt, alloc, written_out(alloc, case.as_str())?.as_str())?;
     }
-    input.append(b"\r\n")?;
     Ok(())
 }
 
-// A SET of a key of one letter.
-fn set_letter(input: &mut Bytes, key: u8, head: &[u8], byte: u8, count: usize) -> Result<(), Fail> {
-    input.append(b"*3\r\n$3\r\nSET\r\n$1\r\n")?;
-    input.push(key)?;
-    input.append(b"\r\n")?;
-    add_word(input, head, byte, count)
-}
-
-// A text so many times.
-fn repeated(alloc: Global, text: &[u8], count: usize) -> Result<Bytes, Fail> {
-    let mut texts = Bytes::new(alloc);
-    for _ in 0..count {
-        texts.append(text)?;
-    }
-    Ok(texts)
-}
-
-const PING: &[u8] = b"*1\r\n$4\r\nPING\r\n";
-
-/// The files that several sessions serve.
-static NAMES: [&str; 4] = ["in0.resp", "in1.resp", "in2.resp", "in3.resp"];
-
-// A host that holds these inputs under the names, in order.
-fn files_host(alloc: Global, inputs: &[&[u8]]) -> Result<MemoryHost, Fail> {
-    let mut files = Files::with_room(alloc, 4)?;
-    for (name, input) in NAMES.iter().zip(inputs) {
-        files.push((
-            String::from_str(alloc, name)?,
-            Bytes::from_slice(alloc, input)?,
-        ))?;
-    }
-    Ok(MemoryHost::new(alloc, files, 4096, Fails::new(alloc))?)
-}
-
-fn memory_wires(alloc: Global, count: usize) -> Result<Vec<Box<dyn Wire>>, Fail> {
-    let mut wires: Vec<Box<dyn Wire>> = Vec::new(alloc);
-    for _ in 0..count {
-        let wire = MemoryWire::new(alloc, 65_536, Fails::new(alloc))?;
-        wires.push(Box::new(alloc, wire)?)?;
-    }
-    Ok(wires)
+// A run of these words over this host and these wires.
+fn ran_alone<R: Threads + Wait + Sync>(
+    rt: &R,
+    alloc: Global,
+    words: &str,
+    host: &mut MemoryHost,
+    wires: Vec<Box<dyn Wire>>,
+) -> Result<Seen, Fail> {
+    let words = words_of(alloc, "", Some(words))?;
+    ran(rt, alloc, words.as_slice(), host, wires, &NoGate)
 }

@@ -1,6 +1,6 @@
 //! Sessions at once, and each beside its device: gates and wires that wait for one another.
-use super::pool::{SAID_WHILE_HELD, TWO_LARGE, held_by_a_reply, replies_while_held};
-use super::{expect, expect_sent, files_host, memory_host, ran_behind};
+use super::pools::WHILE_HELD;
+use super::{check_over, memory_wire, numbers_of, written_out};
 use flake_base::{Failed, Fails, MemoryWire, Wire};
 use session_pass::Gate;
 use std::alloc::Global;
@@ -83,7 +83,7 @@ fn waiting_wire(
 /// Holds call 0 of the session `first` until the other's wire got a put, and call 1 of the other one until that of
 /// `first` got one.
 #[derive(Drop)]
-pub(super) struct CrossedGate {
+struct CrossedGate {
     first: u16,
     firsts_puts: Shared,
     others_puts: Shared,
@@ -103,18 +103,15 @@ impl Gate for CrossedGate {
     }
 }
 
-/// What each of two sessions asks.
-const TWO_PINGS: &[u8] = b"*1\r\n$4\r\nPING\r\n*1\r\n$4\r\nPING\r\n";
-
 /// The puts on the wire of the session that is held first, those on the other one's, and the waits that found nothing.
 #[derive(Drop)]
-pub(super) struct Crossing {
+struct Crossing {
     firsts_puts: Shared,
     others_puts: Shared,
     limits: Shared,
 }
 
-pub(super) fn make_crossing(alloc: Global) -> Result<Crossing, Fail> {
+fn make_crossing(alloc: Global) -> Result<Crossing, Fail> {
     Ok(Crossing {
         firsts_puts: shared(alloc)?,
         others_puts: shared(alloc)?,
@@ -122,7 +119,7 @@ pub(super) fn make_crossing(alloc: Global) -> Result<Crossing, Fail> {
     })
 }
 
-pub(super) fn crossed_gate(crossing: &Crossing, first: u16) -> Result<CrossedGate, Fail> {
+fn crossed_gate(crossing: &Crossing, first: u16) -> Result<CrossedGate, Fail> {
     Ok(CrossedGate {
         first,
         firsts_puts: Arc::try_clone(&crossing.firsts_puts)?,
@@ -140,7 +137,7 @@ fn add_wire(
     Ok(())
 }
 
-pub(super) fn crossed_wires(
+fn crossed_wires(
     alloc: Global,
     crossing: &Crossing,
     first: u16,
@@ -159,7 +156,7 @@ pub(super) fn crossed_wires(
     Ok(wires)
 }
 
-pub(super) fn expect_crossed(rt: &impl Abort, crossing: &Crossing) {
+fn expect_crossed(rt: &impl Abort, crossing: &Crossing) {
     assert_eq!(rt;
         crossing.limits.load(Ordering::SeqCst),
         0,
@@ -167,29 +164,51 @@ pub(super) fn expect_crossed(rt: &impl Abort, crossing: &Crossing) {
     );
 }
 
-// Two sessions of two PINGs each, of which `first` is held at its first call.
-fn check_crossed<R: Abort + Threads + Wait + Sync>(
+/// A case of two sessions, of which `first` is held at its first call. Each further wire keeps what is put.
+pub(super) fn check_crossed<R: Abort + Threads + Wait + Sync>(
     rt: &R,
     alloc: Global,
+    case: &str,
     first: u16,
 ) -> Result<(), Fail> {
+    let case = written_out(alloc, case)?;
     let crossing = make_crossing(alloc)?;
     let gate = crossed_gate(&crossing, first)?;
-    let wires = crossed_wires(alloc, &crossing, first)?;
-    let mut host = files_host(alloc, &[TWO_PINGS, TWO_PINGS])?;
-    let words = ["serve", "in0.resp", "in1.resp", "--workers", "2"];
-    let seen = ran_behind(rt, alloc, &words, &mut host, wires, &gate)?;
-    assert_eq!(rt; seen.status, 0);
+    let mut wires = crossed_wires(alloc, &crossing, first)?;
+    for _ in 2..numbers_of(alloc, case.as_str(), "wires ")?
+        .pop()
+        .unwrap_or(2)
+    {
+        wires.push(memory_wire(alloc, Fails::new(alloc))?)?;
+    }
+    check_over(rt, alloc, case.as_str(), None, &[], wires, &gate)?;
     expect_crossed(rt, &crossing);
-    expect_sent(rt, &seen, b"+PONG\r\n+PONG\r\n");
     Ok(())
 }
+
+const TWO_PINGS: &str = "\
+case two sessions that wait for one another
+words serve in0.resp in1.resp --workers 2
+file in0.resp
+*2 ask PING
+file in1.resp
+*2 ask PING
+wire 0
+text +PONG~+PONG~
+wire 1
+text +PONG~+PONG~
+told status 0
+both session 0 clean taken 28 replies 2 wire whole
+both session 1 clean taken 28 replies 2 wire whole
+both held 0 0
+told shards 8
+told file 0, file 1, 2 wires, 2 opens";
 
 // Each of two sessions waits for a put of the other, so they run at once, and each puts a reply before its next call.
 #[test]
 fn sessions_that_wait_for_one_another(rt: HostRuntime) -> Result<(), Fail> {
     for first in [0, 1] {
-        check_crossed(&rt, rt.alloc(), first)?;
+        check_crossed(&rt, rt.alloc(), TWO_PINGS, first)?;
     }
     Ok(())
 }
@@ -267,10 +286,8 @@ fn a_session_goes_on_while_its_device_waits(rt: HostRuntime) -> Result<(), Fail>
     let counts = make_counts(alloc)?;
     let gate = counting_gate(&counts)?;
     let wires = counted_wires(alloc, &counts)?;
-    let mut host = memory_host(alloc, &TWO_LARGE, held_by_a_reply(alloc)?)?;
-    let seen = ran_behind(&rt, alloc, TWO_LARGE.words, &mut host, wires, &gate)?;
+    let case = written_out(alloc, WHILE_HELD)?;
+    check_over(&rt, alloc, case.as_str(), None, &[], wires, &gate)?;
     expect_counts(&rt, &counts);
-    let sent = replies_while_held(alloc)?;
-    expect(&rt, &host, &seen, 0, SAID_WHILE_HELD, sent.as_slice());
     Ok(())
 }

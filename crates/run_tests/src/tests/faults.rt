@@ -1,365 +1,380 @@
-//! Inputs that end badly, and reads, puts, flushes and opens that fail.
-use super::{
-    BAD_WORDS, CANNOT_OPEN, PAIR, Row, SERVED, add_word, check, check_all, check_in_steps, expect,
-    memory_host, one_wire, ran, set_letter,
-};
-use flake_base::{Bytes, Failed, Past, Wire};
+// Inputs that end badly, reads, puts, says and opens that fail, and words that are bad.
+use super::check;
 use std::alloc::Global;
-use std::process::Abort;
-use std::sync::Wait;
 use std::test::Fail;
-use std::thread::Threads;
 
-const BAD_INPUT: Row = Row {
-    status: 3,
-    held: "held 0 0\n",
-    journal: "shards 8\n",
-    ..SERVED
-};
+/// Inputs that are not whole requests: what came before is served.
+const BAD_INPUTS: &str = "\
+words serve in.resp
+wires 1
+steps 1 5 4096
+told status 3
+file in.resp
 
-const INLINE: Row = Row {
-    input: b"PING\r\n",
-    said: "session 0 protocol 4 at 0 taken 1 replies 1 wire whole\n",
-    sent: b"-ERR Protocol error: inline commands are not supported\r\n",
-    ..BAD_INPUT
-};
+case a request that is cut behind a whole one
+ask PING
+text *2~$3~GE
+sent 0 +PONG~
+both session 0 truncated at 14 taken 24 replies 1 wire whole
+both held 0 0
+told shards 8
+told file 0, 1 wires, 1 opens
 
-/// Inputs that aren't whole requests: what came before is served.
-static BAD_INPUTS: [Row; 6] = [
-    Row {
-        input: b"*1\r\n$4\r\nPING\r\n*2\r\n$3\r\nGE",
-        said: "session 0 truncated at 14 taken 24 replies 1 wire whole\n",
-        sent: b"+PONG\r\n",
-        ..BAD_INPUT
-    },
-    Row {
-        input: b"*1\r\n$01\r\n",
-        said: "session 0 protocol 3 at 6 taken 7 replies 1 wire whole\n",
-        sent: b"-ERR Protocol error: invalid bulk length\r\n",
-        ..BAD_INPUT
-    },
-    Row {
-        input: b"*1025\r\n",
-        said: "session 0 protocol 1 at 4 taken 5 replies 1 wire whole\n",
-        sent: b"-ERR Protocol error: invalid multibulk length\r\n",
-        ..BAD_INPUT
-    },
-    Row {
-        input: b"*1\r\n+OK\r\n",
-        said: "session 0 protocol 2 at 4 taken 5 replies 1 wire whole\n",
-        sent: b"-ERR Protocol error: expected '$'\r\n",
-        ..BAD_INPUT
-    },
-    INLINE,
-    Row {
-        input: b"*1\r\n$4\r\nPING\r\n*1\r\n$4\r\nPINGX",
-        said: "session 0 protocol 3 at 26 taken 27 replies 2 wire whole\n",
-        sent: b"+PONG\r\n-ERR Protocol error: invalid bulk length\r\n",
-        ..BAD_INPUT
-    },
-];
+case a length that begins with 0
+text *1~$01~
+sent 0 -ERR Protocol error: invalid bulk length~
+both session 0 protocol 3 at 6 taken 7 replies 1 wire whole
+both held 0 0
+told shards 8
+told file 0, 1 wires, 1 opens
+
+case a count that is too large
+text *1025~
+sent 0 -ERR Protocol error: invalid multibulk length~
+both session 0 protocol 1 at 4 taken 5 replies 1 wire whole
+both held 0 0
+told shards 8
+told file 0, 1 wires, 1 opens
+
+case a word without its mark
+text *1~+OK~
+sent 0 -ERR Protocol error: expected '$'~
+both session 0 protocol 2 at 4 taken 5 replies 1 wire whole
+both held 0 0
+told shards 8
+told file 0, 1 wires, 1 opens
+
+case an inline request
+text PING~
+sent 0 -ERR Protocol error: inline commands are not supported~
+both session 0 protocol 4 at 0 taken 1 replies 1 wire whole
+both held 0 0
+told shards 8
+told file 0, 1 wires, 1 opens
+
+case a word that is longer than its length, behind a whole request
+ask PING
+text *1~$4~PINGX
+sent 0 +PONG~-ERR Protocol error: invalid bulk length~
+both session 0 protocol 3 at 26 taken 27 replies 2 wire whole
+both held 0 0
+told shards 8
+told file 0, 1 wires, 1 opens";
 
 #[test]
 fn bad_inputs(rt: HostRuntime) -> Result<(), Fail> {
-    for step in [1, 5, 4096] {
-        check_in_steps(&rt, rt.alloc(), &BAD_INPUTS, step)?;
-    }
-    Ok(())
+    check(&rt, rt.alloc(), BAD_INPUTS)
 }
 
-/// Put 1 keeps the first half of its seven bytes. The open has number 0 and the say number 1. Of the statuses 3, 4
-/// and 5 the highest is answered. An error in what was read is answered before a later read is made.
-static FAULTS: [Row; 9] = [
-    Row {
-        put_fails: Some(1),
-        status: 5,
-        said: "session 0 clean taken 47 replies 2 wire failed\n",
-        sent: b"+OK\r\n$1\r",
-        ..SERVED
-    },
-    Row {
-        host_fails: Some(1),
-        status: 5,
-        said: "session 0 clean taken 47 re",
-        held: "",
-        ..SERVED
-    },
-    Row {
-        step: 27,
-        read_fails: Some(1),
-        status: 4,
-        said: "session 0 readfault taken 27 replies 1 wire whole\n",
-        sent: b"+OK\r\n",
-        journal: "shards 8\n4 0 0 0\n",
-        ..SERVED
-    },
-    Row {
-        read_fails: Some(0),
-        status: 4,
-        said: "session 0 readfault taken 0 replies 0 wire whole\n",
-        held: "held 0 0\n",
-        sent: b"",
-        journal: "shards 8\n",
-        ..SERVED
-    },
-    Row {
-        step: 27,
-        read_fails: Some(1),
-        put_fails: Some(0),
-        status: 5,
-        said: "session 0 readfault taken 27 replies 1 wire failed\n",
-        sent: b"+O",
-        journal: "shards 8\n4 0 0 0\n",
-        ..SERVED
-    },
-    Row {
-        read_fails: Some(1),
-        ..INLINE
-    },
-    Row {
-        input: b"*1\r\n$01\r\n",
-        step: 7,
-        read_fails: Some(1),
-        said: "session 0 protocol 3 at 6 taken 7 replies 1 wire whole\n",
-        sent: b"-ERR Protocol error: invalid bulk length\r\n",
-        ..BAD_INPUT
-    },
-    Row {
-        input: b"*1\r\n$01\r\n",
-        step: 6,
-        read_fails: Some(1),
-        status: 4,
-        said: "session 0 readfault taken 6 replies 0 wire whole\n",
-        sent: b"",
-        ..BAD_INPUT
-    },
-    Row {
-        input: b"PING\r\n",
-        put_fails: Some(0),
-        status: 5,
-        said: "session 0 protocol 4 at 0 taken 1 replies 1 wire failed\n",
-        held: "held 0 0\n",
-        sent: b"-ERR Protocol error: inline ",
-        journal: "shards 8\n",
-        ..SERVED
-    },
-];
+/// The open has number 0 and the say number 1. Of the statuses 3, 4 and 5 the highest is answered. An error in what was
+/// read is answered before a later read is made.
+const FAULTS: &str = "\
+words serve in.resp
+wires 1
+file in.resp
+
+case the second put fails, and keeps the first half of its seven bytes
+ask SET a 1
+ask GET a
+put fails 0 1
+wire 0
+text +OK~$1~1~
+front 8
+told status 5
+both session 0 clean taken 47 replies 2 wire failed
+both held 1 0
+told shards 8
+told 4 0 0 0
+told 4 0 1 0
+told file 0, 1 wires, 1 opens
+
+case the say fails: half of what is to be said is said
+ask SET a 1
+ask GET a
+host fails 1
+half
+sent 0 +OK~$1~1~
+told status 5
+both session 0 clean taken 47 replies 2 wire whole
+both held 1 0
+told shards 8
+told 4 0 0 0
+told 4 0 1 0
+told file 0, 1 wires, 1 opens
+
+case the second read fails: the first gives the SET
+ask SET a 1
+ask GET a
+reads 0 27 1
+sent 0 +OK~
+told status 4
+both session 0 readfault taken 27 replies 1 wire whole
+both held 1 0
+told shards 8
+told 4 0 0 0
+told file 0, 1 wires, 1 opens
+
+case the first read fails
+ask SET a 1
+ask GET a
+reads 0 4096 0
+told status 4
+both session 0 readfault taken 0 replies 0 wire whole
+both held 0 0
+told shards 8
+told file 0, 1 wires, 1 opens
+
+case a read and a put that fail
+ask SET a 1
+ask GET a
+reads 0 27 1
+put fails 0 0
+sent 0 +O
+told status 5
+both session 0 readfault taken 27 replies 1 wire failed
+both held 1 0
+told shards 8
+told 4 0 0 0
+told file 0, 1 wires, 1 opens
+
+case an inline request in the bytes at hand comes before a read that fails
+text PING~
+reads 0 4096 1
+sent 0 -ERR Protocol error: inline commands are not supported~
+told status 3
+both session 0 protocol 4 at 0 taken 1 replies 1 wire whole
+both held 0 0
+told shards 8
+told file 0, 1 wires, 1 opens
+
+case a wrong byte that is the last one at hand comes before a read that fails
+text *1~$01~
+reads 0 7 1
+sent 0 -ERR Protocol error: invalid bulk length~
+told status 3
+both session 0 protocol 3 at 6 taken 7 replies 1 wire whole
+both held 0 0
+told shards 8
+told file 0, 1 wires, 1 opens
+
+case a read that fails before the byte that is wrong
+text *1~$01~
+reads 0 6 1
+told status 4
+both session 0 readfault taken 6 replies 0 wire whole
+both held 0 0
+told shards 8
+told file 0, 1 wires, 1 opens
+
+case an inline request, and the put of its reply fails
+text PING~
+put fails 0 0
+wire 0
+text -ERR Protocol error: inline commands are not supported~
+front 28
+told status 5
+both session 0 protocol 4 at 0 taken 1 replies 1 wire failed
+both held 0 0
+told shards 8
+told file 0, 1 wires, 1 opens";
 
 #[test]
 fn faults(rt: HostRuntime) -> Result<(), Fail> {
-    check_all(&rt, rt.alloc(), &FAULTS)
+    check(&rt, rt.alloc(), FAULTS)
 }
 
 /// Files that do not open.
-static UNOPENED: [Row; 2] = [
-    Row {
-        words: &["serve", "missing"],
-        ..CANNOT_OPEN
-    },
-    Row {
-        host_fails: Some(0),
-        ..CANNOT_OPEN
-    },
-];
+const UNOPENED: &str = "\
+wires 1
+file in.resp
+ask SET a 1
+ask GET a
+said cannot open 0
+told status 2 file 0
+told held 0 0 no pool
+told 1 wires, 1 opens
+
+case no file of that name
+words serve missing
+
+case a file that does not open
+words serve in.resp
+host fails 0";
 
 #[test]
 fn files_that_do_not_open(rt: HostRuntime) -> Result<(), Fail> {
-    check_all(&rt, rt.alloc(), &UNOPENED)
+    check(&rt, rt.alloc(), UNOPENED)
 }
 
-/// Words that are no command, sizes that are too small, too large or no multiple of 8, too few or too many workers, and
-/// two files for one wire.
-static NO_COMMANDS: [&[&str]; 15] = [
-    &[],
-    &["serve"],
-    &["FLY"],
-    &["FLY", "in.resp"],
-    &["Serve", "in.resp"],
-    &["serve", "in.resp", "in.resp"],
-    &["serve", "--large", "0", "in.resp"],
-    &["serve", "--small", "127", "in.resp"],
-    &["serve", "--shards", "17", "in.resp"],
-    &["serve", "--ring", "513", "in.resp"],
-    &["serve", "--ring", "1164", "in.resp"],
-    &["serve", "--threshold", "in.resp"],
-    &["serve", "--fly", "1", "in.resp"],
-    &["serve", "--workers", "0", "in.resp"],
-    &["serve", "--workers", "17", "in.resp"],
-];
+/// Words that are refused before a file is opened.
+const BAD_WORDS: &str = "\
+wires 1
+file in.resp
+ask SET a 1
+ask GET a
+said bad words
+told status 1
+told held 0 0 no pool
+told 1 wires, 0 opens
 
-fn check_bad_words<R: Abort + Threads + Wait + Sync>(
-    rt: &R,
-    alloc: Global,
-    words: &'static [&'static str],
-) -> Result<(), Fail> {
-    check(rt, alloc, &Row { words, ..BAD_WORDS })
-}
+case no words
+
+case a command without a file
+words serve
+
+case words that are no command
+either FLY
+either FLY in.resp
+either Serve in.resp
+
+case two files for one wire
+words serve in.resp in.resp
+
+case sizes that are too small, too large or no multiple of 8
+either serve --large 0 in.resp
+either serve --small 127 in.resp
+either serve --shards 17 in.resp
+either serve --ring 513 in.resp
+either serve --ring 1164 in.resp
+
+case an option without its number, and one that there is none of
+either serve --threshold in.resp
+either serve --fly 1 in.resp
+
+case too few and too many workers
+either serve --workers 0 in.resp
+either serve --workers 17 in.resp";
 
 #[test]
 fn bad_words(rt: HostRuntime) -> Result<(), Fail> {
-    for words in NO_COMMANDS {
-        check_bad_words(&rt, rt.alloc(), words)?;
-    }
-    Ok(())
+    check(&rt, rt.alloc(), BAD_WORDS)
 }
+
+/// Words that are good where there is a wire.
+const NO_WIRE: &str = "\
+case a file, and no wire
+words serve in.resp
+wires 0
+file in.resp
+ask SET a 1
+ask GET a
+said bad words
+told status 1
+told held 0 0 no pool
+told 0 wires, 0 opens";
 
 #[test]
 fn no_wire(rt: HostRuntime) -> Result<(), Fail> {
-    let alloc = rt.alloc();
-    let mut host = memory_host(alloc, &SERVED, Bytes::from_slice(alloc, PAIR)?)?;
-    let seen = ran(&rt, alloc, SERVED.words, &mut host, Vec::new(alloc))?;
-    expect(&rt, &host, &seen, 1, b"bad words\n", b"");
-    Ok(())
+    check(&rt, rt.alloc(), NO_WIRE)
 }
 
-/// Keeps all back that is put, until it is flushed; its flushes fail if they are to.
-#[derive(Drop)]
-struct KeepingWire {
-    put: Past,
-    kept: u64,
-    faults: u64,
-    flush_fails: bool,
-}
+/// The six puts of the replies to a SET, a long GET and a PING, each of which fails in turn. Of the replies' 620 bytes
+/// what was put before stays, and half of its piece; all commands are run.
+const PUTS: &str = "\
+words serve in.resp
+wires 1
+file in.resp
+ask SET k [A*600]
+ask GET k
+ask PING
+told status 5
+both session 0 clean taken 662 replies 3 wire failed
+both held 0 1
+told shards 8
+told 2 0 0 0
+told 2 0 1 0
+told file 0, 1 wires, 1 opens
+wire 0
+text +OK~
+text $600~[A*600]~
+text +PONG~
 
-impl Wire for KeepingWire {
-    ghost wire_told = { λ w. record {
-      put = w.put.bytes;
-      kept = w.kept;
-      put_faults = 0;
-      flush_faults = w.faults;
-    } };
+case the reply to the SET
+put fails 0 0
+front 2
 
-    fn put(&mut self, piece: &[u8]) -> Result<(), Failed> {
-        self.put.add(piece);
-        self.kept = self.kept.saturating_add(piece.len() as u64);
-        Ok(())
-    }
+case the head of the reply to the GET
+put fails 0 1
+front 8
 
-    fn flush(&mut self) -> Result<(), Failed> {
-        if self.flush_fails {
-            self.faults = self.faults.saturating_add(1);
-            return Err(Failed);
-        }
-        self.kept = 0;
-        Ok(())
-    }
+case the first piece of the value, of 512 bytes
+put fails 0 2
+front 267
 
-    fn shown(&self) -> Option<&[u8]> {
-        None
-    }
-}
+case the second piece of the value
+put fails 0 3
+front 567
 
-// A run over one wire that keeps back what is put.
-fn check_flush<R: Abort + Threads + Wait + Sync>(
-    rt: &R,
-    alloc: Global,
-    flush_fails: bool,
-    status: u8,
-    said: &str,
-) -> Result<(), Fail> {
-    let mut host = memory_host(alloc, &SERVED, Bytes::from_slice(alloc, PAIR)?)?;
-    let mut wires: Vec<Box<dyn Wire>> = Vec::with_capacity(alloc, 1)?;
-    let wire = KeepingWire {
-        put: Past::new(),
-        kept: 0,
-        faults: 0,
-        flush_fails,
-    };
-    wires.push(Box::new(alloc, wire)?)?;
-    let seen = ran(rt, alloc, SERVED.words, &mut host, wires)?;
-    expect(rt, &host, &seen, status, said.as_bytes(), b"");
-    Ok(())
-}
+case the line end behind the value
+put fails 0 4
+front 612
 
-// A failed flush is a failed wire.
-#[test]
-fn a_wire_is_flushed_at_the_end(rt: HostRuntime) -> Result<(), Fail> {
-    let alloc = rt.alloc();
-    let whole = "session 0 clean taken 47 replies 2 wire whole\nheld 1 0\n";
-    check_flush(&rt, alloc, false, 0, whole)?;
-    let failed = "session 0 clean taken 47 replies 2 wire failed\nheld 1 0\n";
-    check_flush(&rt, alloc, true, 5, failed)
-}
-
-/// The reply to SET, the head, the 600 bytes in two pieces and the line end of that to GET, and the reply to PING: for
-/// each of the six puts that fails, how many bytes of the replies' 620 were sent, half of its piece among them.
-static SENT_BEFORE: [(u64, usize); 6] = [(0, 2), (1, 8), (2, 267), (3, 567), (4, 612), (5, 616)];
-
-// SET k, GET k and PING, of a value of 600 bytes.
-fn long_get(alloc: Global) -> Result<Bytes, Fail> {
-    let mut input = Bytes::new(alloc);
-    set_letter(&mut input, b'k', b"$600\r\n", b'A', 600)?;
-    input.append(b"*2\r\n$3\r\nGET\r\n$1\r\nk\r\n*1\r\n$4\r\nPING\r\n")?;
-    Ok(input)
-}
-
-fn replies_of_long_get(alloc: Global) -> Result<Bytes, Fail> {
-    let mut replies = Bytes::from_slice(alloc, b"+OK\r\n")?;
-    add_word(&mut replies, b"$600\r\n", b'A', 600)?;
-    replies.append(b"+PONG\r\n")?;
-    Ok(replies)
-}
-
-// A put of the replies to a long GET fails: what was put before stays, and half of its piece; all commands are run.
-fn check_put<R: Abort + Threads + Wait + Sync>(
-    rt: &R,
-    alloc: Global,
-    put: u64,
-    sent: usize,
-) -> Result<(), Fail> {
-    let mut host = memory_host(alloc, &SERVED, long_get(alloc)?)?;
-    let wires = one_wire(alloc, 4096, Some(put))?;
-    let seen = ran(rt, alloc, SERVED.words, &mut host, wires)?;
-    let mut replies = replies_of_long_get(alloc)?;
-    assert_eq!(rt; replies.len(), 620);
-    replies.truncate(sent);
-    let said = b"session 0 clean taken 662 replies 3 wire failed\nheld 0 1\n";
-    expect(rt, &host, &seen, 5, said, replies.as_slice());
-    Ok(())
-}
+case the reply to the PING
+put fails 0 5
+front 616";
 
 #[test]
 fn each_put_of_a_long_reply(rt: HostRuntime) -> Result<(), Fail> {
-    for (put, sent) in SENT_BEFORE {
-        check_put(&rt, rt.alloc(), put, sent)?;
-    }
-    Ok(())
+    check(&rt, rt.alloc(), PUTS)
 }
 
-// The status, the end, how many replies there are, how many buffers are held and what is sent.
-fn of_a_cut(taken: usize) -> (u8, &'static str, u64, u64, &'static [u8]) {
+/// A SET of 27 and a GET of 20 bytes.
+const PAIR: &str = "\
+words serve in.resp
+wires 1
+file in.resp
+ask SET a 1
+ask GET a";
+
+/// What comes of an input without a whole request.
+const OF_NONE: &str = "\
+both held 0 0
+told shards 8
+told file 0, 1 wires, 1 opens";
+
+/// What comes of the SET.
+const OF_ONE: &str = "\
+sent 0 +OK~
+both held 1 0
+told shards 8
+told 4 0 0 0
+told file 0, 1 wires, 1 opens";
+
+/// What comes of both requests.
+const OF_BOTH: &str = "\
+sent 0 +OK~$1~1~
+both held 1 0
+told shards 8
+told 4 0 0 0
+told 4 0 1 0
+told file 0, 1 wires, 1 opens";
+
+// The status of an input of so many bytes, its end, how many replies there are, and what else comes of it.
+fn of_a_cut(taken: u64) -> (u64, &'static str, u64, &'static str) {
     match taken {
-        0 => (0, "clean", 0, 0, b""),
-        1..=26 => (3, "truncated at 0", 0, 0, b""),
-        27 => (0, "clean", 1, 1, b"+OK\r\n"),
-        28..=46 => (3, "truncated at 27", 1, 1, b"+OK\r\n"),
-        _ => (0, "clean", 2, 1, b"+OK\r\n$1\r\n1\r\n"),
+        0 => (0, "clean", 0, OF_NONE),
+        1..=26 => (3, "truncated at 0", 0, OF_NONE),
+        27 => (0, "clean", 1, OF_ONE),
+        28..=46 => (3, "truncated at 27", 1, OF_ONE),
+        _ => (0, "clean", 2, OF_BOTH),
     }
 }
 
-// The first bytes of a SET of 27 and a GET of 20 bytes: a request that is cut isn't served.
-fn check_cut<R: Abort + Threads + Wait + Sync>(
-    rt: &R,
-    alloc: Global,
-    taken: usize,
-) -> Result<(), Fail> {
-    let mut input = Bytes::from_slice(alloc, PAIR)?;
-    input.truncate(taken);
-    let mut host = memory_host(alloc, &SERVED, input)?;
-    let wires = one_wire(alloc, 4096, None)?;
-    let seen = ran(rt, alloc, SERVED.words, &mut host, wires)?;
-    let (status, end, replies, held, sent) = of_a_cut(taken);
-    let said = format!(in alloc;
-        "session 0 {end} taken {taken} replies {replies} wire whole\nheld {held} 0\n"
+// The case of so many bytes of the input: a request that is cut isn't served.
+fn cut(alloc: Global, taken: u64) -> Result<String, Fail> {
+    let (status, end, replies, rest) = of_a_cut(taken);
+    let asked = format!(in alloc; "case {taken} bytes\n{PAIR}\nfront {taken}\n")?;
+    let told = format!(in alloc;
+        "told status {status}\nboth session 0 {end} taken {taken} replies {replies} wire whole\n"
     )?;
-    expect(rt, &host, &seen, status, said.as_bytes(), sent);
-    Ok(())
+    Ok(format!(in alloc; "{asked}{told}{rest}")?)
 }
 
 #[test]
 fn each_cut_of_an_input(rt: HostRuntime) -> Result<(), Fail> {
+    let alloc = rt.alloc();
     for taken in 0..48 {
-        check_cut(&rt, rt.alloc(), taken)?;
+        check(&rt, alloc, cut(alloc, taken)?.as_str())?;
     }
     Ok(())
 }

@@ -172,7 +172,7 @@ file f0
 ask PING
 file f1
 ask PING
-put fails 0
+put fails 0 0
 said call 0 0 send 1048576:7
 said call 1 0 send 1114112:7
 said gather 0 0 dropped 7

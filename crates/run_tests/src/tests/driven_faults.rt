@@ -181,7 +181,7 @@ file f0
 ask SET a 1
 ask GET a
 reads 1 27 1
-put fails 0
+put fails 0 0
 said call 0 0 send 1048576:5 store 1114112:1
 said call 0 end
 said call 0 end
@@ -201,7 +201,7 @@ file s
 *2 line call 0
 file f0
 text *1~$4~PING~*2~$3~GE
-put fails 0
+put fails 0 0
 said call 0 0 send 1048576:7
 said call 0 end
 said held 0 0
@@ -239,7 +239,7 @@ file f0
 ask SET a 1
 ask GET a
 reads 1 27 1
-put fails 0
+put fails 0 0
 host fails 6
 whole 4
 said call 0 0 send 1048576:5 store 1114112:1
@@ -294,7 +294,7 @@ told file 0, file 1, 3 wires, 2 opens";
 /// Each put of these fails in turn. What was put before stays, and half of its piece.
 const PUTS: &str = "\
 case put 0
-put fails 0
+put fails 0 0
 words drive s f0
 file s
 *3 line call 0
@@ -321,7 +321,7 @@ told shards 8
 told file 0, file 1, 3 wires, 2 opens
 
 case put 1
-put fails 1
+put fails 0 1
 words drive s f0
 file s
 *3 line call 0
@@ -348,7 +348,7 @@ told shards 8
 told file 0, file 1, 3 wires, 2 opens
 
 case put 2
-put fails 2
+put fails 0 2
 words drive s f0
 file s
 *3 line call 0
@@ -375,7 +375,7 @@ told shards 8
 told file 0, file 1, 3 wires, 2 opens
 
 case put 3
-put fails 3
+put fails 0 3
 words drive s f0
 file s
 *3 line call 0
@@ -402,7 +402,7 @@ told shards 8
 told file 0, file 1, 3 wires, 2 opens
 
 case put 4
-put fails 4
+put fails 0 4
 words drive s f0
 file s
 *3 line call 0
@@ -429,7 +429,7 @@ told shards 8
 told file 0, file 1, 3 wires, 2 opens
 
 case put 5
-put fails 5
+put fails 0 5
 words drive s f0
 file s
 *3 line call 0

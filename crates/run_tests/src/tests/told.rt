@@ -3,6 +3,7 @@ use super::written::add;
 use flake_base::{Bytes, End, Journal, SessionEnd, Wire};
 use flake_run::{Detail, Outcome};
 use journal_text::journal_text;
+use serve_inputs::DumpEnd;
 use std::alloc::Global;
 use std::test::Fail;
 
@@ -22,19 +23,32 @@ fn tell_end(alloc: Global, told: &mut String, end: End) -> Result<(), Fail> {
     Ok(())
 }
 
+fn tell_wire(told: &mut String, failed: bool) -> Result<(), Fail> {
+    told.push_str(if failed {
+        " wire failed\n"
+    } else {
+        " wire whole\n"
+    })?;
+    Ok(())
+}
+
 fn tell_ends(alloc: Global, told: &mut String, ends: &[SessionEnd]) -> Result<(), Fail> {
     for (session, ended) in ends.iter().enumerate() {
         add(alloc, told, "session ", session as u64)?;
         tell_end(alloc, told, ended.end)?;
         add(alloc, told, " taken ", ended.taken)?;
         add(alloc, told, " replies ", u64::from(ended.replies))?;
-        told.push_str(if ended.failed {
-            " wire failed\n"
-        } else {
-            " wire whole\n"
-        })?;
+        tell_wire(told, ended.failed)?;
     }
     Ok(())
+}
+
+fn tell_byte(alloc: Global, told: &mut String, word: &str, byte: Option<u8>) -> Result<(), Fail> {
+    told.push_str(word)?;
+    match byte {
+        Some(byte) => add(alloc, told, " ", u64::from(byte)),
+        None => Ok(told.push_str(" end")?),
+    }
 }
 
 fn tell_detail(alloc: Global, told: &mut String, detail: Detail) -> Result<(), Fail> {
@@ -42,7 +56,26 @@ fn tell_detail(alloc: Global, told: &mut String, detail: Detail) -> Result<(), F
         Detail::Nothing => Ok(()),
         Detail::File(number) => add(alloc, told, " file ", u64::from(number)),
         Detail::Line(number) => add(alloc, told, " line ", number),
-        _ => Ok(told.push_str(" of a check")?),
+        Detail::Frame(number) => add(alloc, told, " frame ", number),
+        Detail::Journal { shard, place } => {
+            add(alloc, told, " shard ", u64::from(shard))?;
+            add(alloc, told, " place ", place)
+        }
+        Detail::Missing { call, frame } => {
+            add(alloc, told, " call ", u64::from(call))?;
+            add(alloc, told, " frame ", u64::from(frame))
+        }
+        Detail::Differs {
+            session,
+            place,
+            expected,
+            found,
+        } => {
+            add(alloc, told, " session ", u64::from(session))?;
+            add(alloc, told, " place ", place)?;
+            tell_byte(alloc, told, " expected", expected)?;
+            tell_byte(alloc, told, " found", found)
+        }
     }
 }
 
@@ -64,13 +97,27 @@ fn tell_files<S: Drop>(alloc: Global, told: &mut String, outcome: &Outcome<S>) -
     Ok(())
 }
 
-/// The status, each session's end, what is held, the journal, and which files and how many wires there are.
+// The dump's points, and how its text was put; nothing where there is none.
+fn tell_dump(alloc: Global, told: &mut String, dump: &DumpEnd) -> Result<(), Fail> {
+    if !dump.taken && !dump.failed && dump.bytes == 0 && dump.points.is_empty() {
+        return Ok(());
+    }
+    told.push_str(if dump.taken { "points" } else { "not taken" })?;
+    for point in dump.points.as_slice() {
+        add(alloc, told, " ", *point)?;
+    }
+    add(alloc, told, "\ndump bytes ", dump.bytes)?;
+    tell_wire(told, dump.failed)
+}
+
+/// The status, each session's end, the dump, what is held, the journal, and which files and how many wires there are.
 pub(super) fn told_by<S: Drop>(alloc: Global, outcome: &Outcome<S>) -> Result<String, Fail> {
     let mut told = String::new(alloc);
     add(alloc, &mut told, "status ", u64::from(outcome.status))?;
     tell_detail(alloc, &mut told, outcome.detail)?;
     told.push_str("\n")?;
     tell_ends(alloc, &mut told, outcome.ends.as_slice())?;
+    tell_dump(alloc, &mut told, &outcome.dump)?;
     add(alloc, &mut told, "held ", u64::from(outcome.held.small))?;
     add(alloc, &mut told, " ", u64::from(outcome.held.large))?;
     told.push_str(if outcome.pool.is_some() {
