@@ -96,5 +96,5 @@ def wires_looked_into():
     contracts know the bytes, and another on a real file, of which they know the numbers alone."""
     for path in paths("crates/*/src/**/*.rt"):
         code = re.sub(r"//.*", "", read(path))
-        if not path.split("/")[1].endswith("_tests") and re.search(r"(?:\.|::)\s*shown\s*\(", code):
+        if not path.split("/")[1].startswith("test_") and re.search(r"(?:\.|::)\s*shown\s*\(", code):
             yield f"{path} asks a wire to show its bytes"

@@ -9,7 +9,7 @@ ghost use Rattle.device_model.specs.Pieces.{PutsFrames, PutsPieces};
 use crate::framing::send_framed;
 use crate::gathered::Gathered;
 use crate::sending::send_frame;
-use any_wire::{MOST_PUT, flush_unless_failed};
+use any_wire::{MOST_PUT, WireCalls, flush_unless_failed};
 use pinned_pool::{Pool, PoolName};
 use reply_planner::Parcel;
 use tx_descriptor::Framed;
@@ -63,26 +63,24 @@ impl<N: PoolName + Send> Device<N> {
         closed.settle(&mut self.end);
     }
 
-    /// Gathers the next reply and puts it, in pieces of at most 512 bytes. `put` and `flush` answer whether they
-    /// failed; after one that did nothing more is put, and replies are completed still. Where no reply is posted the
-    /// wire is flushed.
-    pub fn gather<W: Drop, P: Fn(W, &[u8]) -> (W, bool), F: Fn(W) -> (W, bool)>(
+    /// Gathers the next reply and puts it, in pieces of at most 512 bytes. After a call that
+    /// failed nothing more is put, and replies are completed still. Where no reply is posted the wire is flushed.
+    pub fn gather<W: Drop, C: WireCalls<W>>(
         &mut self,
         pool: &Pool<N>,
         wire: W,
-        put: &P,
-        flush: &F,
+        calls: &C,
     ) -> (W, Gathered)
-        requires calls { P.IsAlwaysCallable put.now × F.IsAlwaysCallable flush.now }
+        requires calls { C.can_put calls.now × C.can_flush calls.now }
         ensures ring { device_ring self.new.end ≡ device_ring self.old.end }
         ensures found { IsFound result.1 self.new.failed self.old.end self.new.end }
-        ensures put { IfTaken result.1 (PutsTexts (λ w p r. P.post put.now w p r) self.old.failed self.new.failed
+        ensures put { IfTaken result.1 (PutsTexts (C.put_may calls.now) self.old.failed self.new.failed
             (completed self.old.end) (completed self.new.end) wire result.0) }
-        ensures pieces { IfTaken result.1 (PutsPieces (λ w p r. P.post put.now w p r) N.sizes self.old.failed
+        ensures pieces { IfTaken result.1 (PutsPieces (C.put_may calls.now) N.sizes self.old.failed
             self.new.failed (completed self.old.end) (completed self.new.end) wire result.0) }
-        ensures flushed { IfIdle result.1 (Flushes (λ w r. F.post flush.now w r) self.old.failed self.new.failed wire
+        ensures flushed { IfIdle result.1 (Flushes (C.flush_may calls.now) self.old.failed self.new.failed wire
             result.0) }
-        ensures forwards { Forwards (λ w p r. P.post put.now w p r) (λ w r. F.post flush.now w r) self.old.failed
+        ensures forwards { Forwards (C.put_may calls.now) (C.flush_may calls.now) self.old.failed
             self.new.failed (completed self.old.end) (completed self.new.end) wire result.0 }
     {
         match self.end.next() {
@@ -95,7 +93,7 @@ impl<N: PoolName + Send> Device<N> {
                     &mut self.room,
                     wire,
                     self.failed,
-                    put,
+                    calls,
                 );
                 self.failed = failed;
                 self.end.complete(job);
@@ -106,12 +104,12 @@ impl<N: PoolName + Send> Device<N> {
                 }
             }
             Next::Empty { .. } => {
-                let (wire, failed) = flush_unless_failed(wire, self.failed, flush);
+                let (wire, failed) = flush_unless_failed(wire, self.failed, calls);
                 self.failed = failed;
                 (wire, Gathered::Empty)
             }
             Next::Closed => {
-                let (wire, failed) = flush_unless_failed(wire, self.failed, flush);
+                let (wire, failed) = flush_unless_failed(wire, self.failed, calls);
                 self.failed = failed;
                 (wire, Gathered::Closed)
             }
@@ -121,25 +119,24 @@ impl<N: PoolName + Send> Device<N> {
     /// Gathers the next reply and puts it as frames of at most `mtu` bytes, in pieces of at most 512 bytes; a frame's
     /// header and its first bytes are one piece, and no piece has bytes of two frames. All else is as in
     /// [`Device::gather`]; `bytes` is the text's length.
-    pub fn gather_framed<W: Drop, P: Fn(W, &[u8]) -> (W, bool), F: Fn(W) -> (W, bool)>(
+    pub fn gather_framed<W: Drop, C: WireCalls<W>>(
         &mut self,
         pool: &Pool<N>,
         wire: W,
         mtu: u16,
-        put: &P,
-        flush: &F,
+        calls: &C,
     ) -> (W, Gathered)
-        requires calls { P.IsAlwaysCallable put.now × F.IsAlwaysCallable flush.now }
+        requires calls { C.can_put calls.now × C.can_flush calls.now }
         requires mtu { CanFrame (Some mtu) }
         ensures ring { device_ring self.new.end ≡ device_ring self.old.end }
         ensures found { IsFound result.1 self.new.failed self.old.end self.new.end }
-        ensures put { IfTaken result.1 (PutsAs (Some mtu) (λ w p r. P.post put.now w p r) self.old.failed
+        ensures put { IfTaken result.1 (PutsAs (Some mtu) (C.put_may calls.now) self.old.failed
             self.new.failed (completed self.old.end) (completed self.new.end) wire result.0) }
-        ensures frames { IfTaken result.1 (PutsFrames (λ w p r. P.post put.now w p r) mtu self.old.failed
+        ensures frames { IfTaken result.1 (PutsFrames (C.put_may calls.now) mtu self.old.failed
             self.new.failed (completed self.old.end) (completed self.new.end) wire result.0) }
-        ensures flushed { IfIdle result.1 (Flushes (λ w r. F.post flush.now w r) self.old.failed self.new.failed wire
+        ensures flushed { IfIdle result.1 (Flushes (C.flush_may calls.now) self.old.failed self.new.failed wire
             result.0) }
-        ensures forwards { ForwardsAs (Some mtu) (λ w p r. P.post put.now w p r) (λ w r. F.post flush.now w r)
+        ensures forwards { ForwardsAs (Some mtu) (C.put_may calls.now) (C.flush_may calls.now)
             self.old.failed self.new.failed (completed self.old.end) (completed self.new.end) wire result.0 }
     {
         match self.end.next() {
@@ -153,7 +150,7 @@ impl<N: PoolName + Send> Device<N> {
                     wire,
                     self.failed,
                     mtu,
-                    put,
+                    calls,
                 );
                 self.failed = failed;
                 self.end.complete(job);
@@ -164,12 +161,12 @@ impl<N: PoolName + Send> Device<N> {
                 }
             }
             Next::Empty { .. } => {
-                let (wire, failed) = flush_unless_failed(wire, self.failed, flush);
+                let (wire, failed) = flush_unless_failed(wire, self.failed, calls);
                 self.failed = failed;
                 (wire, Gathered::Empty)
             }
             Next::Closed => {
-                let (wire, failed) = flush_unless_failed(wire, self.failed, flush);
+                let (wire, failed) = flush_unless_failed(wire, self.failed, calls);
                 self.failed = failed;
                 (wire, Gathered::Closed)
             }

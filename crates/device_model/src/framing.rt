@@ -7,7 +7,7 @@ ghost use Rattle.device_model.specs.Devices.{CanFrame, PutsText};
 ghost use Rattle.device_model.specs.Framing.{text_behind, IsInText};
 ghost use Rattle.device_model.specs.Pieces.{PutsEach};
 
-use any_wire::{MOST_PUT, put_unless_failed};
+use any_wire::{MOST_PUT, WireCalls, put_unless_failed};
 use mtu_frames::header;
 use pinned_pool::{Pool, PoolName};
 use reply_planner::Parcel;
@@ -32,22 +32,22 @@ struct TextPlace {
 /// how many bytes the descriptors have.
 // A call by itself, since plain replies cost more where the code for frames lies in between.
 #[inline(never)]
-pub(crate) fn send_framed<N: PoolName + Send, W: Drop, P: Fn(W, &[u8]) -> (W, bool)>(
+pub(crate) fn send_framed<N: PoolName + Send, W: Drop, C: WireCalls<W>>(
     pool: &Pool<N>,
     job: &mut Job<Parcel<N>>,
     room: &mut [u8; MOST_PUT],
     wire: W,
     failed: bool,
     mtu: u16,
-    put: &P,
+    calls: &C,
 ) -> (W, bool, u64)
-    requires calls { P.IsAlwaysCallable put.now }
+    requires calls { C.can_put calls.now }
     requires job { segments job.old ≡ (frame_of job.old).segments }
     requires mtu { CanFrame (Some mtu) }
     ensures job { job.new ≡ job.old }
-    ensures sends { PutsText (λ w p r. P.post put.now w p r) failed result.1
+    ensures sends { PutsText (C.put_may calls.now) failed result.1
         (framed (frame_of job.old).text (frame_of job.old).call mtu) wire result.0 }
-    ensures frames { PutsEach (λ w p r. P.post put.now w p r)
+    ensures frames { PutsEach (C.put_may calls.now)
         (map mtu_frame_bytes (frames_of (frame_of job.old).text (frame_of job.old).call mtu)) failed result.1 wire
         result.0 }
     ensures bytes { result.2 ≡ length (frame_of job.old).text }
@@ -72,7 +72,7 @@ pub(crate) fn send_framed<N: PoolName + Send, W: Drop, P: Fn(W, &[u8]) -> (W, bo
         }
         let len = left.min(size);
         write_header(room, call, index, count, len);
-        let (after, now) = send_cut(pool, job, &mut place, room, len as usize, wire, put);
+        let (after, now) = send_cut(pool, job, &mut place, room, len as usize, wire, calls);
         wire = after;
         has_failed = now;
         index += 1;
@@ -122,16 +122,16 @@ fn low_word(number: u64) -> u32
 }
 
 // Puts the header that the room begins with, and the next bytes of the text, so many.
-fn send_cut<N: PoolName + Send, W: Drop, P: Fn(W, &[u8]) -> (W, bool)>(
+fn send_cut<N: PoolName + Send, W: Drop, C: WireCalls<W>>(
     pool: &Pool<N>,
     job: &mut Job<Parcel<N>>,
     place: &mut TextPlace,
     room: &mut [u8; MOST_PUT],
     len: usize,
     wire: W,
-    put: &P,
+    calls: &C,
 ) -> (W, bool)
-    requires calls { P.IsAlwaysCallable put.now }
+    requires calls { C.can_put calls.now }
     requires job { segments job.old ≡ (frame_of job.old).segments }
     requires place { IsInText (frame_of job.old).segments place.old.segment place.old.offset }
     requires len { len ≤ length (text_behind N.sizes (frame_of job.old) place.old.segment place.old.offset) }
@@ -139,19 +139,28 @@ fn send_cut<N: PoolName + Send, W: Drop, P: Fn(W, &[u8]) -> (W, bool)>(
     ensures place { IsInText (frame_of job.old).segments place.new.segment place.new.offset }
     ensures rest { text_behind N.sizes (frame_of job.old) place.new.segment place.new.offset
         ≡ drop len (text_behind N.sizes (frame_of job.old) place.old.segment place.old.offset) }
-    ensures sends { PutsText (λ w p r. P.post put.now w p r) false result.1 (take 16 room.old
+    ensures sends { PutsText (C.put_may calls.now) false result.1 (take 16 room.old
         ++ take len (text_behind N.sizes (frame_of job.old) place.old.segment place.old.offset)) wire result.0 }
 {
     let first = first_piece_length(job, *place, len);
     let end = HEADER + first;
-    let (after, now) = send_run(pool, job, place, &mut room[..end], HEADER, wire, false, put);
+    let (after, now) = send_run(
+        pool,
+        job,
+        place,
+        &mut room[..end],
+        HEADER,
+        wire,
+        false,
+        calls,
+    );
     let mut wire = after;
     let mut has_failed = now;
     let mut done = first;
     while done < len {
         let count = (len - done).min(MOST_PUT);
         let run = &mut room[..count];
-        let (after, now) = send_run(pool, job, place, run, 0, wire, has_failed, put);
+        let (after, now) = send_run(pool, job, place, run, 0, wire, has_failed, calls);
         wire = after;
         has_failed = now;
         done += count;
@@ -209,7 +218,7 @@ fn count_past<N: PoolName + Send>(
 }
 
 // Reads the next bytes of the text to the room behind its front, and puts the room.
-fn send_run<N: PoolName + Send, W: Drop, P: Fn(W, &[u8]) -> (W, bool)>(
+fn send_run<N: PoolName + Send, W: Drop, C: WireCalls<W>>(
     pool: &Pool<N>,
     job: &mut Job<Parcel<N>>,
     place: &mut TextPlace,
@@ -217,9 +226,9 @@ fn send_run<N: PoolName + Send, W: Drop, P: Fn(W, &[u8]) -> (W, bool)>(
     front: usize,
     wire: W,
     failed: bool,
-    put: &P,
+    calls: &C,
 ) -> (W, bool)
-    requires calls { P.IsAlwaysCallable put.now }
+    requires calls { C.can_put calls.now }
     requires job { segments job.old ≡ (frame_of job.old).segments }
     requires place { IsInText (frame_of job.old).segments place.old.segment place.old.offset }
     requires count { (0 < length room.old) × (length room.old ≤ 512) }
@@ -231,12 +240,12 @@ fn send_run<N: PoolName + Send, W: Drop, P: Fn(W, &[u8]) -> (W, bool)>(
     ensures rest { text_behind N.sizes (frame_of job.old) place.new.segment place.new.offset
         ≡ drop (length room.old - front)
         (text_behind N.sizes (frame_of job.old) place.old.segment place.old.offset) }
-    ensures sends { PutsText (λ w p r. P.post put.now w p r) failed result.1 (take front room.old
+    ensures sends { PutsText (C.put_may calls.now) failed result.1 (take front room.old
         ++ take (length room.old - front)
         (text_behind N.sizes (frame_of job.old) place.old.segment place.old.offset)) wire result.0 }
 {
     load_text(pool, job, place, &mut room[front..]);
-    put_unless_failed(wire, failed, put, room)
+    put_unless_failed(wire, failed, calls, room)
 }
 
 // Reads the next bytes of the text, as many as the room has, and goes on behind them.

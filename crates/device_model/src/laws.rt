@@ -6,6 +6,7 @@ ghost use Rattle.tx_ring.specs.Shown.{driver_ring, driver_view, posted, device_r
 ghost use Rattle.device_model.specs.Devices.{Forwards};
 
 use crate::device::Device;
+use any_wire::WireCalls;
 use pinned_pool::PoolName;
 use reply_planner::Parcel;
 use tx_ring::Driver;
@@ -26,9 +27,9 @@ pub fn both_ends<N: PoolName + Send>(driver: &mut Driver<Parcel<N>>, device: &mu
 }
 
 /// What two runs of gathers, one after the other, did to a wire is what one run may do.
-pub fn gathers_add_up<W, P: Fn(W, &[u8]) -> (W, bool), F: Fn(W) -> (W, bool)>(put: &P, flush: &F)
+pub fn gathers_add_up<W, C: WireCalls<W>>(calls: &C)
     ensures { (failed between now : Bool) (before middle after : List Sent) (old mid new : W)
-        → Forwards (λ w p r. P.post put.now w p r) (λ w r. F.post flush.now w r) failed between before middle old mid
-        → Forwards (λ w p r. P.post put.now w p r) (λ w r. F.post flush.now w r) between now middle after mid new
-        → Forwards (λ w p r. P.post put.now w p r) (λ w r. F.post flush.now w r) failed now before after old new }
+        → Forwards (C.put_may calls.now) (C.flush_may calls.now) failed between before middle old mid
+        → Forwards (C.put_may calls.now) (C.flush_may calls.now) between now middle after mid new
+        → Forwards (C.put_may calls.now) (C.flush_may calls.now) failed now before after old new }
 {}

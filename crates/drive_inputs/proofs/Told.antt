@@ -6,7 +6,7 @@ use Rattle.drive_inputs.specs.Lanes.{sends_by}
 use Rattle.drive_told.specs.Together.{driven_run}
 use Rattle.drive_told.proofs.Wires.{told}
 use Rattle.drive_inputs.specs.Shown.{IsTranscriptTold}
-use Rattle.wire_told.proofs.Sent.{sent_by_puts}
+use Rattle.any_wire.proofs.Sent.{sent_by_puts}
 
 -- what was said of driven inputs is a transcript
 pub transcript_told : {W : Type 0} (put_may : W → Bor (List ℕ) → (W × Bool) → Type 0)

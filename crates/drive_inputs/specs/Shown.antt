@@ -11,7 +11,7 @@ use Rattle.schedule_text.specs.declared.line.Line.{Line}
 use Rattle.transcript_model.specs.Transcript.{IsTranscript}
 use Rattle.drive_inputs.specs.Drove.{DroveInputs}
 use Rattle.drive_told.specs.Together.{driven_run}
-use Rattle.wire_told.specs.Sent.{AreTold}
+use Rattle.any_wire.specs.Sent.{AreTold}
 
 module _
     {W : Type 0}

@@ -7,10 +7,11 @@ ghost use Rattle.run_resources.specs.Ran.{AreReads};
 ghost use Rattle.drive_inputs.specs.Drove.{DroveInputs};
 
 use crate::whole::{DrivenRun, Room, drive_opened};
+use any_wire::WireCalls;
 use flake_base::{Host, Source};
-use order_book::{BookBlank, BookName};
-use pinned_pool::{PoolBlank, PoolName};
-use run_resources::{ClaimSpread, RunSizes, open_resources};
+use order_book::BookName;
+use pinned_pool::PoolName;
+use run_resources::{ClaimSpread, RunBlanks, RunSizes, open_resources};
 use schedule_text::Line;
 use std::alloc::Global;
 use std::marker::Brand;
@@ -24,31 +25,28 @@ fn drive_named<
     S: Source + Drop,
     H: Host,
     W: Drop,
-    PUT: Fn(W, &[u8]) -> (W, bool),
-    FLUSH: Fn(W) -> (W, bool),
+    C: WireCalls<W>,
 >(
     rt: &R,
     alloc: Global,
     sizes: &RunSizes,
     schedule: &[Line],
-    pool: PoolBlank,
-    book: BookBlank,
+    blanks: RunBlanks,
     sources: Vec<S>,
     wires: Vec<W>,
     host: &mut H,
-    put: &PUT,
-    flush: &FLUSH,
+    calls: &C,
 ) -> Result<DrivenRun<S, W>, (Vec<S>, Vec<W>)>
-    requires calls { PUT.IsAlwaysCallable put.now × FLUSH.IsAlwaysCallable flush.now }
+    requires calls { C.can_put calls.now × C.can_flush calls.now }
     requires sized { HasRunSizes (length sources.items) sizes.now }
     requires wires { length sources.items ≤ length wires.items }
     requires there { All (λ line. line_session line < length sources.items) schedule.now }
     requires unread { All (λ s. S.given s ≡ []) sources.items }
-    requires pool { (P.table ≡ pool.table) × (P.sizes ≡ pool.sizes)
+    requires pool { (P.table ≡ blanks.pool.table) × (P.sizes ≡ blanks.pool.sizes)
         × IsPool (length sources.items) sizes.now P.sizes }
-    requires book { (N.table ≡ book.table) × (N.sizes ≡ book.sizes)
+    requires book { (N.table ≡ blanks.book.table) × (N.sizes ≡ blanks.book.sizes)
         × IsBook (length sources.items) sizes.now N.sizes }
-    ensures drove { IfOk result (λ r. DroveInputs (λ w p r. PUT.post put.now w p r) (λ w r. FLUSH.post flush.now w r)
+    ensures drove { IfOk result (λ r. DroveInputs (C.put_may calls.now) (C.flush_may calls.now)
         (pool_sizes (length sources.items) sizes.now) sizes.now.ring sizes.now.threshold schedule.now r.failed
         (map (λ s. S.given s) r.sources.items) (map (λ s. S.ended s) r.sources.items) r.ends.items
         (histories r.journal.items) r.pool wires.items r.wires.items (H.host_told host.old) (H.host_told host.new)) }
@@ -60,6 +58,7 @@ fn drive_named<
     ensures refused { IfErr result (λ e. (e.0.items ≡ sources.items) × (e.1.items ≡ wires.items)) }
     ensures silent { OnErr result (host.new ≡ host.old) }
 {
+    let RunBlanks { pool, book } = blanks;
     let Ok(space) = Room::<N, P, S, W>::taken(alloc, sources.len(), wires.len()) else {
         return Err((sources, wires));
     };
@@ -70,21 +69,14 @@ fn drive_named<
         return Err((sources, wires));
     };
     Ok(drive_opened(
-        rt, alloc, sizes, schedule, resources, space, sources, wires, host, put, flush,
+        rt, sizes, schedule, resources, space, sources, wires, host, calls,
     ))
 }
 
 /// Drives the sessions of the sources as a schedule asks, line by line, and says what happened at each, until a say
 /// fails; then puts the replies that are left on their wires. Wires past the sources come back as they are. Where
 /// memory is wanting before the first line, the sources and the wires come back, and nothing was said.
-pub fn drive_inputs<
-    R: Wait,
-    S: Source + Drop,
-    H: Host,
-    W: Drop,
-    PUT: Fn(W, &[u8]) -> (W, bool),
-    FLUSH: Fn(W) -> (W, bool),
->(
+pub fn drive_inputs<R: Wait, S: Source + Drop, H: Host, W: Drop, C: WireCalls<W>>(
     rt: &R,
     alloc: Global,
     sizes: &RunSizes,
@@ -92,15 +84,14 @@ pub fn drive_inputs<
     sources: Vec<S>,
     wires: Vec<W>,
     host: &mut H,
-    put: &PUT,
-    flush: &FLUSH,
+    calls: &C,
 ) -> Result<DrivenRun<S, W>, (Vec<S>, Vec<W>)>
-    requires calls { PUT.IsAlwaysCallable put.now × FLUSH.IsAlwaysCallable flush.now }
+    requires calls { C.can_put calls.now × C.can_flush calls.now }
     requires sized { HasRunSizes (length sources.items) sizes.now }
     requires wires { length sources.items ≤ length wires.items }
     requires there { All (λ line. line_session line < length sources.items) schedule.now }
     requires unread { All (λ s. S.given s ≡ []) sources.items }
-    ensures drove { IfOk result (λ r. DroveInputs (λ w p r. PUT.post put.now w p r) (λ w r. FLUSH.post flush.now w r)
+    ensures drove { IfOk result (λ r. DroveInputs (C.put_may calls.now) (C.flush_may calls.now)
         (pool_sizes (length sources.items) sizes.now) sizes.now.ring sizes.now.threshold schedule.now r.failed
         (map (λ s. S.given s) r.sources.items) (map (λ s. S.ended s) r.sources.items) r.ends.items
         (histories r.journal.items) r.pool wires.items r.wires.items (H.host_told host.old) (H.host_told host.new)) }
@@ -112,15 +103,10 @@ pub fn drive_inputs<
     ensures refused { IfErr result (λ e. (e.0.items ≡ sources.items) × (e.1.items ≡ wires.items)) }
     ensures silent { OnErr result (host.new ≡ host.old) }
 {
-    let count = sources.len();
-    let Ok(pool) = PoolBlank::open(alloc, sizes.small, sizes.large, sizes.pool_credits(count))
-    else {
+    let Ok(blanks) = RunBlanks::open(alloc, sizes, sources.len()) else {
         return Err((sources, wires));
     };
-    let Ok(book) = BookBlank::open(alloc, sizes.shards, count as u16) else {
-        return Err((sources, wires));
-    };
-    drive_named::<R, Brand, Brand, S, H, W, PUT, FLUSH>(
-        rt, alloc, sizes, schedule, pool, book, sources, wires, host, put, flush,
+    drive_named::<R, Brand, Brand, S, H, W, C>(
+        rt, alloc, sizes, schedule, blanks, sources, wires, host, calls,
     )
 }

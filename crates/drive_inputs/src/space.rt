@@ -12,6 +12,7 @@ use std::alloc::Global;
 /// a line.
 #[derive(Drop)]
 pub(crate) struct Space<D, A, N: BookName, S, W> {
+    pub(crate) alloc: Global,
     pub(crate) drivings: Vec<D>,
     pub(crate) accounts: Vec<A>,
     pub(crate) line: LineRoom,
@@ -30,6 +31,7 @@ impl<D: Drop, A: Drop, N: BookName, S: Drop, W: Drop> Space<D, A, N, S, W> {
         ensures wires { IfOk result (λ s. (s.results.wires.items ≡ []) × (wires ≤ vec_capacity s.results.wires)) }
     {
         Ok(Space {
+            alloc,
             drivings: Vec::with_capacity(alloc, count)?,
             accounts: Vec::with_capacity(alloc, count)?,
             line: LineRoom::new(alloc)?,

@@ -13,6 +13,7 @@ ghost use Rattle.drive_inputs.specs.Drove.{DroveInputs};
 use crate::pairing::pair_up;
 use crate::results::{Results, bring_in};
 use crate::space::Space;
+use any_wire::WireCalls;
 use command_exec::Shop;
 use drive_script::{DrivenAccount, Driving, drive};
 use drive_told::laws::driven_together;
@@ -21,7 +22,6 @@ use order_book::BookName;
 use pinned_pool::{PoolEnd, PoolName};
 use run_resources::{Closed, RunResources, RunSizes, close_all};
 use schedule_text::Line;
-use std::alloc::Global;
 use std::sync::Wait;
 
 /// Room for a run.
@@ -47,11 +47,9 @@ pub(crate) fn drive_opened<
     S: Source + Drop,
     H: Host,
     W: Drop,
-    PUT: Fn(W, &[u8]) -> (W, bool),
-    FLUSH: Fn(W) -> (W, bool),
+    C: WireCalls<W>,
 >(
     rt: &R,
-    alloc: Global,
     sizes: &RunSizes,
     schedule: &[Line],
     resources: RunResources<N, P>,
@@ -59,10 +57,9 @@ pub(crate) fn drive_opened<
     sources: Vec<S>,
     wires: Vec<W>,
     host: &mut H,
-    put: &PUT,
-    flush: &FLUSH,
+    calls: &C,
 ) -> DrivenRun<S, W>
-    requires calls { PUT.IsAlwaysCallable put.now × FLUSH.IsAlwaysCallable flush.now }
+    requires calls { C.can_put calls.now × C.can_flush calls.now }
     requires pool { IsPool (length sources.items) sizes.now P.sizes }
     requires book { IsBook (length sources.items) sizes.now N.sizes }
     requires wires { length sources.items ≤ length wires.items }
@@ -81,7 +78,7 @@ pub(crate) fn drive_opened<
     requires lists { (space.results.lists.items ≡ []) × (length sources.items ≤ space.results.lists.spare) }
     requires room { (space.results.sources.items ≡ []) × (length sources.items ≤ vec_capacity space.results.sources) }
     requires wire_room { (space.results.wires.items ≡ []) × (length wires.items ≤ vec_capacity space.results.wires) }
-    ensures drove { DroveInputs (λ w p r. PUT.post put.now w p r) (λ w r. FLUSH.post flush.now w r)
+    ensures drove { DroveInputs (C.put_may calls.now) (C.flush_may calls.now)
         (pool_sizes (length sources.items) sizes.now) sizes.now.ring sizes.now.threshold schedule.now result.failed
         (map (λ s. S.given s) result.sources.items) (map (λ s. S.ended s) result.sources.items) result.ends.items
         (histories result.journal.items) result.pool wires.items result.wires.items (H.host_told host.old)
@@ -100,6 +97,7 @@ pub(crate) fn drive_opened<
         slots,
     } = resources;
     let Space {
+        alloc,
         drivings,
         accounts,
         line,
@@ -112,7 +110,7 @@ pub(crate) fn drive_opened<
         store: &store,
     };
     let drive_script::Driven { accounts, failed } = drive(
-        rt, &shop, schedule, drivings, line, accounts, host, put, flush,
+        rt, &shop, schedule, drivings, line, accounts, host, calls,
     );
     let parts = store.into_parts(&pool);
     let Results {
@@ -122,7 +120,7 @@ pub(crate) fn drive_opened<
         wires,
     } = bring_in(&pool, &mut main, accounts, past, results);
     let Closed { journal, end: pool } = close_all(pool, book, parts, main, lists);
-    driven_together::<W, PUT, FLUSH>(put, flush);
+    driven_together::<W, C>(calls);
     let _ = sizes;
     DrivenRun {
         ends,

@@ -7,8 +7,8 @@ use Rattle.command_pump.specs.Pump.{Origin, PumpState}
 use Rattle.reply_planner.specs.Parcels.{Sent, texts_in}
 use Rattle.transcript_model.specs.Lines.{LineEvent}
 use Rattle.any_wire.specs.Texts.{Sending, WireGrew, AreWhole, IsSending}
-use Rattle.drive_model.specs.Views.{SessionShown, DeviceShown}
-use Rattle.drive_model.proofs.Lists.{front_length}
+use Rattle.drive_script.specs.Views.{SessionShown, DeviceShown}
+use Rattle.drive_script.proofs.Lists.{front_length}
 use Rattle.any_wire.proofs.Texts.{wire_longer}
 use Rattle.drive_script.specs.Asked.{IsAsked, GoesOn}
 use Rattle.drive_script.specs.Lanes.{Fixed, IsDriven, IsLane}

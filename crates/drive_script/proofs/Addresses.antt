@@ -19,7 +19,7 @@ use Rattle.session_pass.specs.Kept.{IsWaiting}
 use Rattle.session_pass.specs.Waiting as session
 use Rattle.session_pass.specs.Waiting.{descriptors_of, room_left, is_staged_by, free_of}
 use Rattle.transcript_model.specs.Standing.{ring_room, has_lent, free, FitsStanding}
-use Rattle.drive_model.specs.Views.{waiting_behind}
+use Rattle.drive_script.specs.Views.{waiting_behind}
 use Rattle.drive_script.specs.Shown.{session_shown, LiesInPool}
 
 -- how many descriptors waiting replies take

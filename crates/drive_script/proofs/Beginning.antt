@@ -12,7 +12,7 @@ use Rattle.reply_planner.specs.Parcels.{Sent, texts_in}
 use Rattle.session_serve.specs.Working.{IsFresh}
 use Rattle.any_wire.specs.Texts.{Sending, WireGrew, IsSending}
 use Rattle.transcript_model.specs.Terms.{Terms}
-use Rattle.drive_model.proofs.Finals.{kept_at_first}
+use Rattle.drive_script.proofs.Finals.{kept_at_first}
 use Rattle.any_wire.proofs.Texts.{wire_fresh}
 use Rattle.drive_script.specs.Asked.{IsAsked}
 use Rattle.drive_script.specs.Driving.{Driving, fixed_at, IsNew, IsUnderWay, AreFresh}

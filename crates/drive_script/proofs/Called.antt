@@ -15,8 +15,8 @@ use Rattle.session_pass.specs.declared.error.CallError.{CallError}
 use Rattle.session_pass.specs.declared.error.CallError.TheVariants.{RingFull, StageFull, Memory}
 use Rattle.transcript_model.specs.Lines.{LineEvent, at_end}
 use Rattle.transcript_model.specs.Lines as event
-use Rattle.drive_model.specs.Calls.{BothEnds}
-use Rattle.drive_model.specs.Views.{SessionShown, DeviceShown}
+use Rattle.drive_script.specs.Calls.{BothEnds}
+use Rattle.drive_script.specs.Views.{SessionShown, DeviceShown}
 use Rattle.drive_script.specs.declared.happened.Happened.{Happened}
 use Rattle.drive_script.specs.Asked.{MayGiveMore, AsksNext, IsAsked, GoesOn}
 use Rattle.drive_script.specs.Happened.{line_event}

@@ -13,13 +13,13 @@ use Rattle.reply_planner.specs.Parcels.{Sent}
 use Rattle.transcript_model.specs.Lines.{LineEvent, posted, ring_full, stage_full, at_end}
 use Rattle.transcript_model.specs.News.{with_news}
 use Rattle.transcript_model.specs.Right.{is_known}
-use Rattle.drive_model.specs.Calls.{ShowsPost, ShowsRingFull, ShowsStageFull, ShowsRefusal, BothEnds}
-use Rattle.drive_model.specs.Matches.{HasMore}
-use Rattle.drive_model.specs.Views.{SessionShown, DeviceShown}
-use Rattle.drive_model.proofs.Ended.{kept_ended, says_end-other, says_end-now}
-use Rattle.drive_model.proofs.KeepsCalls.{kept_call}
-use Rattle.drive_model.proofs.KeepsEnds.{kept_ring, kept_stage, kept_end, kept_end_again}
-use Rattle.drive_model.proofs.Lists.{get_front, get_behind}
+use Rattle.drive_script.specs.Calls.{ShowsPost, ShowsRingFull, ShowsStageFull, ShowsRefusal, BothEnds}
+use Rattle.drive_script.specs.Matches.{HasMore}
+use Rattle.drive_script.specs.Views.{SessionShown, DeviceShown}
+use Rattle.drive_script.proofs.Ended.{kept_ended, says_end-other, says_end-now}
+use Rattle.drive_script.proofs.KeepsCalls.{kept_call}
+use Rattle.drive_script.proofs.KeepsEnds.{kept_ring, kept_stage, kept_end, kept_end_again}
+use Rattle.drive_script.proofs.Lists.{get_front, get_behind}
 use Rattle.drive_script.specs.Asked.{AsksNext, GoesOn}
 use Rattle.drive_script.specs.Lanes.{Fixed, IsDriven}
 

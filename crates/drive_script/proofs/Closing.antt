@@ -21,11 +21,11 @@ use Rattle.transcript_model.specs.Right.{is_known}
 use Rattle.any_wire.specs.Texts.{Sending, WireGrew}
 use Rattle.transcript_model.specs.Sessions.{IsRightSession, texts_of}
 use Rattle.transcript_model.specs.Terms.{Terms}
-use Rattle.drive_model.specs.Matches.{HasMore, IsRightSoFar}
-use Rattle.drive_model.specs.Quiet.{IsQuiet, says_end}
-use Rattle.drive_model.proofs.Ended.{kept_ended, says_end-append}
-use Rattle.drive_model.proofs.Finals.{kept_news, all_texts, told_at_last}
-use Rattle.drive_model.proofs.KeepsReaps.{frames_count}
+use Rattle.drive_script.specs.Matches.{HasMore, IsRightSoFar}
+use Rattle.drive_script.specs.Quiet.{IsQuiet, says_end}
+use Rattle.drive_script.proofs.Ended.{kept_ended, says_end-append}
+use Rattle.drive_script.proofs.Finals.{kept_news, all_texts, told_at_last}
+use Rattle.drive_script.proofs.KeepsReaps.{frames_count}
 use Rattle.drive_script.specs.declared.happened.Happened.{Happened}
 use Rattle.drive_script.specs.declared.happened.Happened.TheVariants.{NothingPosted}
 use Rattle.drive_script.specs.Asked.{IsAsked}

@@ -13,7 +13,7 @@ use Rattle.call_model.specs.Outcomes.{Outcomes, call_told, call_deeds, answers_t
 use Rattle.call_model.specs.Parts.{call_segs, segs_told}
 use Rattle.call_model.proofs.Deeds.{deed_answers}
 use Rattle.transcript_model.specs.Frames.{fragments_stored}
-use Rattle.drive_model.specs.Calls.{AreDone}
+use Rattle.drive_script.specs.Calls.{AreDone}
 
 -- one outcome for each part
 pub parts_done : (session call part : ℕ) (operations : List Operation) (outcomes : Outcomes)

@@ -18,8 +18,8 @@ use Rattle.device_model.specs.declared.gathered.Gathered.TheVariants as found
 use Rattle.session_pass.specs.Views.{SessionView}
 use Rattle.transcript_model.specs.Lines as event
 use Rattle.transcript_model.specs.Lines.{LineEvent}
-use Rattle.drive_model.specs.Calls.{BothEnds}
-use Rattle.drive_model.specs.Views.{SessionShown, DeviceShown}
+use Rattle.drive_script.specs.Calls.{BothEnds}
+use Rattle.drive_script.specs.Views.{SessionShown, DeviceShown}
 use Rattle.drive_script.specs.declared.happened.Happened.{Happened}
 use Rattle.drive_script.specs.declared.happened.Happened.TheVariants as Happen
 use Rattle.drive_script.specs.Happened.{line_event}

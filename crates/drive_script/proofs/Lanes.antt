@@ -7,12 +7,12 @@ use Rattle.reply_planner.specs.Parcels.{Sent, texts_in}
 use Rattle.transcript_model.specs.Lines.{LineEvent, sent, dropped, nothing_posted, reaped, nothing_reaped}
 use Rattle.transcript_model.specs.News.{with_news}
 use Rattle.any_wire.specs.Texts.{Sending, WireGrew, AreWhole, IsSending}
-use Rattle.drive_model.specs.Calls.{Gathers, GathersNone, ShowsOneReap, ShowsNoReap, BothEnds}
-use Rattle.drive_model.specs.Views.{SessionShown, DeviceShown}
-use Rattle.drive_model.proofs.Ended.{says_end-other}
-use Rattle.drive_model.proofs.Keeps.{kept_sent, kept_dropped}
-use Rattle.drive_model.proofs.KeepsReaps.{kept_empty, kept_none, kept_reap}
-use Rattle.drive_model.proofs.Lists.{get_map, get_next}
+use Rattle.drive_script.specs.Calls.{Gathers, GathersNone, ShowsOneReap, ShowsNoReap, BothEnds}
+use Rattle.drive_script.specs.Views.{SessionShown, DeviceShown}
+use Rattle.drive_script.proofs.Ended.{says_end-other}
+use Rattle.drive_script.proofs.Keeps.{kept_sent, kept_dropped}
+use Rattle.drive_script.proofs.KeepsReaps.{kept_empty, kept_none, kept_reap}
+use Rattle.drive_script.proofs.Lists.{get_map, get_next}
 use Rattle.any_wire.proofs.Texts.{wire_sent, wire_cut, wire_idle}
 use Rattle.drive_script.specs.Lanes.{Fixed, IsDriven, IsLane}
 

@@ -1,3 +1,12 @@
+pub mod Ended
+pub mod Finals
+pub mod Keeps
+pub mod KeepsCalls
+pub mod KeepsEnds
+pub mod KeepsReaps
+pub mod Lists
+pub mod Lookups
+pub mod Told
 pub mod Addresses
 pub mod Done
 pub mod Showing

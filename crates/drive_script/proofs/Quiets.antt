@@ -11,9 +11,9 @@ use Rattle.any_wire.specs.Texts.{Sending}
 use Rattle.transcript_model.specs.Standing.{Standing, at_first}
 use Rattle.transcript_model.specs.Terms.{Terms}
 use Rattle.reply_layout.specs.Frames.{Frame}
-use Rattle.drive_model.specs.Quiet.{IsQuiet}
-use Rattle.drive_model.proofs.KeepsReaps.{frames_count}
-use Rattle.drive_model.proofs.Lists.{front_length}
+use Rattle.drive_script.specs.Quiet.{IsQuiet}
+use Rattle.drive_script.proofs.KeepsReaps.{frames_count}
+use Rattle.drive_script.proofs.Lists.{front_length}
 use Rattle.drive_script.specs.declared.happened.Happened.{Happened}
 use Rattle.drive_script.specs.declared.happened.Happened.TheVariants as Happen
 use Rattle.drive_script.specs.Driving.{Driving, IsUnderWay}

@@ -27,8 +27,8 @@ use Rattle.reply_planner.specs.Owned.{bare_all, fresh_all}
 use Rattle.reply_planner.specs.Parcels.{Sent, texts_in}
 use Rattle.call_model.specs.Outcomes.{Outcomes, missed_in}
 use Rattle.any_wire.specs.Texts.{AreWhole, WireGrew, joined}
-use Rattle.drive_model.specs.Matches.{HasMore}
-use Rattle.drive_model.proofs.Lists.{get_front}
+use Rattle.drive_script.specs.Matches.{HasMore}
+use Rattle.drive_script.proofs.Lists.{get_front}
 use Rattle.serve_model.specs.Demand.{commands_row}
 use Rattle.serve_model.specs.Going as model
 use Rattle.serve_model.specs.Handed.{SessionHasRun}

@@ -17,7 +17,7 @@ use Rattle.drive_script.specs.Driving.{Driving, IsUnderWay, WereDriven}
 use Rattle.drive_script.specs.Lanes.{sends_by}
 use Rattle.drive_script.specs.Left.{IsGoing, HasLeft}
 use Rattle.drive_script.specs.Ran.{HasDriven}
-use Rattle.drive_model.proofs.Lists.{get_below}
+use Rattle.drive_script.proofs.Lists.{get_below}
 use Rattle.drive_script.proofs.Steps.{get_mapped, some_at}
 
 module _ {X : Type 0} where

@@ -10,7 +10,7 @@ use Rattle.flake_base.specs.Told.{HostTold}
 use Rattle.flake_base.specs.declared.segment.Seg.{Seg}
 use Rattle.flake_model.specs.Wire.{FaultIs}
 use Rattle.transcript_model.specs.Lines.{segment_text, stored_text, transcript_line}
-use Rattle.transcript_text.specs.Told.{said, front_text}
+use Rattle.transcript_model.specs.Told.{said, front_text}
 use Rattle.drive_script.specs.declared.happened.Happened.{Happened}
 use Rattle.drive_script.specs.declared.happened.Happened.TheVariants.{Posted, RingFull, StageFull, AtEnd, Sent, Dropped}
 use Rattle.drive_script.specs.declared.happened.Happened.TheVariants.{NothingPosted, Reaped, NothingReaped}

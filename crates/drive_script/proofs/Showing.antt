@@ -17,8 +17,8 @@ use Rattle.call_model.proofs.Deeds.{deeds_told}
 use Rattle.session_pass.specs.Views.{SessionView}
 use Rattle.session_pass.specs.Calls as call
 use Rattle.transcript_model.specs.Standing.{ring_room, free}
-use Rattle.drive_model.specs.Views.{waiting_behind}
-use Rattle.drive_model.specs.Calls as line
+use Rattle.drive_script.specs.Views.{waiting_behind}
+use Rattle.drive_script.specs.Calls as line
 use Rattle.drive_script.specs.Shown.{session_shown, LiesInPool}
 use Rattle.drive_script.proofs.Addresses.{room_is, free_is, free_count, fits_shown, fits_back}
 use Rattle.drive_script.proofs.Done.{parts_done, fragments_done, reply_done, of_the_call}

@@ -15,7 +15,7 @@ use Rattle.schedule_text.specs.Text.{line_session}
 use Rattle.transcript_model.specs.Lines.{LineEvent, EventLine, line_of, transcript_line}
 use Rattle.any_wire.specs.Texts.{Sending}
 use Rattle.transcript_model.specs.Sessions.{events_of}
-use Rattle.transcript_text.specs.Told.{said}
+use Rattle.transcript_model.specs.Told.{said}
 use Rattle.drive_script.specs.Driving.{Driving, IsAble, IsUnderWay, AreUnderWay, AreFresh, WereDriven}
 use Rattle.drive_script.specs.Says.{PrintsText}
 use Rattle.drive_script.proofs.Few.{few_posted}

@@ -20,7 +20,7 @@ use Rattle.schedule_text.specs.declared.line.Line.{Line}
 use Rattle.transcript_model.specs.Lines.{LineEvent, EventLine, line_of, transcript_line}
 use Rattle.any_wire.specs.Texts.{Sending}
 use Rattle.transcript_model.specs.Sessions.{events_of}
-use Rattle.drive_model.specs.Views.{DeviceShown}
+use Rattle.drive_script.specs.Views.{DeviceShown}
 use Rattle.drive_script.specs.Asked.{IsAsked}
 use Rattle.drive_script.specs.Lanes.{Fixed, IsLane}
 use Rattle.drive_script.specs.Running.{IsRunning}

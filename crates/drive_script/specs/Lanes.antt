@@ -9,9 +9,9 @@ use Rattle.transcript_model.specs.Lines.{LineEvent}
 use Rattle.any_wire.specs.Texts.{Sending, WireGrew}
 use Rattle.transcript_model.specs.Terms.{Terms}
 use Rattle.reply_planner.specs.Parcels.{texts_in}
-use Rattle.drive_model.specs.Matches.{IsRightSoFar}
-use Rattle.drive_model.specs.Quiet.{says_end}
-use Rattle.drive_model.specs.Views.{SessionShown, DeviceShown}
+use Rattle.drive_script.specs.Matches.{IsRightSoFar}
+use Rattle.drive_script.specs.Quiet.{says_end}
+use Rattle.drive_script.specs.Views.{SessionShown, DeviceShown}
 
 -- a text is sent by puts and flushes, until one of them fails
 abbrev pub sends_by : {W : Type 0} → (W → Bor (List ℕ) → (W × Bool) → Type 0) → (W → (W × Bool) → Type 0)

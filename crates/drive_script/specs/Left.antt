@@ -14,8 +14,8 @@ use Rattle.transcript_model.specs.Lines.{LineEvent, sent, dropped}
 use Rattle.any_wire.specs.Texts.{Sending, WireGrew}
 use Rattle.transcript_model.specs.Sessions.{IsRightSession, texts_of}
 use Rattle.transcript_model.specs.Terms.{Terms}
-use Rattle.drive_model.specs.Matches.{HasMore}
-use Rattle.drive_model.specs.Quiet.{IsQuiet, says_end}
+use Rattle.drive_script.specs.Matches.{HasMore}
+use Rattle.drive_script.specs.Quiet.{IsQuiet, says_end}
 use Rattle.drive_script.specs.Asked.{IsAsked}
 use Rattle.drive_script.specs.Driving.{Driving, fixed_at, IsUnderWay}
 use Rattle.drive_script.specs.Lanes.{Fixed}

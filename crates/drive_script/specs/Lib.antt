@@ -1,3 +1,7 @@
+pub mod Views
+pub mod Calls
+pub mod Matches
+pub mod Quiet
 pub mod Shown
 pub mod Happened
 pub mod Recycled

@@ -10,7 +10,7 @@ use Rattle.tx_ring.specs.Shown.{ring_size, completed, device_told}
 use Rattle.tx_ring.specs.declared.device.DeviceEnd.{DeviceEnd}
 use Rattle.session_pass.specs.Views.{SessionView}
 use Rattle.session_pass.specs.Kept.{IsSessionSound}
-use Rattle.drive_model.specs.Views.{SessionShown, DeviceShown}
+use Rattle.drive_script.specs.Views.{SessionShown, DeviceShown}
 
 abbrev pub session_shown : Sizes → SessionView → SessionShown
 session_shown z s = record {

@@ -16,6 +16,7 @@ ghost use Rattle.drive_script.specs.Shown.{session_shown, device_shown};
 use crate::asking::Asking;
 use crate::happened::Happened;
 use crate::lane::Lane;
+use any_wire::WireCalls;
 use command_exec::Shop;
 use flake_base::{Seg, Source};
 use order_book::BookName;
@@ -25,13 +26,7 @@ use std::sync::Wait;
 
 impl<N: BookName, P: PoolName + Send> Lane<N, P> {
     /// Does what a line of a schedule asks of this session.
-    pub fn act<
-        R: Wait,
-        S: Source,
-        W: Drop,
-        PUT: Fn(W, &[u8]) -> (W, bool),
-        FLUSH: Fn(W) -> (W, bool),
-    >(
+    pub fn act<R: Wait, S: Source, W: Drop, C: WireCalls<W>>(
         &mut self,
         rt: &R,
         shop: &Shop<'_, N, P>,
@@ -40,10 +35,9 @@ impl<N: BookName, P: PoolName + Send> Lane<N, P> {
         sent: &mut Vec<Seg>,
         stored: &mut Vec<Seg>,
         wire: W,
-        put: &PUT,
-        flush: &FLUSH,
+        calls: &C,
     ) -> (W, Happened)
-        requires calls { PUT.IsAlwaysCallable put.now × FLUSH.IsAlwaysCallable flush.now }
+        requires calls { C.can_put calls.now × C.can_flush calls.now }
         requires ring { device_ring self.old.device.end ≡ self.old.session.ring }
         requires small { Each (λ buffer. buffer < P.sizes.small) self.old.session.pass.stage }
         requires few { length self.old.session.posted < 2 ^ 32 - 1 }
@@ -58,11 +52,11 @@ impl<N: BookName, P: PoolName + Send> Lane<N, P> {
             (origin : Origin) (before : ℕ)
             → IsAsked origin before given (length self.old.session.posted) asking.old.kept asking.old.end
             asking.old.pump
-            → IsLane (sends_by (λ w p r. PUT.post put.now w p r) (λ w r. FLUSH.post flush.now w r)) fixed start given
+            → IsLane (sends_by (C.put_may calls.now) (C.flush_may calls.now)) fixed start given
             asking.old.end events (session_shown P.sizes self.old.session)
             (device_shown self.old.device.failed self.old.device.end) wire
             → GoesOn origin before (length self.new.session.posted) asking.new.kept asking.new.end asking.new.pump
-            (λ now. IsLane (sends_by (λ w p r. PUT.post put.now w p r) (λ w r. FLUSH.post flush.now w r)) fixed
+            (λ now. IsLane (sends_by (C.put_may calls.now) (C.flush_may calls.now)) fixed
             start now asking.new.end (events ++ line_event result.1 sent.new.items stored.new.items ∷ [])
             (session_shown P.sizes self.new.session) (device_shown self.new.device.failed self.new.device.end)
             result.0
@@ -74,7 +68,7 @@ impl<N: BookName, P: PoolName + Send> Lane<N, P> {
                 let happened = self.call(rt, shop, asking, sent, stored);
                 (wire, happened)
             }
-            Line::Gather(_) => self.gather(shop.pool, wire, put, flush),
+            Line::Gather(_) => self.gather(shop.pool, wire, calls),
             Line::Reap(_) => {
                 let happened = self.reap(shop);
                 (wire, happened)

@@ -15,6 +15,7 @@ use crate::driving::Driving;
 use crate::leaving::DrivenAccount;
 use crate::lines::drive_lines;
 use crate::saying::LineRoom;
+use any_wire::WireCalls;
 use command_exec::Shop;
 use flake_base::{Host, Source};
 use order_book::BookName;
@@ -39,8 +40,7 @@ pub fn drive<
     S: Source + Drop,
     W: Drop,
     H: Host,
-    PUT: Fn(W, &[u8]) -> (W, bool),
-    FLUSH: Fn(W) -> (W, bool),
+    C: WireCalls<W>,
 >(
     rt: &R,
     shop: &Shop<'_, N, P>,
@@ -49,17 +49,16 @@ pub fn drive<
     room: LineRoom,
     accounts: Vec<DrivenAccount<N, P, S, W>>,
     host: &mut H,
-    put: &PUT,
-    flush: &FLUSH,
+    calls: &C,
 ) -> Driven<N, P, S, W>
-    requires calls { PUT.IsAlwaysCallable put.now × FLUSH.IsAlwaysCallable flush.now }
+    requires calls { C.can_put calls.now × C.can_flush calls.now }
     requires there { All (λ line. line_session line < length sessions.items) schedule.now }
     requires fresh { All (λ d. IsNew P.sizes (driving_of d.lane.session d.lane.device.failed d.lane.device.end
         d.asking.kept d.asking.end d.asking.pump d.wire) × IsFresh P.sizes d.lane.session d.asking.pump)
         sessions.items }
     requires line { text_room ≤ vec_capacity room.text }
     requires room { (accounts.items ≡ []) × (length sessions.items ≤ vec_capacity accounts) }
-    ensures driven { DroveAll (λ w p r. PUT.post put.now w p r) (λ w r. FLUSH.post flush.now w r) P.sizes
+    ensures driven { DroveAll (C.put_may calls.now) (C.flush_may calls.now) P.sizes
         N.sizes.shards (map (λ d. driving_of d.lane.session d.lane.device.failed d.lane.device.end d.asking.kept
         d.asking.end d.asking.pump d.wire) sessions.items) schedule.now
         (map (λ a. leaving_of a.end a.mine a.seat a.pump a.wire) result.accounts.items) result.failed
@@ -67,52 +66,35 @@ pub fn drive<
 {
     let mut sessions = sessions;
     let mut room = room;
-    let failed = drive_lines(
-        rt,
-        shop,
-        schedule,
-        &mut sessions,
-        &mut room,
-        host,
-        put,
-        flush,
-    );
-    let accounts = leave_all(shop, sessions, accounts, put, flush);
+    let failed = drive_lines(rt, shop, schedule, &mut sessions, &mut room, host, calls);
+    let accounts = leave_all(shop, sessions, accounts, calls);
     Driven { accounts, failed }
 }
 
 // One after another.
-fn leave_all<
-    N: BookName,
-    P: PoolName + Send,
-    S: Source + Drop,
-    W: Drop,
-    PUT: Fn(W, &[u8]) -> (W, bool),
-    FLUSH: Fn(W) -> (W, bool),
->(
+fn leave_all<N: BookName, P: PoolName + Send, S: Source + Drop, W: Drop, C: WireCalls<W>>(
     shop: &Shop<'_, N, P>,
     sessions: Vec<Driving<N, P, S, W>>,
     accounts: Vec<DrivenAccount<N, P, S, W>>,
-    put: &PUT,
-    flush: &FLUSH,
+    calls: &C,
 ) -> Vec<DrivenAccount<N, P, S, W>>
-    requires calls { PUT.IsAlwaysCallable put.now × FLUSH.IsAlwaysCallable flush.now }
-    requires going { All (λ d. IsGoing (sends_by (λ w p r. PUT.post put.now w p r) (λ w r. FLUSH.post flush.now w r))
+    requires calls { C.can_put calls.now × C.can_flush calls.now }
+    requires going { All (λ d. IsGoing (sends_by (C.put_may calls.now) (C.flush_may calls.now))
         P.sizes N.sizes.shards (driving_of d.lane.session d.lane.device.failed d.lane.device.end d.asking.kept
         d.asking.end d.asking.pump d.wire)) sessions.items }
     requires room { (accounts.items ≡ []) × (length sessions.items ≤ vec_capacity accounts) }
     ensures { AllZip (λ d a. (first : Shown W) (events : List LineEvent)
-        → IsUnderWay (sends_by (λ w p r. PUT.post put.now w p r) (λ w r. FLUSH.post flush.now w r))
+        → IsUnderWay (sends_by (C.put_may calls.now) (C.flush_may calls.now))
         P.sizes N.sizes.shards first events (driving_of d.lane.session d.lane.device.failed d.lane.device.end
         d.asking.kept d.asking.end d.asking.pump d.wire)
-        → HasLeft (sends_by (λ w p r. PUT.post put.now w p r) (λ w r. FLUSH.post flush.now w r)) P.sizes first
+        → HasLeft (sends_by (C.put_may calls.now) (C.flush_may calls.now)) P.sizes first
         events a.end a.mine a.pump a.wire
-        × HasDriven (λ w p r. PUT.post put.now w p r) (λ w r. FLUSH.post flush.now w r) P.sizes N.sizes.shards first
+        × HasDriven (C.put_may calls.now) (C.flush_may calls.now) P.sizes N.sizes.shards first
         events a.end a.mine a.seat a.pump a.wire) sessions.items result.items }
 {
     let mut accounts = accounts;
     for session in sessions {
-        accounts.push_reserved(session.leave(shop, put, flush));
+        accounts.push_reserved(session.leave(shop, calls));
     }
     accounts
 }

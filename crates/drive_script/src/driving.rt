@@ -14,6 +14,7 @@ ghost use Rattle.drive_script.specs.Recycled.{Recycles};
 use crate::asking::Asking;
 use crate::happened::Happened;
 use crate::lane::Lane;
+use any_wire::WireCalls;
 use command_exec::Shop;
 use flake_base::{Seg, Source};
 use order_book::BookName;
@@ -37,17 +38,16 @@ where
 impl<N: BookName, P: PoolName + Send, S: Source, W: Drop> Driving<N, P, S, W> {
     /// Does what a line of a schedule asks of it. Where a call is posted, `sent` becomes its segments, and `stored` the
     /// fragments that were stored.
-    pub fn act<R: Wait, PUT: Fn(W, &[u8]) -> (W, bool), FLUSH: Fn(W) -> (W, bool)>(
+    pub fn act<R: Wait, C: WireCalls<W>>(
         &mut self,
         rt: &R,
         shop: &Shop<'_, N, P>,
         line: Line,
         sent: &mut Vec<Seg>,
         stored: &mut Vec<Seg>,
-        put: &PUT,
-        flush: &FLUSH,
+        calls: &C,
     ) -> Happened
-        requires calls { PUT.IsAlwaysCallable put.now × FLUSH.IsAlwaysCallable flush.now }
+        requires calls { C.can_put calls.now × C.can_flush calls.now }
         requires able { IsAble P.sizes (driving_of self.old.lane.session self.old.lane.device.failed
             self.old.lane.device.end self.old.asking.kept self.old.asking.end self.old.asking.pump self.old.wire) }
         ensures answers { line_of (record {
@@ -56,10 +56,10 @@ impl<N: BookName, P: PoolName + Send, S: Source, W: Drop> Driving<N, P, S, W> {
         }) ≡ line }
         ensures recycles { Recycles result self.old.lane.session self.new.lane.session }
         ensures right { (first : Shown W) (events : List LineEvent)
-            → IsUnderWay (sends_by (λ w p r. PUT.post put.now w p r) (λ w r. FLUSH.post flush.now w r))
+            → IsUnderWay (sends_by (C.put_may calls.now) (C.flush_may calls.now))
             P.sizes N.sizes.shards first events (driving_of self.old.lane.session self.old.lane.device.failed
             self.old.lane.device.end self.old.asking.kept self.old.asking.end self.old.asking.pump self.old.wire)
-            → IsUnderWay (sends_by (λ w p r. PUT.post put.now w p r) (λ w r. FLUSH.post flush.now w r))
+            → IsUnderWay (sends_by (C.put_may calls.now) (C.flush_may calls.now))
             P.sizes N.sizes.shards first (events ++ line_event result sent.new.items stored.new.items ∷ []) (driving_of
             self.new.lane.session self.new.lane.device.failed self.new.lane.device.end self.new.asking.kept
             self.new.asking.end self.new.asking.pump self.new.wire) }
@@ -75,37 +75,31 @@ impl<N: BookName, P: PoolName + Send, S: Source, W: Drop> Driving<N, P, S, W> {
             sent,
             stored,
             wire,
-            put,
-            flush,
+            calls,
         );
         self.wire = Some(wire);
         happened
     }
 
     /// Gathers the next reply, without a line.
-    fn gather<PUT: Fn(W, &[u8]) -> (W, bool), FLUSH: Fn(W) -> (W, bool)>(
-        &mut self,
-        pool: &Pool<P>,
-        put: &PUT,
-        flush: &FLUSH,
-    ) -> Happened
-        requires calls { PUT.IsAlwaysCallable put.now × FLUSH.IsAlwaysCallable flush.now }
+    fn gather<C: WireCalls<W>>(&mut self, pool: &Pool<P>, calls: &C) -> Happened
+        requires calls { C.can_put calls.now × C.can_flush calls.now }
         requires ring { device_ring self.old.lane.device.end ≡ self.old.lane.session.ring }
         requires wire { IsSome self.old.wire }
         ensures ring { device_ring self.new.lane.device.end ≡ self.new.lane.session.ring }
         ensures wire { IsSome self.new.wire }
         ensures posted { self.new.lane.session.posted ≡ self.old.lane.session.posted }
         ensures answers { line_of (record { session = 0; event = line_event result [] [] }) ≡ asked.Gather 0 }
-        ensures flushed { (result ≡ Happened.NothingPosted) → FlushesOnly (λ w r. FLUSH.post flush.now w r)
+        ensures flushed { (result ≡ Happened.NothingPosted) → FlushesOnly (C.flush_may calls.now)
             (driving_of self.old.lane.session self.old.lane.device.failed self.old.lane.device.end
             self.old.asking.kept self.old.asking.end self.old.asking.pump self.old.wire)
             (driving_of self.new.lane.session self.new.lane.device.failed self.new.lane.device.end
             self.new.asking.kept self.new.asking.end self.new.asking.pump self.new.wire) }
         ensures right { (first : Shown W) (events : List LineEvent)
-            → IsUnderWay (sends_by (λ w p r. PUT.post put.now w p r) (λ w r. FLUSH.post flush.now w r))
+            → IsUnderWay (sends_by (C.put_may calls.now) (C.flush_may calls.now))
             P.sizes N.sizes.shards first events (driving_of self.old.lane.session self.old.lane.device.failed
             self.old.lane.device.end self.old.asking.kept self.old.asking.end self.old.asking.pump self.old.wire)
-            → IsUnderWay (sends_by (λ w p r. PUT.post put.now w p r) (λ w r. FLUSH.post flush.now w r))
+            → IsUnderWay (sends_by (C.put_may calls.now) (C.flush_may calls.now))
             P.sizes N.sizes.shards first (events ++ line_event result [] [] ∷ []) (driving_of self.new.lane.session
             self.new.lane.device.failed self.new.lane.device.end self.new.asking.kept self.new.asking.end
             self.new.asking.pump self.new.wire) }
@@ -113,42 +107,37 @@ impl<N: BookName, P: PoolName + Send, S: Source, W: Drop> Driving<N, P, S, W> {
         let Some(wire) = self.wire.take() else {
             unreachable!()
         };
-        let (wire, happened) = self.lane.gather(pool, wire, put, flush);
+        let (wire, happened) = self.lane.gather(pool, wire, calls);
         self.wire = Some(wire);
         happened
     }
 
     /// Gathers what is left, without lines, and flushes the wire.
-    pub fn gather_all<PUT: Fn(W, &[u8]) -> (W, bool), FLUSH: Fn(W) -> (W, bool)>(
-        &mut self,
-        pool: &Pool<P>,
-        put: &PUT,
-        flush: &FLUSH,
-    )
-        requires calls { PUT.IsAlwaysCallable put.now × FLUSH.IsAlwaysCallable flush.now }
-        requires going { IsGoing (sends_by (λ w p r. PUT.post put.now w p r) (λ w r. FLUSH.post flush.now w r))
+    pub fn gather_all<C: WireCalls<W>>(&mut self, pool: &Pool<P>, calls: &C)
+        requires calls { C.can_put calls.now × C.can_flush calls.now }
+        requires going { IsGoing (sends_by (C.put_may calls.now) (C.flush_may calls.now))
             P.sizes N.sizes.shards (driving_of self.old.lane.session self.old.lane.device.failed
             self.old.lane.device.end self.old.asking.kept self.old.asking.end self.old.asking.pump self.old.wire) }
         ensures ring { device_ring self.new.lane.device.end ≡ self.new.lane.session.ring }
         ensures wire { IsSome self.new.wire }
         ensures right { (first : Shown W) (events : List LineEvent)
-            → IsUnderWay (sends_by (λ w p r. PUT.post put.now w p r) (λ w r. FLUSH.post flush.now w r))
+            → IsUnderWay (sends_by (C.put_may calls.now) (C.flush_may calls.now))
             P.sizes N.sizes.shards first events (driving_of self.old.lane.session self.old.lane.device.failed
             self.old.lane.device.end self.old.asking.kept self.old.asking.end self.old.asking.pump self.old.wire)
-            → GathersAll (sends_by (λ w p r. PUT.post put.now w p r) (λ w r. FLUSH.post flush.now w r))
+            → GathersAll (sends_by (C.put_may calls.now) (C.flush_may calls.now))
             P.sizes N.sizes.shards first events (driving_of self.new.lane.session self.new.lane.device.failed
             self.new.lane.device.end self.new.asking.kept self.new.asking.end self.new.asking.pump self.new.wire) }
         ensures out { (first : Shown W) (events : List LineEvent)
-            → IsUnderWay (sends_by (λ w p r. PUT.post put.now w p r) (λ w r. FLUSH.post flush.now w r))
+            → IsUnderWay (sends_by (C.put_may calls.now) (C.flush_may calls.now))
             P.sizes N.sizes.shards first events (driving_of self.old.lane.session self.old.lane.device.failed
             self.old.lane.device.end self.old.asking.kept self.old.asking.end self.old.asking.pump self.old.wire)
-            → GathersOut (λ w p r. PUT.post put.now w p r) (λ w r. FLUSH.post flush.now w r) P.sizes N.sizes.shards
+            → GathersOut (C.put_may calls.now) (C.flush_may calls.now) P.sizes N.sizes.shards
             first events (driving_of self.new.lane.session self.new.lane.device.failed self.new.lane.device.end
             self.new.asking.kept self.new.asking.end self.new.asking.pump self.new.wire) }
     {
-        let calls = self.lane.session.calls();
-        for i in 0..u64::from(calls) + 1 {
-            if let Happened::NothingPosted = self.gather(pool, put, flush) {
+        let made = self.lane.session.calls();
+        for i in 0..u64::from(made) + 1 {
+            if let Happened::NothingPosted = self.gather(pool, calls) {
                 return;
             }
         }

@@ -14,6 +14,7 @@ ghost use Rattle.drive_script.specs.Running.{RunsOn};
 ghost use Rattle.drive_script.specs.Shown.{session_shown, device_shown};
 
 use crate::happened::Happened;
+use any_wire::WireCalls;
 use command_exec::Shop;
 use device_model::{Device, Gathered};
 use order_book::BookName;
@@ -34,14 +35,13 @@ where
 
 impl<N: BookName, P: PoolName + Send> Lane<N, P> {
     /// Gathers the next reply, and puts it on the wire.
-    pub fn gather<W: Drop, PUT: Fn(W, &[u8]) -> (W, bool), FLUSH: Fn(W) -> (W, bool)>(
+    pub fn gather<W: Drop, C: WireCalls<W>>(
         &mut self,
         pool: &Pool<P>,
         wire: W,
-        put: &PUT,
-        flush: &FLUSH,
+        calls: &C,
     ) -> (W, Happened)
-        requires calls { PUT.IsAlwaysCallable put.now × FLUSH.IsAlwaysCallable flush.now }
+        requires calls { C.can_put calls.now × C.can_flush calls.now }
         requires ring { device_ring self.old.device.end ≡ self.old.session.ring }
         ensures ring { device_ring self.new.device.end ≡ self.new.session.ring }
         ensures pass { self.new.session.pass ≡ self.old.session.pass }
@@ -51,18 +51,18 @@ impl<N: BookName, P: PoolName + Send> Lane<N, P> {
         ensures lists { (sent stored : List Seg) → line_event result.1 sent stored ≡ line_event result.1 [] [] }
         ensures flushed { (result.1 ≡ Happened.NothingPosted)
             → (completed self.new.device.end ≡ completed self.old.device.end)
-            × Flushes (λ w r. FLUSH.post flush.now w r) self.old.device.failed self.new.device.failed wire result.0 }
+            × Flushes (C.flush_may calls.now) self.old.device.failed self.new.device.failed wire result.0 }
         ensures runs { (given : List Meaning) (end : Option End)
             → RunsOn P.sizes N.sizes.shards given end self.old.session given end self.new.session }
         ensures right { (fixed : Fixed) (start : W) (given : List Meaning) (end : Option End) (events : List LineEvent)
-            → IsLane (sends_by (λ w p r. PUT.post put.now w p r) (λ w r. FLUSH.post flush.now w r)) fixed start
+            → IsLane (sends_by (C.put_may calls.now) (C.flush_may calls.now)) fixed start
             given end events (session_shown P.sizes self.old.session)
             (device_shown self.old.device.failed self.old.device.end) wire
-            → IsLane (sends_by (λ w p r. PUT.post put.now w p r) (λ w r. FLUSH.post flush.now w r)) fixed start
+            → IsLane (sends_by (C.put_may calls.now) (C.flush_may calls.now)) fixed start
             given end (events ++ line_event result.1 [] [] ∷ []) (session_shown P.sizes self.new.session)
             (device_shown self.new.device.failed self.new.device.end) result.0 }
     {
-        let (wire, gathered) = self.device.gather(pool, wire, put, flush);
+        let (wire, gathered) = self.device.gather(pool, wire, calls);
         laws::both_ends(&mut self.session, &mut self.device);
         let happened = match gathered {
             Gathered::Sent { call, bytes } => Happened::Sent { call, bytes },

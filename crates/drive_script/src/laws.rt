@@ -5,7 +5,7 @@ ghost use Rattle.flake_base.specs.declared.segment.Seg.{Seg};
 ghost use Rattle.flake_model.specs.Command.{Command};
 ghost use Rattle.session_pass.specs.Views.{SessionView};
 ghost use Rattle.session_pass.specs.Calls as call;
-ghost use Rattle.drive_model.specs.Calls as line;
+ghost use Rattle.drive_script.specs.Calls as line;
 ghost use Rattle.drive_script.specs.Shown.{session_shown, LiesInPool};
 
 /// A call that posts its reply.

@@ -13,6 +13,7 @@ ghost use Rattle.drive_script.specs.Ran.{HasDriven};
 use crate::asking::Asking;
 use crate::driving::Driving;
 use crate::lane::Lane;
+use any_wire::WireCalls;
 use command_exec::Shop;
 use command_pump::Pump;
 use flake_base::{End, SessionEnd, Source};
@@ -77,31 +78,30 @@ impl<N: BookName, P: PoolName + Send> Lane<N, P> {
 impl<N: BookName, P: PoolName + Send, S: Source, W: Drop> Driving<N, P, S, W> {
     /// Gathers and gives back what is left, without lines, and closes ring and pass. Where no end was said, the session
     /// is left.
-    pub fn leave<PUT: Fn(W, &[u8]) -> (W, bool), FLUSH: Fn(W) -> (W, bool)>(
+    pub fn leave<C: WireCalls<W>>(
         self,
         shop: &Shop<'_, N, P>,
-        put: &PUT,
-        flush: &FLUSH,
+        calls: &C,
     ) -> DrivenAccount<N, P, S, W>
-        requires calls { PUT.IsAlwaysCallable put.now × FLUSH.IsAlwaysCallable flush.now }
-        requires going { IsGoing (sends_by (λ w p r. PUT.post put.now w p r) (λ w r. FLUSH.post flush.now w r))
+        requires calls { C.can_put calls.now × C.can_flush calls.now }
+        requires going { IsGoing (sends_by (C.put_may calls.now) (C.flush_may calls.now))
             P.sizes N.sizes.shards (driving_of self.lane.session self.lane.device.failed self.lane.device.end
             self.asking.kept self.asking.end self.asking.pump self.wire) }
         ensures left { (first : Shown W) (events : List LineEvent)
-            → IsUnderWay (sends_by (λ w p r. PUT.post put.now w p r) (λ w r. FLUSH.post flush.now w r))
+            → IsUnderWay (sends_by (C.put_may calls.now) (C.flush_may calls.now))
             P.sizes N.sizes.shards first events (driving_of self.lane.session self.lane.device.failed
             self.lane.device.end self.asking.kept self.asking.end self.asking.pump self.wire)
-            → HasLeft (sends_by (λ w p r. PUT.post put.now w p r) (λ w r. FLUSH.post flush.now w r)) P.sizes first
+            → HasLeft (sends_by (C.put_may calls.now) (C.flush_may calls.now)) P.sizes first
             events result.end result.mine result.pump result.wire }
         ensures driven { (first : Shown W) (events : List LineEvent)
-            → IsUnderWay (sends_by (λ w p r. PUT.post put.now w p r) (λ w r. FLUSH.post flush.now w r))
+            → IsUnderWay (sends_by (C.put_may calls.now) (C.flush_may calls.now))
             P.sizes N.sizes.shards first events (driving_of self.lane.session self.lane.device.failed
             self.lane.device.end self.asking.kept self.asking.end self.asking.pump self.wire)
-            → HasDriven (λ w p r. PUT.post put.now w p r) (λ w r. FLUSH.post flush.now w r) P.sizes N.sizes.shards first
+            → HasDriven (C.put_may calls.now) (C.flush_may calls.now) P.sizes N.sizes.shards first
             events result.end result.mine result.seat result.pump result.wire }
     {
         let mut driving = self;
-        driving.gather_all(shop.pool, put, flush);
+        driving.gather_all(shop.pool, calls);
         let Driving { lane, asking, wire } = driving;
         let Asking { pump, kept: _, end } = asking;
         let Some(wire) = wire else { unreachable!() };

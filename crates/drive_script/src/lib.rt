@@ -1,4 +1,5 @@
-//! Sessions that are driven line by line, as a schedule asks.
+//! Sessions that are driven line by line, as a schedule asks; what a session and its device show meanwhile, and why
+//! each line is right then.
 #![tactic(auto)]
 
 mod acting;
@@ -10,6 +11,7 @@ mod happened;
 mod lane;
 pub mod laws;
 mod leaving;
+pub mod line_laws;
 mod lines;
 mod saying;
 mod telling;

@@ -7,6 +7,7 @@ ghost use Rattle.drive_script.specs.Says.{text_room};
 
 use crate::driving::Driving;
 use crate::saying::{LineRoom, say_line};
+use any_wire::WireCalls;
 use command_exec::Shop;
 use flake_base::{Host, Source};
 use order_book::BookName;
@@ -22,8 +23,7 @@ pub fn drive_lines<
     S: Source,
     W: Drop,
     H: Host,
-    PUT: Fn(W, &[u8]) -> (W, bool),
-    FLUSH: Fn(W) -> (W, bool),
+    C: WireCalls<W>,
 >(
     rt: &R,
     shop: &Shop<'_, N, P>,
@@ -31,16 +31,15 @@ pub fn drive_lines<
     sessions: &mut Vec<Driving<N, P, S, W>>,
     room: &mut LineRoom,
     host: &mut H,
-    put: &PUT,
-    flush: &FLUSH,
+    calls: &C,
 ) -> bool
-    requires calls { PUT.IsAlwaysCallable put.now × FLUSH.IsAlwaysCallable flush.now }
+    requires calls { C.can_put calls.now × C.can_flush calls.now }
     requires there { All (λ line. line_session line < length sessions.old.items) schedule.now }
     requires room { text_room ≤ vec_capacity room.old.text }
-    requires fresh { AreFresh (sends_by (λ w p r. PUT.post put.now w p r) (λ w r. FLUSH.post flush.now w r))
+    requires fresh { AreFresh (sends_by (C.put_may calls.now) (C.flush_may calls.now))
         P.sizes N.sizes.shards (map (λ d. driving_of d.lane.session d.lane.device.failed d.lane.device.end d.asking.kept
         d.asking.end d.asking.pump d.wire) sessions.old.items) }
-    ensures driven { WereDriven (sends_by (λ w p r. PUT.post put.now w p r) (λ w r. FLUSH.post flush.now w r))
+    ensures driven { WereDriven (sends_by (C.put_may calls.now) (C.flush_may calls.now))
         P.sizes N.sizes.shards (map (λ d. driving_of d.lane.session d.lane.device.failed d.lane.device.end d.asking.kept
         d.asking.end d.asking.pump d.wire) sessions.old.items) schedule.now (map (λ d. driving_of d.lane.session
         d.lane.device.failed d.lane.device.end d.asking.kept d.asking.end d.asking.pump d.wire) sessions.new.items)
@@ -56,8 +55,7 @@ pub fn drive_lines<
             *line,
             &mut room.sent,
             &mut room.stored,
-            put,
-            flush,
+            calls,
         );
         failed = say_line(host, failed, room, session, happened);
     }

@@ -2,7 +2,7 @@
 ghost use Rattle.std.specs.Prelude.{◌<◌, ◌≤◌, ◌++◌, ◌∷◌, [], IfOk, length, vec_capacity};
 ghost use Rattle.std.specs.List.{flat_map};
 ghost use Rattle.transcript_model.specs.Lines.{transcript_line, segment_text, stored_text};
-ghost use Rattle.transcript_text.specs.Told.{said, line_room};
+ghost use Rattle.transcript_model.specs.Told.{said, line_room};
 ghost use Rattle.drive_script.specs.Happened.{line_event};
 ghost use Rattle.drive_script.specs.Says.{PrintsText, text_room};
 
@@ -10,7 +10,7 @@ use crate::happened::Happened;
 use crate::telling::tell;
 use flake_base::{Host, Memory, Seg};
 use std::alloc::Global;
-use transcript_text as line;
+use transcript_model as line;
 
 /// The segments and fragments of a line that is said at once. Longer lines are said in pieces.
 const MOST_SEGMENTS: usize = 4095;

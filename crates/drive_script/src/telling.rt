@@ -1,12 +1,12 @@
 // What is said of a line.
 ghost use Rattle.std.specs.Prelude.{◌≡◌, ◌+◌, ◌*◌, ◌≤◌, length, vec_capacity};
 ghost use Rattle.transcript_model.specs.Lines.{transcript_line};
-ghost use Rattle.transcript_text.specs.Told.{said, line_room};
+ghost use Rattle.transcript_model.specs.Told.{said, line_room};
 ghost use Rattle.drive_script.specs.Happened.{line_event};
 
 use crate::happened::Happened;
 use flake_base::Seg;
-use transcript_text as line;
+use transcript_model as line;
 
 /// Writes the line of what happened to a session, in the place of what stands there. Where a call was posted, `sent`
 /// are its segments, and `stored` the fragments that were stored.

@@ -10,7 +10,7 @@ use Rattle.any_wire.specs.Texts.{Sending, WireGrew}
 use Rattle.transcript_model.specs.Sessions.{texts_of}
 use Rattle.transcript_model.specs.Transcript.{DrivenRun, IsToldBy, terms_of}
 use Rattle.transcript_model.proofs.Sourced.{sourced}
-use Rattle.wire_told.specs.Sent.{WasSentByPuts}
+use Rattle.any_wire.specs.Sent.{WasSentByPuts}
 use Rattle.drive_told.specs.Together.{AreTold, TranscriptTold}
 use Rattle.drive_told.proofs.Lists.{behind_map}
 

@@ -19,7 +19,7 @@ use Rattle.transcript_model.specs.Lines.{EventLine, line_of}
 use Rattle.any_wire.specs.Texts.{Sending}
 use Rattle.transcript_model.specs.Sources.{AreSources}
 use Rattle.transcript_model.specs.Transcript.{DrivenRun, AreAllApart, transcript_places, IsToldBy, IsTranscript}
-use Rattle.wire_told.specs.Sent.{WasSentByPuts}
+use Rattle.any_wire.specs.Sent.{WasSentByPuts}
 use Rattle.drive_told.specs.Closed.{WereClosed}
 use Rattle.drive_told.specs.Driven.{OneDriven, AreDriven}
 

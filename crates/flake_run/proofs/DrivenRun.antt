@@ -11,7 +11,7 @@ use Rattle.transcript_model.specs.Transcript.{IsTranscript}
 use Rattle.drive_inputs.proofs.Told.{transcript_told}
 use Rattle.drive_inputs.specs.Drove.{DroveInputs}
 use Rattle.drive_told.specs.Together.{driven_run}
-use Rattle.wire_told.specs.Sent.{AreTold}
+use Rattle.any_wire.specs.Sent.{AreTold}
 use Rattle.flake_run.specs.Driven.{IsDrivenRun}
 use Rattle.flake_run.proofs.Served.{run_told, run_sessions}
 

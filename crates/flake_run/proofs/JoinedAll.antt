@@ -8,11 +8,11 @@ use Rattle.flake_base.specs.Calls.{counted}
 use Rattle.flake_base.specs.Told.{HostTold, WireTold}
 use Rattle.flake_model.specs.Wire.{FaultsAre, KeptAre, KeptIs, WiresGrew}
 use Rattle.mtu_frames.specs.Joining.{Joining, replies}
-use Rattle.wire_told.specs.Sent.{WasSent}
+use Rattle.any_wire.specs.Sent.{WasSent}
 use Rattle.join_files.specs.Source.{IsJoinerOf}
 use Rattle.join_files.specs.declared.error.JoinError.{JoinError}
 use Rattle.join_files.specs.declared.error.JoinError.TheVariants as errors
-use Rattle.serve_words.specs.Join.{AreJoinNumbers, Join}
+use Rattle.command_line.specs.Join.{AreJoinNumbers, Join}
 use Rattle.flake_run.specs.Checked.{ConcludesBy, IsConcluded, IsStatus, NoneOpened}
 use Rattle.flake_run.specs.Joined.{CameOfFrames, FileFailsToOpen, FileUnjoined, IsJoinable, IsJoinStatus, IsPutOnFirst}
 use Rattle.flake_run.specs.Joined.{IsSourceOf}

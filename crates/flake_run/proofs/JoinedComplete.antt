@@ -18,7 +18,7 @@ use Rattle.join_files.specs.Texts.{AreFramesOf, AreJoinedTo}
 use Rattle.join_files.specs.declared.error.JoinError.{JoinError}
 use Rattle.join_files.specs.declared.error.JoinError.TheVariants as errors
 use Rattle.join_files.proofs.Texts.{joins_frames}
-use Rattle.serve_words.specs.Join.{AreJoinNumbers, Join}
+use Rattle.command_line.specs.Join.{AreJoinNumbers, Join}
 use Rattle.flake_run.specs.Causes.{SomeWireFailed}
 use Rattle.flake_run.specs.Checked.{IsStatus}
 use Rattle.flake_run.specs.Joined.{AreFramesFor, FileFailsToOpen, FileUnjoined, IsSourceOf, JoinedFile, MayJoin}

@@ -23,9 +23,9 @@ use Rattle.serve_model.specs.Replies.{all_replies, all_replies_from}
 use Rattle.serve_inputs.specs.Whole.{SentWhole, raised}
 use Rattle.run_resources.specs.Opened.{pool_sizes}
 use Rattle.run_resources.specs.Ran.{AllWhole}
-use Rattle.wire_told.specs.Sent.{AreTold}
-use Rattle.wire_told.proofs.Sent.{sent_by_puts}
-use Rattle.gen_words.specs.declared.task.GenTask.{GenTask}
+use Rattle.any_wire.specs.Sent.{AreTold}
+use Rattle.any_wire.proofs.Sent.{sent_by_puts}
+use Rattle.command_line.specs.declared.generate_task.GenTask.{GenTask}
 use Rattle.serve_generated.specs.Generated.{AreFronts, IsTooMuch, RanGenerated, inputs_of, generated_sizes}
 use Rattle.flake_run.specs.Causes.{highest_by, status_by, SomeWireFailed}
 use Rattle.flake_run.specs.Generated.{AllInWhole, Generated, IsGeneratedRun, IsUngenerated, SentInWhole, texts_length}

@@ -5,16 +5,16 @@ use Rattle.std.specs.Global.{Global}
 use Rattle.flake_base.specs.Roomy.{Roomy}
 use Rattle.flake_base.specs.declared.journal.Entry.{Entry}
 use Rattle.flake_base.specs.declared.session.SessionEnd.{SessionEnd}
-use Rattle.gen_words.specs.Task.{generated_task_of}
+use Rattle.command_line.specs.GenerateTask.{generated_task_of}
 use Rattle.pin_core.specs.declared.class.Held.{Held}
 use Rattle.pinned_pool.specs.Ends.{End as PoolEnd}
 use Rattle.serve_inputs.specs.Dumped.{DumpTold, no_dump}
-use Rattle.serve_words.specs.Check.{check_of}
-use Rattle.serve_words.specs.Join.{join_of}
-use Rattle.serve_words.specs.Named.{name_of}
-use Rattle.serve_words.specs.Task.{word_texts}
-use Rattle.serve_words.specs.declared.named.CommandName.{CommandName}
-use Rattle.serve_words.specs.declared.named.CommandName.TheVariants.{Check, Gen, Drive, Join}
+use Rattle.command_line.specs.Check.{check_of}
+use Rattle.command_line.specs.Join.{join_of}
+use Rattle.command_line.specs.Named.{name_of}
+use Rattle.command_line.specs.Task.{word_texts}
+use Rattle.command_line.specs.declared.named.CommandName.{CommandName}
+use Rattle.command_line.specs.declared.named.CommandName.TheVariants.{Check, Gen, Drive, Join}
 use Rattle.flake_run.specs.Checked.{Checked}
 use Rattle.flake_run.specs.Does.{CommandDoes, RunDoes}
 use Rattle.flake_run.specs.DriveTask.{drive_job_of}

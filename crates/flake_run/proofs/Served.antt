@@ -17,8 +17,8 @@ use Rattle.run_resources.specs.Ran.{AllSent}
 use Rattle.serve_inputs.specs.Dumped.{DumpTold, IsDumpTold, dump_texts, no_dump}
 use Rattle.serve_inputs.specs.Ran.{RanAll}
 use Rattle.serve_model.specs.Shown.{WasRun}
-use Rattle.wire_told.specs.Sent.{WasSent, AreTold}
-use Rattle.wire_told.proofs.Sent.{sends_told, flush_told}
+use Rattle.any_wire.specs.Sent.{WasSent, AreTold}
+use Rattle.any_wire.proofs.Sent.{sends_told, flush_told}
 use Rattle.flake_run.specs.Dumping.{dump_failed, puts_failed}
 use Rattle.serve_inputs.specs.Wires.{framed_wire, sent_on_wires}
 use Rattle.serve_model.specs.Replies.{all_replies_from}

@@ -1,14 +1,14 @@
 -- What a run does, by the command that its words name.
 use Rattle.std.specs.Prelude.{◌≡◌, ◌≢◌, List, [], String}
 use Rattle.std.specs.Global.{Global}
-use Rattle.gen_words.specs.Task.{generated_task_of}
+use Rattle.command_line.specs.GenerateTask.{generated_task_of}
 use Rattle.serve_inputs.specs.Dumped.{no_dump}
-use Rattle.serve_words.specs.Check.{check_of}
-use Rattle.serve_words.specs.Join.{join_of}
-use Rattle.serve_words.specs.Named.{name_of}
-use Rattle.serve_words.specs.Task.{word_texts}
-use Rattle.serve_words.specs.declared.named.CommandName.{CommandName}
-use Rattle.serve_words.specs.declared.named.CommandName.TheVariants.{Serve, Frames, Check, Gen, Drive, Join}
+use Rattle.command_line.specs.Check.{check_of}
+use Rattle.command_line.specs.Join.{join_of}
+use Rattle.command_line.specs.Named.{name_of}
+use Rattle.command_line.specs.Task.{word_texts}
+use Rattle.command_line.specs.declared.named.CommandName.{CommandName}
+use Rattle.command_line.specs.declared.named.CommandName.TheVariants.{Serve, Frames, Check, Gen, Drive, Join}
 use Rattle.flake_run.specs.Task.{RunTask, run_task_of}
 use Rattle.flake_run.specs.DriveTask.{drive_job_of}
 use Rattle.flake_run.specs.Outside.{Outside}

@@ -3,9 +3,9 @@ use Rattle.std.specs.Prelude.{ℕ, ◌<◌, List, Option, Some, None, String, le
 use Rattle.std.specs.Global.{Global}
 use Rattle.std.specs.Option.{option_map}
 use Rattle.run_resources.specs.declared.sizes.RunSizes.{RunSizes}
-use Rattle.serve_words.specs.Drive as words
-use Rattle.serve_words.specs.Task.{word_texts}
-use Rattle.serve_words.specs.declared.drive.DriveTask.{DriveTask}
+use Rattle.command_line.specs.Drive as words
+use Rattle.command_line.specs.Task.{word_texts}
+use Rattle.command_line.specs.declared.drive.DriveTask.{DriveTask}
 use Rattle.flake_run.specs.Outside.{Outside}
 use Rattle.flake_run.specs.Task.{run_sizes}
 

@@ -19,8 +19,8 @@ use Rattle.serve_model.specs.Replies.{all_replies}
 use Rattle.serve_model.specs.Shown.{IsCounted}
 use Rattle.serve_inputs.specs.Whole.{raised}
 use Rattle.run_resources.specs.Opened.{pool_sizes}
-use Rattle.wire_told.specs.Sent.{WasSentByPuts}
-use Rattle.gen_words.specs.declared.task.GenTask.{GenTask}
+use Rattle.any_wire.specs.Sent.{WasSentByPuts}
+use Rattle.command_line.specs.declared.generate_task.GenTask.{GenTask}
 use Rattle.serve_generated.specs.Generated.{AreFronts, HadMemory, IsTooMuch, commands_in_all, inputs_of}
 use Rattle.serve_generated.specs.Generated.{generated_sizes}
 use Rattle.flake_run.specs.Causes.{SomeWireFailed, status_by, highest_by}

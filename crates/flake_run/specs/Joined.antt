@@ -6,12 +6,12 @@ use Rattle.flake_base.specs.Causes.{Rose}
 use Rattle.flake_base.specs.Told.{HostTold, WireTold}
 use Rattle.flake_model.specs.Wire.{FaultsAre, KeptAre, KeptIs, WiresGrew}
 use Rattle.mtu_frames.specs.Joining.{Joining, replies}
-use Rattle.wire_told.specs.Sent.{WasSent}
+use Rattle.any_wire.specs.Sent.{WasSent}
 use Rattle.join_files.specs.Source.{IsJoinerOf, IsUnjoined, join_limit}
 use Rattle.join_files.specs.Texts.{AreFramesOf}
 use Rattle.join_files.specs.declared.error.JoinError.{JoinError}
 use Rattle.join_files.specs.declared.error.JoinError.TheVariants as errors
-use Rattle.serve_words.specs.Join.{Join}
+use Rattle.command_line.specs.Join.{Join}
 use Rattle.flake_run.specs.Causes.{SomeWireFailed}
 use Rattle.flake_run.specs.Checked.{ConcludesBy, IsConcluded, NoneOpened}
 use Rattle.flake_run.specs.Opening.{AllOpened, IsUnopened}

@@ -5,12 +5,12 @@ use Rattle.std.specs.Option.{option_and_then, option_map, option_map_or}
 use Rattle.pin_core.specs.declared.sizes.Sizes as pool
 use Rattle.run_resources.specs.Opened.{dump_wires, pool_sizes}
 use Rattle.run_resources.specs.declared.sizes.RunSizes.{RunSizes}
-use Rattle.serve_words.specs.Frames.{FramesRequest, frames_request_of}
-use Rattle.serve_words.specs.Named.{name_of}
-use Rattle.serve_words.specs.Task as words
-use Rattle.serve_words.specs.declared.named.CommandName.{CommandName}
-use Rattle.serve_words.specs.declared.named.CommandName.TheVariants.{Frames}
-use Rattle.serve_words.specs.declared.sizes.Sizes as typed
+use Rattle.command_line.specs.Frames.{FramesRequest, frames_request_of}
+use Rattle.command_line.specs.Named.{name_of}
+use Rattle.command_line.specs.Task as words
+use Rattle.command_line.specs.declared.named.CommandName.{CommandName}
+use Rattle.command_line.specs.declared.named.CommandName.TheVariants.{Frames}
+use Rattle.command_line.specs.declared.sizes.SizeOptions as typed
 use Rattle.flake_run.specs.declared.words.FilesTask.{FilesTask}
 
 -- the names of the files that are to be served, the sizes to serve them with, how many workers do it, and whether the
@@ -25,7 +25,7 @@ pub record Job : Type 0 where
 abbrev pub RunTask : Type 0
 RunTask = Option Job
 
-abbrev pub run_sizes : Option ℕ → typed.Sizes → RunSizes
+abbrev pub run_sizes : Option ℕ → typed.SizeOptions → RunSizes
 run_sizes dump sizes = record {
   shards = sizes.shards;
   small = sizes.small;
@@ -37,7 +37,7 @@ run_sizes dump sizes = record {
 }
 
 -- those of a run whose replies go as frames of at most so many bytes
-abbrev pub framed_sizes : ℕ → typed.Sizes → RunSizes
+abbrev pub framed_sizes : ℕ → typed.SizeOptions → RunSizes
 framed_sizes mtu sizes = record (run_sizes None sizes) { mtu = Some mtu }
 
 abbrev pub job_of : words.Task → Job

@@ -1,7 +1,7 @@
 // The command `check`, over any host.
 ghost use Rattle.std.specs.Prelude.{◌≡◌, ◌<◌, [], length};
-ghost use Rattle.serve_words.specs.Check.{check_of};
-ghost use Rattle.serve_words.specs.Task.{word_texts};
+ghost use Rattle.command_line.specs.Check.{check_of};
+ghost use Rattle.command_line.specs.Task.{word_texts};
 ghost use Rattle.serve_inputs.specs.Dumped.{dump_told, no_dump};
 ghost use Rattle.flake_run.specs.Outside.{LeavesFiles, outside};
 ghost use Rattle.flake_run.specs.Outcome.{done, opened_told, source_told};
@@ -13,8 +13,8 @@ use crate::finding::{Finding, finding_text, found_by};
 use crate::outcome::{Outcome, Refusal};
 use crate::tell::{refuse, tell};
 use check_files::check_named;
+use command_line::check_task;
 use flake_base::{Failed, Host, Memory, Source, Wire};
-use serve_words::check_task;
 use std::alloc::Global;
 
 // Says a text of what was found; answers the status.

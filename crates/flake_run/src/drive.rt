@@ -19,12 +19,12 @@ use crate::opening::{numbered, numbered_behind, open_files};
 use crate::outcome::{Detail, Opened, Outcome, Refusal};
 use crate::tell::{drive_status, refuse};
 use crate::words::sizes_of;
+use command_line::drive_task;
 use drive_inputs::{HELD_ROOM, held_line};
 use flake_base::{Host, Memory, Source, Wire};
 use pin_core::Held;
 use run_resources::RunSizes;
 use serve_inputs::DumpEnd;
-use serve_words::drive_task;
 use std::alloc::Global;
 use std::sync::Wait;
 

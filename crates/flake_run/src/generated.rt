@@ -1,10 +1,10 @@
 // Generated requests, from the words to what is said.
 ghost use Rattle.std.specs.Prelude.{◌≡◌, ◌≤◌, ◌<◌, length, map, IfOk, IfErr};
 ghost use Rattle.flake_base.specs.Histories.{histories};
-ghost use Rattle.serve_words.specs.Task.{word_texts};
-ghost use Rattle.gen_words.specs.Task.{IsAllowedGenerated, generated_task_of};
+ghost use Rattle.command_line.specs.Task.{word_texts};
+ghost use Rattle.command_line.specs.GenerateTask.{IsAllowedGenerated, generated_task_of};
 ghost use Rattle.serve_generated.specs.Generated.{IsTooMuch};
-ghost use Rattle.wire_told.specs.Sent.{PutIs, FlushIs};
+ghost use Rattle.any_wire.specs.Sent.{PutIs, FlushIs};
 ghost use Rattle.serve_inputs.specs.Dumped.{dump_told, no_dump};
 ghost use Rattle.flake_run.specs.Outside.{outside};
 ghost use Rattle.flake_run.specs.Outcome.{done, opened_told, source_told};
@@ -14,8 +14,9 @@ use crate::outcome::{Detail, Outcome, Refusal};
 use crate::source::{flush, put};
 use crate::tell::{refuse, report_total};
 use crate::total::sum_of;
+use any_wire::Calls;
+use command_line::{GenTask, gen_task};
 use flake_base::{Host, Memory, Wire};
-use gen_words::{GenTask, gen_task};
 use report_text::REPORT_ROOM;
 use serve_generated::{GeneratedRefusal, InputSource, serve_generated};
 use serve_inputs::{DumpEnd, Served};
@@ -49,12 +50,14 @@ fn serve_requests<R: Threads + Wait + Sync, G: Gate>(
         task,
         wires,
         gate,
-        &|w: Box<dyn Wire>, piece: &[u8]| -> (Box<dyn Wire>, bool)
-            ensures { 0 < length piece.now → PutIs result.1 piece.now (wire_told w) (wire_told result.0) }
-        { put(w, piece) },
-        &|w: Box<dyn Wire>| -> (Box<dyn Wire>, bool)
-            ensures { FlushIs result.1 (wire_told w) (wire_told result.0) }
-        { flush(w) },
+        &Calls {
+            put: |w: Box<dyn Wire>, piece: &[u8]| -> (Box<dyn Wire>, bool)
+                ensures { 0 < length piece.now → PutIs result.1 piece.now (wire_told w) (wire_told result.0) }
+            { put(w, piece) },
+            flush: |w: Box<dyn Wire>| -> (Box<dyn Wire>, bool)
+                ensures { FlushIs result.1 (wire_told w) (wire_told result.0) }
+            { flush(w) },
+        },
     );
     match served {
         Ok(served) => Ok(served),

@@ -2,8 +2,8 @@
 ghost use Rattle.std.specs.Prelude.{◌≡◌, ◌<◌, ◌≤◌, ◌∷◌, [], if◌then◌else◌, length, vec_capacity};
 ghost use Rattle.std.specs.List.{AllByRecursion};
 ghost use Rattle.mtu_frames.specs.Joining.{IsWhole, replies};
-ghost use Rattle.serve_words.specs.Join.{join_of, shown_join};
-ghost use Rattle.serve_words.specs.Task.{word_texts};
+ghost use Rattle.command_line.specs.Join.{join_of, shown_join};
+ghost use Rattle.command_line.specs.Task.{word_texts};
 ghost use Rattle.serve_inputs.specs.Dumped.{dump_told, no_dump};
 ghost use Rattle.flake_run.specs.Joined.{CameOfFrames, IsPutOnFirst, Joined, finding_of};
 ghost use Rattle.flake_run.specs.Outcome.{GaveFront, IsUntouched, done, opened_told, source_told, sources_of};
@@ -13,10 +13,10 @@ use crate::check::conclude;
 use crate::finding::Finding;
 use crate::outcome::{Detail, Opened, Outcome, Refusal, SERVED, WRITE_FAULT};
 use crate::tell::refuse;
+use command_line::{JoinTask, join_task};
 use flake_base::{Failed, Host, Memory, Source, Wire};
 use join_files::{JoinError, join_source, put_joined};
 use mtu_frames::Joiner;
-use serve_words::{JoinTask, join_task};
 use std::alloc::Global;
 
 // What it is that replies are not put together. The file has number 0.

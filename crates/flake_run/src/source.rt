@@ -5,8 +5,9 @@ ghost use Rattle.flake_run.specs.Serving.{IsDumpingRun};
 ghost use Rattle.run_resources.specs.Opened.{HasRunSizes, dump_wires, pool_sizes};
 ghost use Rattle.run_resources.specs.Ran.{AreReads};
 ghost use Rattle.serve_inputs.specs.Dumped.{dump_told};
-ghost use Rattle.wire_told.specs.Sent.{PutIs, FlushIs};
+ghost use Rattle.any_wire.specs.Sent.{PutIs, FlushIs};
 
+use any_wire::Calls;
 use flake_base::{End, Source, Wire};
 use serve_inputs::{RunSizes, Served, serve_inputs};
 use session_pass::Gate;
@@ -73,12 +74,14 @@ pub fn serve_sources<R: Threads + Wait + Sync, S: Source + Send + Drop, G: Gate>
         sources,
         wires,
         gate,
-        &|w: Box<dyn Wire>, piece: &[u8]| -> (Box<dyn Wire>, bool)
-            ensures { 0 < length piece.now → PutIs result.1 piece.now (wire_told w) (wire_told result.0) }
-        { put(w, piece) },
-        &|w: Box<dyn Wire>| -> (Box<dyn Wire>, bool)
-            ensures { FlushIs result.1 (wire_told w) (wire_told result.0) }
-        { flush(w) },
+        &Calls {
+            put: |w: Box<dyn Wire>, piece: &[u8]| -> (Box<dyn Wire>, bool)
+                ensures { 0 < length piece.now → PutIs result.1 piece.now (wire_told w) (wire_told result.0) }
+            { put(w, piece) },
+            flush: |w: Box<dyn Wire>| -> (Box<dyn Wire>, bool)
+                ensures { FlushIs result.1 (wire_told w) (wire_told result.0) }
+            { flush(w) },
+        },
     );
     match served {
         Ok(served) => Ok(served),

@@ -2,13 +2,13 @@
 ghost use Rattle.std.specs.Prelude.{◌≡◌, ◌<◌, ◌≤◌, length, IfOk, IfSome};
 ghost use Rattle.std.specs.Option.{option_map};
 ghost use Rattle.run_resources.specs.Opened.{HasRunSizes};
-ghost use Rattle.serve_words.specs.Frames.{CanServeFrames, shown_frames};
-ghost use Rattle.serve_words.specs.Task.{IsAllowed, task_shown};
+ghost use Rattle.command_line.specs.Frames.{CanServeFrames, shown_frames};
+ghost use Rattle.command_line.specs.Task.{IsAllowed, task_shown};
 ghost use Rattle.flake_run.specs.Task.{framed_job_of, job_of, shown_task, run_sizes, run_task_of, wires_of};
 
+use command_line::{CommandName, FramesTask, ServeTask, command_name, frames_task, serve_task};
 use flake_base::Memory;
 use serve_inputs::RunSizes;
-use serve_words::{CommandName, FramesTask, ServeTask, command_name, frames_task, serve_task};
 use std::alloc::Global;
 
 /// The files that are to be served, the sizes to serve them with, how many workers do it, and whether the journal is
@@ -84,7 +84,7 @@ fn framed_task<'a>(task: FramesTask<'a>) -> FilesTask<'a>
 }
 
 /// The sizes of a run, which dumps all shards before this call, if it is to.
-pub(crate) fn sizes_of(dump: Option<u32>, sizes: &serve_words::Sizes) -> RunSizes
+pub(crate) fn sizes_of(dump: Option<u32>, sizes: &command_line::SizeOptions) -> RunSizes
     ensures { result ≡ run_sizes dump sizes.now }
 {
     RunSizes {

@@ -4,7 +4,7 @@ use Rattle.flake_base.specs.Causes.{Rose}
 use Rattle.flake_base.specs.Growth.{Grew}
 use Rattle.flake_base.specs.Told.{WireTold}
 use Rattle.mtu_frames.specs.Puts.{WasPut}
-use Rattle.wire_told.specs.Sent.{FlushIs, WasSent}
+use Rattle.any_wire.specs.Sent.{FlushIs, WasSent}
 
 -- a put failed, and nothing more was done
 pub not_put : (text : List ℕ) (old new : WireTold) → WasPut true text old new → WasSent true text old new

@@ -2,7 +2,7 @@
 ghost use Rattle.std.specs.Prelude.{not};
 ghost use Rattle.flake_model.specs.Wire.{KeptIs};
 ghost use Rattle.mtu_frames.specs.Joining.{IsWhole, replies};
-ghost use Rattle.wire_told.specs.Sent.{FlushIs, WasSent};
+ghost use Rattle.any_wire.specs.Sent.{FlushIs, WasSent};
 
 use flake_base::{Failed, Wire};
 use mtu_frames::Joiner;

@@ -10,7 +10,7 @@ use crate::giving::give_back;
 use crate::pairs::put_pairs;
 use crate::sizes::pairs_size;
 use crate::taking::take_all;
-use any_wire::flush_unless_failed;
+use any_wire::{WireCalls, flush_unless_failed};
 use flake_base::Memory;
 use order_book::{Book, BookName, SessionSeat};
 use pinned_pool::{Pool, PoolName, PoolSeat};
@@ -122,18 +122,17 @@ impl<P: PoolName> Dump<P> {
 
     /// Puts the text, in pieces of at most 512 bytes and nothing after a failed put, and flushes the wire. All holds
     /// are given back. It takes no memory.
-    pub fn write<W: Drop, Q: Fn(W, &[u8]) -> (W, bool), F: Fn(W) -> (W, bool)>(
+    pub fn write<W: Drop, C: WireCalls<W>>(
         self,
         pool: &Pool<P>,
         wire: W,
-        put: &Q,
-        flush: &F,
+        calls: &C,
     ) -> (W, Written<P>)
-        requires puts { Q.IsAlwaysCallable put.now }
-        requires flushes { F.IsAlwaysCallable flush.now }
-        ensures puts { Sends (λ w p r. Q.post put.now w p r) (λ w r. F.post flush.now w r) false result.1.failed
+        requires puts { C.can_put calls.now }
+        requires flushes { C.can_flush calls.now }
+        ensures puts { Sends (C.put_may calls.now) (C.flush_may calls.now) false result.1.failed
             self.text wire result.0 }
-        ensures flushed { PutsAndFlushes (λ w p r. Q.post put.now w p r) (λ w r. F.post flush.now w r)
+        ensures flushed { PutsAndFlushes (C.put_may calls.now) (C.flush_may calls.now)
             result.1.failed self.text wire result.0 }
         ensures points { result.1.points.items ≡ self.points }
         ensures bytes { result.1.bytes ≡ length self.text }
@@ -145,8 +144,8 @@ impl<P: PoolName> Dump<P> {
             points,
             len,
         } = self;
-        let (put_all, failed) = put_pairs(pool, &mut seat, pairs.as_slice(), wire, false, put);
-        let (flushed, failed) = flush_unless_failed(put_all, failed, flush);
+        let (put_all, failed) = put_pairs(pool, &mut seat, pairs.as_slice(), wire, false, calls);
+        let (flushed, failed) = flush_unless_failed(put_all, failed, calls);
         let seat = emptied(pool, seat, pairs);
         let written = Written {
             points,

@@ -3,6 +3,7 @@ ghost use Rattle.std.specs.Prelude.{OnOk};
 ghost use Rattle.tx_ring.specs.Changes.{IsPosted};
 ghost use Rattle.tx_ring.specs.Shown.{driver_view};
 
+use any_wire::Calls;
 use device_model::{Device, Gathered};
 use flake_base::{Memory, Wire};
 use pinned_pool::{Pool, PoolName};
@@ -39,8 +40,10 @@ pub fn send<N: PoolName + Send>(
     let (wire, found) = device.gather(
         pool,
         wire,
-        &|wire: Box<dyn Wire>, piece: &[u8]| put(wire, piece),
-        &|wire: Box<dyn Wire>| flush(wire),
+        &Calls {
+            put: |wire: Box<dyn Wire>, piece: &[u8]| put(wire, piece),
+            flush: |wire: Box<dyn Wire>| flush(wire),
+        },
     );
     match found {
         Gathered::Sent { bytes, .. } => Ok((wire, bytes)),

@@ -12,6 +12,3 @@ pub use journal::say_journal;
 pub use put::REPORT_ROOM;
 pub use summary::put_summary;
 pub use total::put_total;
-
-#[cfg(test)]
-mod tests;

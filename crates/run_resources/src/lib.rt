@@ -2,6 +2,7 @@
 //! 16 sources a ring, a session and a device. What the closing says of sessions that ran stands in one record.
 #![tactic(auto)]
 
+mod blanks;
 mod closing;
 mod passing;
 mod resources;
@@ -9,6 +10,7 @@ mod seating;
 mod sizes;
 mod slot;
 
+pub use blanks::RunBlanks;
 pub use closing::{Closed, close_all};
 pub use passing::SESSION_CREDITS;
 pub use resources::{RunResources, open_resources};

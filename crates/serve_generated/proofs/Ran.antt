@@ -18,7 +18,7 @@ use Rattle.pinned_pool.specs.Ends.{End}
 use Rattle.serve_model.specs.Demand.{demand_of}
 use Rattle.serve_model.proofs.Complete.{complete}
 use Rattle.request_gen.specs.Words.{all_words, requests_text}
-use Rattle.gen_words.specs.declared.task.GenTask.{GenTask}
+use Rattle.command_line.specs.declared.generate_task.GenTask.{GenTask}
 use Rattle.run_resources.specs.Opened.{pool_sizes}
 use Rattle.run_resources.specs.Ran.{AreReads}
 use Rattle.serve_inputs.specs.Dumped.{DumpTold, IsDumpTold, no_dump}

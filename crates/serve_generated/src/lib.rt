@@ -7,8 +7,6 @@ mod rows;
 mod serve;
 mod sizes;
 mod sources;
-#[cfg(test)]
-mod tests;
 
 pub use demand::generated_demand;
 pub use input::InputSource;

@@ -1,12 +1,13 @@
 ghost use Rattle.std.specs.Prelude.{◌≡◌, ◌≢◌, ◌<◌, ◌≤◌, All, length, map, IfOk, IfErr, IsErrAnd};
 ghost use Rattle.flake_base.specs.Histories.{histories};
-ghost use Rattle.gen_words.specs.Task.{IsAllowedGenerated};
+ghost use Rattle.command_line.specs.GenerateTask.{IsAllowedGenerated};
 ghost use Rattle.serve_generated.specs.Generated.{IsTooMuch, RanGenerated};
 
 use crate::input::InputSource;
 use crate::sizes::sizes_for;
 use crate::sources::generated_sources;
-use gen_words::GenTask;
+use any_wire::WireCalls;
+use command_line::GenTask;
 use serve_inputs::{Served, serve_inputs};
 use session_pass::Gate;
 use std::alloc::Global;
@@ -23,25 +24,18 @@ pub enum GeneratedRefusal {
 
 /// Serves the requests that are generated for a task, by the pool that they need: the replies of a session go to the
 /// wire at its place, and wires past the sessions come back as they are.
-pub fn serve_generated<
-    R: Threads + Wait + Sync,
-    G: Gate,
-    W: Send + Drop,
-    PUT: Fn(W, &[u8]) -> (W, bool) + Sync,
-    FLUSH: Fn(W) -> (W, bool) + Sync,
->(
+pub fn serve_generated<R: Threads + Wait + Sync, G: Gate, W: Send + Drop, C: WireCalls<W> + Sync>(
     rt: &R,
     alloc: Global,
     task: &GenTask,
     wires: Vec<W>,
     gate: &G,
-    put: &PUT,
-    flush: &FLUSH,
+    calls: &C,
 ) -> Result<Served<InputSource, W>, (GeneratedRefusal, Vec<W>)>
-    requires calls { PUT.IsAlwaysCallable put.now × FLUSH.IsAlwaysCallable flush.now }
+    requires calls { C.can_put calls.now × C.can_flush calls.now }
     requires task { IsAllowedGenerated task.now }
     requires wires { task.now.sessions ≤ length wires.items }
-    ensures ran { IfOk result (λ r. RanGenerated (λ w p r. PUT.post put.now w p r) (λ w r. FLUSH.post flush.now w r)
+    ensures ran { IfOk result (λ r. RanGenerated (C.put_may calls.now) (C.flush_may calls.now)
         task.now (map (λ s. s.given) r.sources.items) (map (λ s. s.ended) r.sources.items) r.ends.items r.sent.items
         (histories r.journal.items) r.pool wires.items r.wires.items) }
     ensures shards { IfOk result (λ r. length r.journal.items ≡ 8) }
@@ -56,17 +50,7 @@ pub fn serve_generated<
     let Ok(sources) = generated_sources(alloc, task.number, task.sessions, task.requests) else {
         return Err((GeneratedRefusal::Memory, wires));
     };
-    match serve_inputs(
-        rt,
-        alloc,
-        &sizes,
-        task.workers,
-        sources,
-        wires,
-        gate,
-        put,
-        flush,
-    ) {
+    match serve_inputs(rt, alloc, &sizes, task.workers, sources, wires, gate, calls) {
         Ok(served) => Ok(served),
         Err((_, wires)) => Err((GeneratedRefusal::Memory, wires)),
     }

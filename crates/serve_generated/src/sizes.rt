@@ -1,10 +1,10 @@
 ghost use Rattle.std.specs.Prelude.{◌≡◌, ◌≤◌, IfSome, IsNone};
-ghost use Rattle.gen_words.specs.Task.{IsAllowedGenerated};
+ghost use Rattle.command_line.specs.GenerateTask.{IsAllowedGenerated};
 ghost use Rattle.run_resources.specs.Opened.{HasRunSizes};
 ghost use Rattle.serve_generated.specs.Generated.{IsTooMuch, generated_sizes};
 
 use crate::demand::generated_demand;
-use gen_words::GenTask;
+use command_line::GenTask;
 use serve_inputs::RunSizes;
 
 /// The most buffers of each class that a pool can have.

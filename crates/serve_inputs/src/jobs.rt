@@ -8,6 +8,7 @@ ghost use Rattle.run_resources.specs.Opened.{IsSessionSlot};
 
 use crate::job::{FinishedJob, ServeJob};
 use crate::workers::{serve_all, serve_job};
+use any_wire::WireCalls;
 use command_exec::Shop;
 use command_pump::Pump;
 use flake_base::Source;
@@ -89,8 +90,7 @@ fn serve_here<
     S: Source + Drop,
     G: Gate,
     W: Send + Drop,
-    PUT: Fn(W, &[u8]) -> (W, bool) + Sync,
-    FLUSH: Fn(W) -> (W, bool) + Sync,
+    C: WireCalls<W> + Sync,
 >(
     rt: &R,
     alloc: Global,
@@ -98,21 +98,20 @@ fn serve_here<
     jobs: Vec<ServeJob<N, P, S, W>>,
     dones: Vec<FinishedJob<N, P, S, W>>,
     gate: &G,
-    put: &PUT,
-    flush: &FLUSH,
+    calls: &C,
 ) -> Vec<FinishedJob<N, P, S, W>>
-    requires calls { PUT.IsAlwaysCallable put.now × FLUSH.IsAlwaysCallable flush.now }
+    requires calls { C.can_put calls.now × C.can_flush calls.now }
     requires fresh { All (λ job. IsNewJob P.sizes N.sizes.shards job.link.session job.link.pump job.link.device.end
         job.link.device.failed job.link.mtu job.link.dump.plan job.link.dump.taken job.dump_wire) jobs.items }
     requires room { (dones.items ≡ []) × (length jobs.items ≤ vec_capacity dones) }
-    ensures { AllZip (λ job done. IsDone job.link.mtu (λ w p r. PUT.post put.now w p r)
-        (λ w r. FLUSH.post flush.now w r) P.sizes N.sizes.shards job.link.session job.link.pump job.link.dump.plan
+    ensures { AllZip (λ job done. IsDone job.link.mtu (C.put_may calls.now) (C.flush_may calls.now)
+        P.sizes N.sizes.shards job.link.session job.link.pump job.link.dump.plan
         job.wire job.dump_wire done.account.end done.account.sent done.account.mine done.account.seat
         done.account.pump done.wire done.dump) jobs.items result.items }
 {
     let mut dones = dones;
     for job in jobs {
-        dones.push_reserved(serve_job(rt, alloc, shop, job, gate, put, flush));
+        dones.push_reserved(serve_job(rt, alloc, shop, job, gate, calls));
     }
     dones
 }
@@ -125,8 +124,7 @@ pub(crate) fn serve_jobs<
     S: Source + Send + Drop,
     G: Gate,
     W: Send + Drop,
-    PUT: Fn(W, &[u8]) -> (W, bool) + Sync,
-    FLUSH: Fn(W) -> (W, bool) + Sync,
+    C: WireCalls<W> + Sync,
 >(
     rt: &R,
     alloc: Global,
@@ -135,21 +133,20 @@ pub(crate) fn serve_jobs<
     dones: Vec<FinishedJob<N, P, S, W>>,
     workers: u16,
     gate: &G,
-    put: &PUT,
-    flush: &FLUSH,
+    calls: &C,
 ) -> Vec<FinishedJob<N, P, S, W>>
-    requires calls { PUT.IsAlwaysCallable put.now × FLUSH.IsAlwaysCallable flush.now }
+    requires calls { C.can_put calls.now × C.can_flush calls.now }
     requires workers { (0 < workers) × (workers ≤ 16) }
     requires fresh { All (λ job. IsNewJob P.sizes N.sizes.shards job.link.session job.link.pump job.link.device.end
         job.link.device.failed job.link.mtu job.link.dump.plan job.link.dump.taken job.dump_wire) jobs.items }
     requires room { (dones.items ≡ []) × (length jobs.items ≤ vec_capacity dones) }
-    ensures { AllZip (λ job done. IsDone job.link.mtu (λ w p r. PUT.post put.now w p r)
-        (λ w r. FLUSH.post flush.now w r) P.sizes N.sizes.shards job.link.session job.link.pump job.link.dump.plan
+    ensures { AllZip (λ job done. IsDone job.link.mtu (C.put_may calls.now) (C.flush_may calls.now)
+        P.sizes N.sizes.shards job.link.session job.link.pump job.link.dump.plan
         job.wire job.dump_wire done.account.end done.account.sent done.account.mine done.account.seat
         done.account.pump done.wire done.dump) jobs.items result.items }
 {
-    match serve_all(rt, alloc, shop, jobs, workers, gate, put, flush) {
+    match serve_all(rt, alloc, shop, jobs, workers, gate, calls) {
         Ok(dones) => dones,
-        Err(jobs) => serve_here(rt, alloc, shop, jobs, dones, gate, put, flush),
+        Err(jobs) => serve_here(rt, alloc, shop, jobs, dones, gate, calls),
     }
 }

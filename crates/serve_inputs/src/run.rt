@@ -7,10 +7,11 @@ ghost use Rattle.serve_inputs.specs.Dumped.{dump_told};
 ghost use Rattle.serve_inputs.specs.Ran.{RanAll};
 
 use crate::serving::{Room, Served, serve_opened};
+use any_wire::WireCalls;
 use flake_base::{End, Source};
-use order_book::{BookBlank, BookName};
-use pinned_pool::{PoolBlank, PoolName};
-use run_resources::{RunSizes, open_resources};
+use order_book::BookName;
+use pinned_pool::PoolName;
+use run_resources::{RunBlanks, RunSizes, open_resources};
 use session_pass::Gate;
 use std::alloc::Global;
 use std::marker::Brand;
@@ -25,32 +26,28 @@ fn serve_named<
     S: Source + Send + Drop,
     G: Gate,
     W: Send + Drop,
-    PUT: Fn(W, &[u8]) -> (W, bool) + Sync,
-    FLUSH: Fn(W) -> (W, bool) + Sync,
+    C: WireCalls<W> + Sync,
 >(
     rt: &R,
     alloc: Global,
     sizes: &RunSizes,
     workers: u16,
-    pool: PoolBlank,
-    book: BookBlank,
+    blanks: RunBlanks,
     sources: Vec<S>,
     wires: Vec<W>,
     gate: &G,
-    put: &PUT,
-    flush: &FLUSH,
+    calls: &C,
 ) -> Result<Served<S, W>, (Vec<S>, Vec<W>)>
-    requires calls { PUT.IsAlwaysCallable put.now × FLUSH.IsAlwaysCallable flush.now }
+    requires calls { C.can_put calls.now × C.can_flush calls.now }
     requires sized { HasRunSizes (length sources.items) sizes.now }
     requires workers { (0 < workers) × (workers ≤ 16) }
     requires unread { All (λ s. S.given s ≡ []) sources.items }
     requires wires { length sources.items + dump_wires sizes.now.dump ≤ length wires.items }
-    requires pool { (P.table ≡ pool.table) × (P.sizes ≡ pool.sizes)
+    requires pool { (P.table ≡ blanks.pool.table) × (P.sizes ≡ blanks.pool.sizes)
         × IsPool (length sources.items) sizes.now P.sizes }
-    requires book { (N.table ≡ book.table) × (N.sizes ≡ book.sizes)
+    requires book { (N.table ≡ blanks.book.table) × (N.sizes ≡ blanks.book.sizes)
         × IsBook (length sources.items) sizes.now N.sizes }
-    ensures ran { IfOk result (λ r. RanAll sizes.now.mtu (λ w p r. PUT.post put.now w p r)
-        (λ w r. FLUSH.post flush.now w r)
+    ensures ran { IfOk result (λ r. RanAll sizes.now.mtu (C.put_may calls.now) (C.flush_may calls.now)
         (pool_sizes (length sources.items) sizes.now) (map (λ s. S.given s) r.sources.items)
         (map (λ s. S.ended s) r.sources.items) r.ends.items r.sent.items (histories r.journal.items) r.pool
         sizes.now.dump (dump_told r.dump) wires.items r.wires.items) }
@@ -62,6 +59,7 @@ fn serve_named<
     ensures to_the_end { IfOk result (λ r. All (λ end. end.end ≢ End.Left) r.ends.items) }
     ensures refused { IfErr result (λ e. (e.0.items ≡ sources.items) × (e.1.items ≡ wires.items)) }
 {
+    let RunBlanks { pool, book } = blanks;
     let Ok(space) = Room::<N, P, S, W>::taken(alloc, sources.len(), wires.len()) else {
         return Err((sources, wires));
     };
@@ -71,7 +69,7 @@ fn serve_named<
         return Err((sources, wires));
     };
     Ok(serve_opened(
-        rt, alloc, sizes, workers, resources, space, sources, wires, gate, put, flush,
+        rt, sizes, workers, resources, space, sources, wires, gate, calls,
     ))
 }
 
@@ -83,8 +81,7 @@ pub fn serve_inputs<
     S: Source + Send + Drop,
     G: Gate,
     W: Send + Drop,
-    PUT: Fn(W, &[u8]) -> (W, bool) + Sync,
-    FLUSH: Fn(W) -> (W, bool) + Sync,
+    C: WireCalls<W> + Sync,
 >(
     rt: &R,
     alloc: Global,
@@ -93,16 +90,14 @@ pub fn serve_inputs<
     sources: Vec<S>,
     wires: Vec<W>,
     gate: &G,
-    put: &PUT,
-    flush: &FLUSH,
+    calls: &C,
 ) -> Result<Served<S, W>, (Vec<S>, Vec<W>)>
-    requires calls { PUT.IsAlwaysCallable put.now × FLUSH.IsAlwaysCallable flush.now }
+    requires calls { C.can_put calls.now × C.can_flush calls.now }
     requires sized { HasRunSizes (length sources.items) sizes.now }
     requires workers { (0 < workers) × (workers ≤ 16) }
     requires unread { All (λ s. S.given s ≡ []) sources.items }
     requires wires { length sources.items + dump_wires sizes.now.dump ≤ length wires.items }
-    ensures ran { IfOk result (λ r. RanAll sizes.now.mtu (λ w p r. PUT.post put.now w p r)
-        (λ w r. FLUSH.post flush.now w r)
+    ensures ran { IfOk result (λ r. RanAll sizes.now.mtu (C.put_may calls.now) (C.flush_may calls.now)
         (pool_sizes (length sources.items) sizes.now) (map (λ s. S.given s) r.sources.items)
         (map (λ s. S.ended s) r.sources.items) r.ends.items r.sent.items (histories r.journal.items) r.pool
         sizes.now.dump (dump_told r.dump) wires.items r.wires.items) }
@@ -114,15 +109,10 @@ pub fn serve_inputs<
     ensures to_the_end { IfOk result (λ r. All (λ end. end.end ≢ End.Left) r.ends.items) }
     ensures refused { IfErr result (λ e. (e.0.items ≡ sources.items) × (e.1.items ≡ wires.items)) }
 {
-    let count = sources.len();
-    let Ok(pool) = PoolBlank::open(alloc, sizes.small, sizes.large, sizes.pool_credits(count))
-    else {
+    let Ok(blanks) = RunBlanks::open(alloc, sizes, sources.len()) else {
         return Err((sources, wires));
     };
-    let Ok(book) = BookBlank::open(alloc, sizes.shards, count as u16) else {
-        return Err((sources, wires));
-    };
-    serve_named::<R, Brand, Brand, S, G, W, PUT, FLUSH>(
-        rt, alloc, sizes, workers, pool, book, sources, wires, gate, put, flush,
+    serve_named::<R, Brand, Brand, S, G, W, C>(
+        rt, alloc, sizes, workers, blanks, sources, wires, gate, calls,
     )
 }

@@ -15,13 +15,13 @@ use crate::jobs::{line_up, serve_jobs};
 use crate::orders::{ask_first, first_dumped, put_back, split_order};
 use crate::results::{Results, bring_in};
 use crate::space::Space;
+use any_wire::WireCalls;
 use command_exec::Shop;
 use flake_base::{End, Ends, Journal, Source};
 use order_book::BookName;
 use pinned_pool::{PoolEnd, PoolName};
 use run_resources::{Closed, RunResources, RunSizes, close_all};
 use session_pass::Gate;
-use std::alloc::Global;
 use std::sync::Wait;
 use std::thread::Threads;
 
@@ -50,11 +50,9 @@ pub(crate) fn serve_opened<
     S: Source + Send + Drop,
     G: Gate,
     W: Send + Drop,
-    PUT: Fn(W, &[u8]) -> (W, bool) + Sync,
-    FLUSH: Fn(W) -> (W, bool) + Sync,
+    C: WireCalls<W> + Sync,
 >(
     rt: &R,
-    alloc: Global,
     sizes: &RunSizes,
     workers: u16,
     resources: RunResources<N, P>,
@@ -62,10 +60,9 @@ pub(crate) fn serve_opened<
     sources: Vec<S>,
     wires: Vec<W>,
     gate: &G,
-    put: &PUT,
-    flush: &FLUSH,
+    calls: &C,
 ) -> Served<S, W>
-    requires calls { PUT.IsAlwaysCallable put.now × FLUSH.IsAlwaysCallable flush.now }
+    requires calls { C.can_put calls.now × C.can_flush calls.now }
     requires workers { (0 < workers) × (workers ≤ 16) }
     requires sized { HasRunSizes (length sources.items) sizes.now }
     requires pool { IsPool (length sources.items) sizes.now P.sizes }
@@ -83,7 +80,7 @@ pub(crate) fn serve_opened<
     requires lists { (space.results.lists.items ≡ []) × (length sources.items ≤ space.results.lists.spare) }
     requires room { (space.results.sources.items ≡ []) × (length sources.items ≤ vec_capacity space.results.sources) }
     requires wire_room { (space.results.wires.items ≡ []) × (length wires.items ≤ vec_capacity space.results.wires) }
-    ensures ran { RanAll sizes.now.mtu (λ w p r. PUT.post put.now w p r) (λ w r. FLUSH.post flush.now w r)
+    ensures ran { RanAll sizes.now.mtu (C.put_may calls.now) (C.flush_may calls.now)
         (pool_sizes (length sources.items) sizes.now) (map (λ s. S.given s) result.sources.items)
         (map (λ s. S.ended s) result.sources.items) result.ends.items result.sent.items
         (histories result.journal.items) result.pool sizes.now.dump (dump_told result.dump) wires.items
@@ -103,6 +100,7 @@ pub(crate) fn serve_opened<
         slots,
     } = resources;
     let Space {
+        alloc,
         jobs,
         dones,
         results,
@@ -117,7 +115,7 @@ pub(crate) fn serve_opened<
         book: &book,
         store: &store,
     };
-    let mut dones = serve_jobs(rt, alloc, &shop, jobs, dones, workers, gate, put, flush);
+    let mut dones = serve_jobs(rt, alloc, &shop, jobs, dones, workers, gate, calls);
     let dumped = first_dumped(&mut dones);
     let parts = store.into_parts(&pool);
     let Results {

@@ -9,6 +9,7 @@ use std::alloc::Global;
 /// Empty lists with room for what a run puts into them: jobs, what is done of them, and what comes back.
 #[derive(Drop)]
 pub(crate) struct Space<J, D, N: BookName, S, W> {
+    pub(crate) alloc: Global,
     pub(crate) jobs: Vec<J>,
     pub(crate) dones: Vec<D>,
     pub(crate) results: Results<N, S, W>,
@@ -26,6 +27,7 @@ impl<J: Drop, D: Drop, N: BookName, S: Drop, W: Drop> Space<J, D, N, S, W> {
         ensures wires { IfOk result (λ s. (s.results.wires.items ≡ []) × (wires ≤ vec_capacity s.results.wires)) }
     {
         Ok(Space {
+            alloc,
             jobs: Vec::with_capacity(alloc, count)?,
             dones: Vec::with_capacity(alloc, count)?,
             results: Results::with_room(alloc, count, wires)?,

@@ -4,6 +4,7 @@ ghost use Rattle.std.specs.List.{AllZip};
 ghost use Rattle.serve_inputs.specs.Jobs.{IsNewJob, IsDone, IsWritten};
 
 use crate::job::{Dumped, FinishedJob, ServeJob};
+use any_wire::WireCalls;
 use command_exec::Shop;
 use flake_base::Source;
 use order_book::BookName;
@@ -24,8 +25,7 @@ pub fn serve_all<
     S: Source + Send + Drop,
     G: Gate,
     W: Send + Drop,
-    PUT: Fn(W, &[u8]) -> (W, bool) + Sync,
-    FLUSH: Fn(W) -> (W, bool) + Sync,
+    C: WireCalls<W> + Sync,
 >(
     rt: &R,
     alloc: Global,
@@ -33,15 +33,14 @@ pub fn serve_all<
     jobs: Vec<ServeJob<N, P, S, W>>,
     workers: u16,
     gate: &G,
-    put: &PUT,
-    flush: &FLUSH,
+    calls: &C,
 ) -> Result<Vec<FinishedJob<N, P, S, W>>, Vec<ServeJob<N, P, S, W>>>
-    requires calls { PUT.IsAlwaysCallable put.now × FLUSH.IsAlwaysCallable flush.now }
+    requires calls { C.can_put calls.now × C.can_flush calls.now }
     requires workers { (0 < workers) × (workers ≤ 16) }
     requires fresh { All (λ job. IsNewJob P.sizes N.sizes.shards job.link.session job.link.pump job.link.device.end
         job.link.device.failed job.link.mtu job.link.dump.plan job.link.dump.taken job.dump_wire) jobs.items }
-    ensures served { IfOk result (λ dones. AllZip (λ job done. IsDone job.link.mtu (λ w p r. PUT.post put.now w p r)
-        (λ w r. FLUSH.post flush.now w r) P.sizes N.sizes.shards job.link.session job.link.pump job.link.dump.plan
+    ensures served { IfOk result (λ dones. AllZip (λ job done. IsDone job.link.mtu (C.put_may calls.now)
+        (C.flush_may calls.now) P.sizes N.sizes.shards job.link.session job.link.pump job.link.dump.plan
         job.wire job.dump_wire done.account.end done.account.sent done.account.mine done.account.seat
         done.account.pump done.wire done.dump) jobs.items dones.items) }
     ensures back { IfErr result (λ back. back ≡ jobs) }
@@ -54,12 +53,12 @@ pub fn serve_all<
         &|job: ServeJob<N, P, S, W>| -> FinishedJob<N, P, S, W>
             requires { IsNewJob P.sizes N.sizes.shards job.link.session job.link.pump job.link.device.end
                 job.link.device.failed job.link.mtu job.link.dump.plan job.link.dump.taken job.dump_wire
-                × (PUT.IsAlwaysCallable put.now × FLUSH.IsAlwaysCallable flush.now) }
-            ensures { IsDone job.link.mtu (λ w p r. PUT.post put.entry.now w p r)
-                (λ w r. FLUSH.post flush.entry.now w r) P.sizes N.sizes.shards job.link.session job.link.pump
+                × (C.can_put calls.now × C.can_flush calls.now) }
+            ensures { IsDone job.link.mtu (C.put_may calls.entry.now)
+                (C.flush_may calls.entry.now) P.sizes N.sizes.shards job.link.session job.link.pump
                 job.link.dump.plan job.wire job.dump_wire result.account.end result.account.sent result.account.mine
                 result.account.seat result.account.pump result.wire result.dump }
-        { serve_job(rt, alloc, shop, job, gate, put, flush) },
+        { serve_job(rt, alloc, shop, job, gate, calls) },
     );
     match served {
         Ok(dones) => Ok(dones),
@@ -68,28 +67,22 @@ pub fn serve_all<
 }
 
 // Puts a dump that was taken on its wire, and gives its holds back.
-fn write_dump<
-    P: PoolName + Send,
-    W: Drop,
-    PUT: Fn(W, &[u8]) -> (W, bool),
-    FLUSH: Fn(W) -> (W, bool),
->(
+fn write_dump<P: PoolName + Send, W: Drop, C: WireCalls<W>>(
     alloc: Global,
     pool: &Pool<P>,
     taken: DumpTaken<P>,
     wire: W,
-    put: &PUT,
-    flush: &FLUSH,
+    calls: &C,
 ) -> Dumped<P, W>
-    requires calls { PUT.IsAlwaysCallable put.now × FLUSH.IsAlwaysCallable flush.now }
-    ensures taken { IfOk taken (λ d. IsWritten (λ w p r. PUT.post put.now w p r) (λ w r. FLUSH.post flush.now w r) d
+    requires calls { C.can_put calls.now × C.can_flush calls.now }
+    ensures taken { IfOk taken (λ d. IsWritten (C.put_may calls.now) (C.flush_may calls.now) d
         wire result.points.items result.taken result.bytes result.failed result.seat result.wire) }
     ensures untaken { IfErr taken (λ seat. (result.points.items ≡ []) × (result.taken ≡ false) × (result.bytes ≡ 0)
         × (result.failed ≡ false) × (result.seat ≡ seat) × (result.wire ≡ wire)) }
 {
     match taken {
         Ok(dump) => {
-            let (wire, written) = dump.write(pool, wire, put, flush);
+            let (wire, written) = dump.write(pool, wire, calls);
             let Written {
                 points,
                 seat,
@@ -124,21 +117,19 @@ pub fn serve_job<
     S: Source + Drop,
     G: Gate,
     W: Send + Drop,
-    PUT: Fn(W, &[u8]) -> (W, bool) + Sync,
-    FLUSH: Fn(W) -> (W, bool) + Sync,
+    C: WireCalls<W> + Sync,
 >(
     rt: &R,
     alloc: Global,
     shop: &Shop<'_, N, P>,
     job: ServeJob<N, P, S, W>,
     gate: &G,
-    put: &PUT,
-    flush: &FLUSH,
+    calls: &C,
 ) -> FinishedJob<N, P, S, W>
-    requires calls { PUT.IsAlwaysCallable put.now × FLUSH.IsAlwaysCallable flush.now }
+    requires calls { C.can_put calls.now × C.can_flush calls.now }
     requires fresh { IsNewJob P.sizes N.sizes.shards job.link.session job.link.pump job.link.device.end
         job.link.device.failed job.link.mtu job.link.dump.plan job.link.dump.taken job.dump_wire }
-    ensures { IsDone job.link.mtu (λ w p r. PUT.post put.now w p r) (λ w r. FLUSH.post flush.now w r) P.sizes
+    ensures { IsDone job.link.mtu (C.put_may calls.now) (C.flush_may calls.now) P.sizes
         N.sizes.shards job.link.session job.link.pump job.link.dump.plan job.wire job.dump_wire result.account.end
         result.account.sent result.account.mine result.account.seat result.account.pump result.wire result.dump }
 {
@@ -148,10 +139,10 @@ pub fn serve_job<
         wire,
         dump_wire,
     } = job;
-    let (wire, mut account) = serve_beside(rt, alloc, shop, link, room, gate, wire, put, flush);
+    let (wire, mut account) = serve_beside(rt, alloc, shop, link, room, gate, wire, calls);
     let dump = match (account.dump.take(), dump_wire) {
         (Some(taken), Some(dump_wire)) => {
-            Some(write_dump(alloc, shop.pool, taken, dump_wire, put, flush))
+            Some(write_dump(alloc, shop.pool, taken, dump_wire, calls))
         }
         _ => None,
     };

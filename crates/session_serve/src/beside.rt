@@ -16,7 +16,8 @@ use crate::serve::serve_in_turns;
 use crate::session_side::{Ended, SessionSide};
 use crate::start_barrier::StartBarrier;
 use crate::waiting::Remains;
-use crate::wiring::{Calls, Wiring};
+use crate::wiring::Wiring;
+use any_wire::WireCalls;
 use command_exec::Shop;
 use flake_base::{End, SessionEnd, Source};
 use handover_slot::HandoverSlot;
@@ -40,8 +41,7 @@ pub fn serve_beside<
     S: Source + Drop,
     G: Gate,
     W: Send + Drop,
-    PUT: Fn(W, &[u8]) -> (W, bool) + Sync,
-    FLUSH: Fn(W) -> (W, bool) + Sync,
+    C: WireCalls<W> + Sync,
 >(
     rt: &R,
     alloc: Global,
@@ -50,17 +50,16 @@ pub fn serve_beside<
     room: Room,
     gate: &G,
     wire: W,
-    put: &PUT,
-    flush: &FLUSH,
+    calls: &C,
 ) -> (W, ServedAccount<N, P, S>)
-    requires calls { PUT.IsAlwaysCallable put.now × FLUSH.IsAlwaysCallable flush.now }
+    requires calls { C.can_put calls.now × C.can_flush calls.now }
     requires fresh { IsFresh P.sizes link.session link.pump }
     requires ring { device_ring link.device.end ≡ link.session.ring }
     requires unfailed { link.device.failed ≡ false }
     requires plan { CanTake P.sizes N.sizes.shards link.dump.plan }
     requires untried { link.dump.taken ≡ None }
     requires mtu { CanFrame link.mtu }
-    ensures served { IsServed link.mtu (λ w p r. PUT.post put.now w p r) (λ w r. FLUSH.post flush.now w r) P.sizes
+    ensures served { IsServed link.mtu (C.put_may calls.now) (C.flush_may calls.now) P.sizes
         N.sizes.shards link.session result.1.pump.given result.1.pump.ended result.1.end result.1.sent
         result.1.mine result.1.seat wire result.0 }
     ensures origin { result.1.pump.origin ≡ link.pump.origin }
@@ -90,8 +89,8 @@ pub fn serve_beside<
         sent: 0,
         helped: false,
     };
-    let calls = Calls { put, flush, mtu };
-    serve_sides(rt, alloc, shop, session_side, gate, device_side, &calls)
+    let wiring = Wiring { calls, mtu };
+    serve_sides(rt, alloc, shop, session_side, gate, device_side, &wiring)
 }
 
 // The two sides run beside each other, or where that can't be they take turns.
@@ -102,8 +101,7 @@ fn serve_sides<
     S: Source + Drop,
     G: Gate,
     W: Send + Drop,
-    PUT: Fn(W, &[u8]) -> (W, bool) + Sync,
-    FLUSH: Fn(W) -> (W, bool) + Sync,
+    C: WireCalls<W> + Sync,
 >(
     rt: &R,
     alloc: Global,
@@ -111,32 +109,26 @@ fn serve_sides<
     session_side: SessionSide<N, P, S>,
     gate: &G,
     device_side: DeviceSide<P, W>,
-    calls: &Calls<'_, PUT, FLUSH>,
+    wiring: &Wiring<'_, C>,
 ) -> (W, ServedAccount<N, P, S>)
-    requires calls { PUT.IsAlwaysCallable calls.now.put.now × FLUSH.IsAlwaysCallable calls.now.flush.now }
-    requires mtu { CanFrame calls.now.mtu }
+    requires ready { (C.can_put wiring.now.calls.now × C.can_flush wiring.now.calls.now) × CanFrame wiring.now.mtu }
     requires fresh { IsFresh P.sizes session_side.session session_side.pump }
     requires ring { device_ring device_side.device.end ≡ session_side.session.ring }
     requires unfailed { device_side.device.failed ≡ false }
     requires plan { CanTake P.sizes N.sizes.shards session_side.dump.plan }
     requires untried { session_side.dump.taken ≡ None }
     requires none { (completed device_side.device.end ≡ []) × (device_side.sent ≡ 0) }
-    ensures { HasServed calls.now.mtu (λ w p r. PUT.post calls.now.put.now w p r)
-        (λ w r. FLUSH.post calls.now.flush.now w r) P.sizes N.sizes.shards session_side.session session_side.pump
+    ensures { HasServed wiring.now.mtu (C.put_may wiring.now.calls.now) (C.flush_may wiring.now.calls.now)
+        P.sizes N.sizes.shards session_side.session session_side.pump
         session_side.dump.plan device_side.wire result.1.end result.1.sent result.1.mine result.1.seat result.1.pump
         result.1.dump result.0 }
 {
-    let wiring = Calls {
-        put: calls.put,
-        flush: calls.flush,
-        mtu: calls.mtu,
-    };
-    let ((went, came), _) = both_sides(rt, alloc, shop, session_side, gate, device_side, wiring);
+    let (went, came) = both_sides(rt, alloc, shop, session_side, gate, device_side, wiring);
     match came {
         Ok(ended) => match went {
             Ok(device_side) => settled(ended, device_side),
             Err(device_side) => {
-                let device_side = device_side.forward_all(rt, shop.pool, calls);
+                let device_side = device_side.forward_all(rt, shop.pool, wiring);
                 settled(ended, device_side)
             }
         },
@@ -146,7 +138,7 @@ fn serve_sides<
                 laws::both_ends(&mut session_side.session, &mut device_side.device);
                 unreachable!()
             }
-            Err(device_side) => take_turns(rt, shop, session_side, gate, device_side, calls),
+            Err(device_side) => take_turns(rt, shop, session_side, gate, device_side, wiring),
         },
     }
 }
@@ -161,7 +153,7 @@ fn both_sides<
     S: Source + Drop,
     G: Gate,
     W: Send + Drop,
-    Q: Wiring<W> + Sync,
+    C: WireCalls<W> + Sync,
 >(
     rt: &R,
     alloc: Global,
@@ -169,52 +161,49 @@ fn both_sides<
     session_side: SessionSide<N, P, S>,
     gate: &G,
     device_side: DeviceSide<P, W>,
-    wiring: Q,
+    wiring: &Wiring<'_, C>,
 ) -> (
-    (
-        Result<DeviceSide<P, W>, DeviceSide<P, W>>,
-        Result<Ended<N, P, S>, SessionSide<N, P, S>>,
-    ),
-    Q,
+    Result<DeviceSide<P, W>, DeviceSide<P, W>>,
+    Result<Ended<N, P, S>, SessionSide<N, P, S>>,
 )
-    requires ready { Q.ready wiring }
+    requires ready { (C.can_put wiring.now.calls.now × C.can_flush wiring.now.calls.now) × CanFrame wiring.now.mtu }
     requires fresh { IsFresh P.sizes session_side.session session_side.pump }
     requires plan { CanTake P.sizes N.sizes.shards session_side.dump.plan }
     requires untried { session_side.dump.taken ≡ None }
-    ensures out { IfOk result.0.0 (λ o. (device_ring o.device.end ≡ device_ring device_side.device.end)
-        × (ended o.device.end ≡ true) × ForwardsOut (Q.mtu wiring) (Q.put_may wiring) (Q.flush_may wiring)
-        device_side.device.failed o.device.failed (completed device_side.device.end) (completed o.device.end)
-        device_side.sent o.sent device_side.wire o.wire) }
-    ensures idle { IfErr result.0.0 (λ o. o ≡ device_side) }
-    ensures ran { IfOk result.0.1
+    ensures out { IfOk result.0 (λ o. (device_ring o.device.end ≡ device_ring device_side.device.end)
+        × (ended o.device.end ≡ true) × ForwardsOut wiring.now.mtu (C.put_may wiring.now.calls.now)
+        (C.flush_may wiring.now.calls.now) device_side.device.failed o.device.failed
+        (completed device_side.device.end) (completed o.device.end) device_side.sent o.sent device_side.wire o.wire) }
+    ensures idle { IfErr result.0 (λ o. o ≡ device_side) }
+    ensures ran { IfOk result.1
         (λ e. RanToTheEnd P.sizes N.sizes.shards session_side.session session_side.pump session_side.dump.plan e.end
         e.replies e.remains.seat e.remains.mine e.pump e.remains.closed e.dump) }
-    ensures back { IfErr result.0.1 (λ i. i ≡ session_side) }
+    ensures back { IfErr result.1 (λ i. i ≡ session_side) }
 {
     let start = Start {
         device_side,
-        wiring,
+        wiring: Wiring {
+            calls: wiring.calls,
+            mtu: wiring.mtu,
+        },
     };
-    let made: Result<DeviceSlot<P, W, Q>, AllocError> = HandoverSlot::new(alloc, &start);
+    let made: Result<DeviceSlot<'_, P, W, C>, AllocError> = HandoverSlot::new(alloc, &start);
     let Start {
         device_side,
-        wiring,
+        wiring: _,
     } = start;
     match made {
-        Ok(place) => {
-            let sides = together(
-                rt,
-                shop,
-                session_side,
-                gate,
-                device_side,
-                &place,
-                &wiring,
-                &StartBarrier::new(),
-            );
-            (sides, wiring)
-        }
-        Err(AllocError) => ((Err(device_side), Err(session_side)), wiring),
+        Ok(place) => together(
+            rt,
+            shop,
+            session_side,
+            gate,
+            device_side,
+            &place,
+            wiring,
+            &StartBarrier::new(),
+        ),
+        Err(AllocError) => (Err(device_side), Err(session_side)),
     }
 }
 
@@ -226,30 +215,29 @@ fn together<
     S: Source + Drop,
     G: Gate,
     W: Send + Drop,
-    Q: Wiring<W> + Sync,
+    C: WireCalls<W> + Sync,
 >(
     rt: &R,
     shop: &Shop<'_, N, P>,
     session_side: SessionSide<N, P, S>,
     gate: &G,
     device_side: DeviceSide<P, W>,
-    place: &DeviceSlot<P, W, Q>,
-    wiring: &Q,
+    place: &DeviceSlot<'_, P, W, C>,
+    wiring: &Wiring<'_, C>,
     start_barrier: &StartBarrier,
 ) -> (
     Result<DeviceSide<P, W>, DeviceSide<P, W>>,
     Result<Ended<N, P, S>, SessionSide<N, P, S>>,
 )
-    requires ready { Q.ready wiring.now }
+    requires ready { (C.can_put wiring.now.calls.now × C.can_flush wiring.now.calls.now) × CanFrame wiring.now.mtu }
     requires fresh { IsFresh P.sizes session_side.session session_side.pump }
     requires plan { CanTake P.sizes N.sizes.shards session_side.dump.plan }
     requires untried { session_side.dump.taken ≡ None }
     requires start { (place.now.device_side ≡ device_side) × (place.now.wiring ≡ wiring.now) }
     ensures out { IfOk result.0 (λ o. (device_ring o.device.end ≡ device_ring device_side.device.end)
-        × (ended o.device.end ≡ true) × ForwardsOut (Q.mtu wiring.now) (Q.put_may wiring.now) (Q.flush_may wiring.now)
-        device_side.device.failed o.device.failed (completed device_side.device.end) (completed o.device.end)
-        device_side.sent o.sent
-        device_side.wire o.wire) }
+        × (ended o.device.end ≡ true) × ForwardsOut wiring.now.mtu (C.put_may wiring.now.calls.now)
+        (C.flush_may wiring.now.calls.now) device_side.device.failed o.device.failed
+        (completed device_side.device.end) (completed o.device.end) device_side.sent o.sent device_side.wire o.wire) }
     ensures idle { IfErr result.0 (λ o. o ≡ device_side) }
     ensures ran { IfOk result.1
         (λ e. RanToTheEnd P.sizes N.sizes.shards session_side.session session_side.pump session_side.dump.plan e.end
@@ -260,16 +248,18 @@ fn together<
     thread::join(
         rt,
         move || -> Result<DeviceSide<P, W>, DeviceSide<P, W>>
-            requires { Q.ready wiring.now × (place.now.device_side ≡ device_side) × (place.now.wiring ≡ wiring.now) }
+            requires { (C.can_put wiring.now.calls.now × C.can_flush wiring.now.calls.now) × CanFrame wiring.now.mtu
+                × (place.now.device_side ≡ device_side) × (place.now.wiring ≡ wiring.now) }
             ensures { IfOk result (λ o. (device_ring o.device.end ≡ device_ring device_side.device.end)
-                × (ended o.device.end ≡ true) × ForwardsOut (Q.mtu wiring.entry.now) (Q.put_may wiring.entry.now)
-                (Q.flush_may wiring.entry.now) device_side.device.failed o.device.failed
-                (completed device_side.device.end)
-                (completed o.device.end) device_side.sent o.sent device_side.wire o.wire)
+                × (ended o.device.end ≡ true) × ForwardsOut wiring.entry.now.mtu
+                (C.put_may wiring.entry.now.calls.now) (C.flush_may wiring.entry.now.calls.now)
+                device_side.device.failed o.device.failed (completed device_side.device.end) (completed o.device.end)
+                device_side.sent o.sent device_side.wire o.wire)
                 × IfErr result (λ o. o ≡ device_side) }
         { device_side.beside(rt, pool, place, wiring, start_barrier) },
         move || -> Result<Ended<N, P, S>, SessionSide<N, P, S>>
-            requires { IsFresh P.sizes session_side.session session_side.pump × Q.ready wiring.now
+            requires { IsFresh P.sizes session_side.session session_side.pump
+                × (C.can_put wiring.now.calls.now × C.can_flush wiring.now.calls.now) × CanFrame wiring.now.mtu
                 × (place.now.wiring ≡ wiring.now) × CanTake P.sizes N.sizes.shards session_side.dump.plan
                 × (session_side.dump.taken ≡ None) }
             ensures { IfOk result
@@ -288,25 +278,23 @@ fn take_turns<
     S: Source,
     G: Gate,
     W: Drop,
-    PUT: Fn(W, &[u8]) -> (W, bool),
-    FLUSH: Fn(W) -> (W, bool),
+    C: WireCalls<W>,
 >(
     rt: &R,
     shop: &Shop<'_, N, P>,
     session_side: SessionSide<N, P, S>,
     gate: &G,
     device_side: DeviceSide<P, W>,
-    calls: &Calls<'_, PUT, FLUSH>,
+    wiring: &Wiring<'_, C>,
 ) -> (W, ServedAccount<N, P, S>)
-    requires calls { PUT.IsAlwaysCallable calls.now.put.now × FLUSH.IsAlwaysCallable calls.now.flush.now }
-    requires mtu { CanFrame calls.now.mtu }
+    requires ready { (C.can_put wiring.now.calls.now × C.can_flush wiring.now.calls.now) × CanFrame wiring.now.mtu }
     requires fresh { IsFresh P.sizes session_side.session session_side.pump }
     requires ring { device_ring device_side.device.end ≡ session_side.session.ring }
     requires unfailed { device_side.device.failed ≡ false }
     requires plan { CanTake P.sizes N.sizes.shards session_side.dump.plan }
     requires untried { session_side.dump.taken ≡ None }
-    ensures { HasServed calls.now.mtu (λ w p r. PUT.post calls.now.put.now w p r)
-        (λ w r. FLUSH.post calls.now.flush.now w r) P.sizes N.sizes.shards session_side.session session_side.pump
+    ensures { HasServed wiring.now.mtu (C.put_may wiring.now.calls.now) (C.flush_may wiring.now.calls.now)
+        P.sizes N.sizes.shards session_side.session session_side.pump
         session_side.dump.plan device_side.wire result.1.end result.1.sent result.1.mine result.1.seat result.1.pump
         result.1.dump result.0 }
 {
@@ -327,9 +315,9 @@ fn take_turns<
         pump,
         device,
         dump,
-        mtu: calls.mtu,
+        mtu: wiring.mtu,
     };
-    serve_in_turns(rt, shop, link, room, gate, wire, calls.put, calls.flush)
+    serve_in_turns(rt, shop, link, room, gate, wire, wiring.calls)
 }
 
 // With both ends of the ring at hand.

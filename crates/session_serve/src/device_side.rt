@@ -11,6 +11,7 @@ use crate::gather::gather_next;
 use crate::lending::DeviceSlot;
 use crate::start_barrier::StartBarrier;
 use crate::wiring::Wiring;
+use any_wire::WireCalls;
 use device_model::{Device, Gathered};
 use pinned_pool::{Pool, PoolName};
 use reply_planner::Parcel;
@@ -47,13 +48,18 @@ pub(crate) enum Round {
 
 impl<P: PoolName + Send, W: Drop> DeviceSide<P, W> {
     /// Puts each reply that is posted, until the ring is closed. The wire is flushed before each wait and at the end.
-    pub fn forward_all<R: Wait, Q: Wiring<W>>(self, rt: &R, pool: &Pool<P>, wiring: &Q) -> Self
-        requires { Q.ready wiring.now }
+    pub fn forward_all<R: Wait, C: WireCalls<W>>(
+        self,
+        rt: &R,
+        pool: &Pool<P>,
+        wiring: &Wiring<'_, C>,
+    ) -> Self
+        requires { (C.can_put wiring.now.calls.now × C.can_flush wiring.now.calls.now) × CanFrame wiring.now.mtu }
         ensures ring { device_ring result.device.end ≡ device_ring self.device.end }
         ensures ended { ended result.device.end ≡ true }
-        ensures out { ForwardsOut (Q.mtu wiring.now) (Q.put_may wiring.now) (Q.flush_may wiring.now) self.device.failed
-            result.device.failed (completed self.device.end) (completed result.device.end) self.sent result.sent
-            self.wire result.wire }
+        ensures out { ForwardsOut wiring.now.mtu (C.put_may wiring.now.calls.now) (C.flush_may wiring.now.calls.now)
+            self.device.failed result.device.failed (completed self.device.end) (completed result.device.end)
+            self.sent result.sent self.wire result.wire }
     {
         let mut device_side = self;
         let mut backoff = Backoff::new();
@@ -70,14 +76,14 @@ impl<P: PoolName + Send, W: Drop> DeviceSide<P, W> {
     }
 
     /// Gathers some of the replies that are posted. Where none is left the wire is flushed.
-    pub fn round<Q: Wiring<W>>(self, pool: &Pool<P>, wiring: &Q) -> (Self, Round)
-        requires { Q.ready wiring.now }
+    pub fn round<C: WireCalls<W>>(self, pool: &Pool<P>, wiring: &Wiring<'_, C>) -> (Self, Round)
+        requires { (C.can_put wiring.now.calls.now × C.can_flush wiring.now.calls.now) × CanFrame wiring.now.mtu }
         ensures ring { device_ring result.0.device.end ≡ device_ring self.device.end }
-        ensures more { ForwardsMore (Q.mtu wiring.now) (Q.put_may wiring.now) (Q.flush_may wiring.now)
+        ensures more { ForwardsMore wiring.now.mtu (C.put_may wiring.now.calls.now) (C.flush_may wiring.now.calls.now)
             self.device.failed result.0.device.failed (completed self.device.end) (completed result.0.device.end)
             self.sent result.0.sent self.wire result.0.wire }
         ensures closed { result.1 ≡ Round.Closed → (ended result.0.device.end ≡ true)
-            × ForwardsOut (Q.mtu wiring.now) (Q.put_may wiring.now) (Q.flush_may wiring.now)
+            × ForwardsOut wiring.now.mtu (C.put_may wiring.now.calls.now) (C.flush_may wiring.now.calls.now)
             self.device.failed result.0.device.failed (completed self.device.end) (completed result.0.device.end)
             self.sent result.0.sent self.wire result.0.wire }
     {
@@ -88,9 +94,8 @@ impl<P: PoolName + Send, W: Drop> DeviceSide<P, W> {
             helped,
         } = self;
         let mut round = Round::Idle;
-        let mtu = wiring.mtu();
         for _ in 0..MOST_AT_ONCE {
-            let (after, found) = gathered(&mut device, wire, &mut sent, pool, wiring, mtu);
+            let (after, found) = gathered(&mut device, wire, &mut sent, pool, wiring);
             wire = after;
             match found {
                 Gathered::Sent { .. } | Gathered::Dropped { .. } => round = Round::Busy,
@@ -118,21 +123,21 @@ impl<P: PoolName + Send, W: Drop> DeviceSide<P, W> {
     /// Beside its session: between rounds of gathers the device's side lies in the place, until the ring is closed.
     /// Nothing is
     /// done where the session has left.
-    pub fn beside<R: Wait, Q: Wiring<W>>(
+    pub fn beside<R: Wait, C: WireCalls<W>>(
         self,
         rt: &R,
         pool: &Pool<P>,
-        place: &DeviceSlot<P, W, Q>,
-        wiring: &Q,
+        place: &DeviceSlot<'_, P, W, C>,
+        wiring: &Wiring<'_, C>,
         start_barrier: &StartBarrier,
     ) -> Result<Self, Self>
-        requires ready { Q.ready wiring.now }
+        requires ready { (C.can_put wiring.now.calls.now × C.can_flush wiring.now.calls.now) × CanFrame wiring.now.mtu }
         requires start { (place.now.device_side ≡ self) × (place.now.wiring ≡ wiring.now) }
         ensures ring { IfOk result (λ o. device_ring o.device.end ≡ device_ring self.device.end) }
         ensures ended { IfOk result (λ o. ended o.device.end ≡ true) }
-        ensures out { IfOk result (λ o. ForwardsOut (Q.mtu wiring.now) (Q.put_may wiring.now) (Q.flush_may wiring.now)
-            self.device.failed o.device.failed (completed self.device.end) (completed o.device.end) self.sent o.sent
-            self.wire o.wire) }
+        ensures out { IfOk result (λ o. ForwardsOut wiring.now.mtu (C.put_may wiring.now.calls.now)
+            (C.flush_may wiring.now.calls.now) self.device.failed o.device.failed (completed self.device.end)
+            (completed o.device.end) self.sent o.sent self.wire o.wire) }
         ensures back { IfErr result (λ o. o ≡ self) }
     {
         let Some(loan) = place.first() else {
@@ -147,55 +152,40 @@ impl<P: PoolName + Send, W: Drop> DeviceSide<P, W> {
 }
 
 // Gathers the next reply and puts it. Where no reply is posted the wire is flushed.
-fn gathered<P: PoolName + Send, W: Drop, Q: Wiring<W>>(
+fn gathered<P: PoolName + Send, W: Drop, C: WireCalls<W>>(
     device: &mut Device<P>,
     wire: W,
     sent: &mut u64,
     pool: &Pool<P>,
-    wiring: &Q,
-    mtu: Option<u16>,
+    wiring: &Wiring<'_, C>,
 ) -> (W, Gathered)
-    requires ready { Q.ready wiring.now }
-    requires mtu { mtu ≡ Q.mtu wiring.now }
-    requires can_frame { CanFrame mtu }
+    requires ready { (C.can_put wiring.now.calls.now × C.can_flush wiring.now.calls.now) × CanFrame wiring.now.mtu }
     ensures ring { device_ring device.new.end ≡ device_ring device.old.end }
     ensures found { IsFound result.1 device.new.failed device.old.end device.new.end }
-    ensures more { ForwardsMore (Q.mtu wiring.now) (Q.put_may wiring.now) (Q.flush_may wiring.now) device.old.failed
-        device.new.failed (completed device.old.end) (completed device.new.end) sent.old sent.new wire result.0 }
+    ensures more { ForwardsMore wiring.now.mtu (C.put_may wiring.now.calls.now) (C.flush_may wiring.now.calls.now)
+        device.old.failed device.new.failed (completed device.old.end) (completed device.new.end) sent.old sent.new
+        wire result.0 }
     ensures flushed { IfIdle result.1
-        (Flushes (Q.flush_may wiring.now) device.old.failed device.new.failed wire result.0) }
+        (Flushes (C.flush_may wiring.now.calls.now) device.old.failed device.new.failed wire result.0) }
 {
-    let (wire, found) = gather_next(
-        device,
-        pool,
-        wire,
-        mtu,
-        &|wire: W, piece: &[u8]| -> (W, bool)
-            requires { Q.ready wiring.now }
-            ensures { Q.put_may wiring.entry.now wire piece.entry result }
-        { wiring.put(wire, piece) },
-        &|wire: W| -> (W, bool)
-            requires { Q.ready wiring.now }
-            ensures { Q.flush_may wiring.entry.now wire result }
-        { wiring.flush(wire) },
-    );
+    let (wire, found) = gather_next(device, pool, wire, wiring.mtu, wiring);
     *sent = counted(*sent, whole_bytes(found));
     (wire, found)
 }
 
 // Gathers a round again and again, until the ring is closed. What a session gathers itself is left to it, since replies
 // that stay on one processor cost less.
-fn tended<R: Wait, P: PoolName + Send, W: Drop, Q: Wiring<W>>(
+fn tended<R: Wait, P: PoolName + Send, W: Drop, C: WireCalls<W>>(
     rt: &R,
     pool: &Pool<P>,
-    place: &DeviceSlot<P, W, Q>,
-    wiring: &Q,
+    place: &DeviceSlot<'_, P, W, C>,
+    wiring: &Wiring<'_, C>,
 ) -> DeviceSide<P, W>
-    requires ready { Q.ready wiring.now }
+    requires ready { (C.can_put wiring.now.calls.now × C.can_flush wiring.now.calls.now) × CanFrame wiring.now.mtu }
     requires same { place.now.wiring ≡ wiring.now }
     ensures ring { device_ring result.device.end ≡ device_ring place.now.device_side.device.end }
     ensures ended { ended result.device.end ≡ true }
-    ensures out { ForwardsOut (Q.mtu wiring.now) (Q.put_may wiring.now) (Q.flush_may wiring.now)
+    ensures out { ForwardsOut wiring.now.mtu (C.put_may wiring.now.calls.now) (C.flush_may wiring.now.calls.now)
         place.now.device_side.device.failed result.device.failed (completed place.now.device_side.device.end)
         (completed result.device.end) place.now.device_side.sent result.sent place.now.device_side.wire result.wire }
 {

@@ -3,15 +3,14 @@ ghost use Rattle.std.specs.Prelude.{◌≡◌, ℕ, List, Bool, false};
 ghost use Rattle.any_wire.specs.Sends.{Sends};
 ghost use Rattle.session_serve.specs.Wires.{SendsOut, WasFlushed};
 
+use any_wire::WireCalls;
+
 /// The text was put, by puts of at most 512 bytes and a flush; and a wire that hasn't failed was flushed last of all.
-pub fn sends_out<W, PUT: Fn(W, &[u8]) -> (W, bool), FLUSH: Fn(W) -> (W, bool)>(
-    put: &PUT,
-    flush: &FLUSH,
-)
+pub fn sends_out<W, C: WireCalls<W>>(calls: &C)
     ensures sends { (failed now : Bool) (text : List ℕ) (old new : W)
-        → SendsOut (λ w p r. PUT.post put.now w p r) (λ w r. FLUSH.post flush.now w r) failed now text old new
-        → Sends (λ w p r. PUT.post put.now w p r) (λ w r. FLUSH.post flush.now w r) failed now text old new }
+        → SendsOut (C.put_may calls.now) (C.flush_may calls.now) failed now text old new
+        → Sends (C.put_may calls.now) (C.flush_may calls.now) failed now text old new }
     ensures flushed { (failed now : Bool) (text : List ℕ) (old new : W)
-        → SendsOut (λ w p r. PUT.post put.now w p r) (λ w r. FLUSH.post flush.now w r) failed now text old new
-        → now ≡ false → WasFlushed (λ w p r. PUT.post put.now w p r) (λ w r. FLUSH.post flush.now w r) old new }
+        → SendsOut (C.put_may calls.now) (C.flush_may calls.now) failed now text old new
+        → now ≡ false → WasFlushed (C.put_may calls.now) (C.flush_may calls.now) old new }
 {}

@@ -10,6 +10,7 @@ ghost use Rattle.session_serve.specs.Working.{IsFresh};
 use crate::counting::counted;
 use crate::link::{Link, ServedAccount};
 use crate::room::Room;
+use any_wire::WireCalls;
 use command_exec::Shop;
 use flake_base::{End, Source};
 use order_book::BookName;
@@ -28,8 +29,7 @@ pub(crate) fn serve_in_turns<
     S: Source,
     G: Gate,
     W: Drop,
-    PUT: Fn(W, &[u8]) -> (W, bool),
-    FLUSH: Fn(W) -> (W, bool),
+    C: WireCalls<W>,
 >(
     rt: &R,
     shop: &Shop<'_, N, P>,
@@ -37,17 +37,16 @@ pub(crate) fn serve_in_turns<
     room: Room,
     gate: &G,
     wire: W,
-    put: &PUT,
-    flush: &FLUSH,
+    calls: &C,
 ) -> (W, ServedAccount<N, P, S>)
-    requires calls { PUT.IsAlwaysCallable put.now × FLUSH.IsAlwaysCallable flush.now }
+    requires calls { C.can_put calls.now × C.can_flush calls.now }
     requires fresh { IsFresh P.sizes link.session link.pump }
     requires ring { device_ring link.device.end ≡ link.session.ring }
     requires unfailed { link.device.failed ≡ false }
     requires plan { CanTake P.sizes N.sizes.shards link.dump.plan }
     requires untried { link.dump.taken ≡ None }
     requires mtu { CanFrame link.mtu }
-    ensures served { IsServed link.mtu (λ w p r. PUT.post put.now w p r) (λ w r. FLUSH.post flush.now w r) P.sizes
+    ensures served { IsServed link.mtu (C.put_may calls.now) (C.flush_may calls.now) P.sizes
         N.sizes.shards link.session result.1.pump.given result.1.pump.ended result.1.end result.1.sent
         result.1.mine result.1.seat wire result.0 }
     ensures origin { result.1.pump.origin ≡ link.pump.origin }
@@ -62,7 +61,7 @@ pub(crate) fn serve_in_turns<
     let mut sent = 0;
     laws::both_ends(&mut link.session, &mut link.device);
     let end = 'turns: loop {
-        let (after, turned) = link.turn(rt, shop, gate, &mut room, wire, put, flush);
+        let (after, turned) = link.turn(rt, shop, gate, &mut room, wire, calls);
         wire = after;
         match turned {
             Ok(bytes) => sent = counted(sent, bytes),
@@ -70,5 +69,5 @@ pub(crate) fn serve_in_turns<
         }
     };
     link.dump.take(rt, shop, &mut link.session);
-    link.close(shop, end, sent, wire, put, flush)
+    link.close(shop, end, sent, wire, calls)
 }

@@ -10,6 +10,7 @@ ghost use Rattle.order_book.specs.Pages.{SessionList};
 ghost use Rattle.session_serve.specs.Dumps.{CanTake, IsInTime, Stands, as_seeing};
 ghost use Rattle.session_serve.specs.Working.{IsFresh, IsWorking, CallsMore, HasStopped};
 ghost use Rattle.session_serve.specs.declared.dump.DumpPlan.{DumpPlan as Asked};
+ghost use Rattle.device_model.specs.Devices.{CanFrame};
 
 use crate::dump::{DumpTaken, DumpTurn};
 use crate::lending::DeviceSlot;
@@ -17,6 +18,7 @@ use crate::room::Room;
 use crate::start_barrier::StartBarrier;
 use crate::waiting::{Remains, call, finish};
 use crate::wiring::Wiring;
+use any_wire::WireCalls;
 use command_exec::Shop;
 use command_pump::Pump;
 use flake_base::{End, Memory, Source};
@@ -54,16 +56,16 @@ where
 
 impl<N: BookName, P: PoolName + Send, S: Source> SessionSide<N, P, S> {
     // Runs the next command, and before it takes the dump, if it is to stand there; or says how the session ends.
-    fn step<R: Wait, G: Gate, W: Drop, Q: Wiring<W>>(
+    fn step<R: Wait, G: Gate, W: Drop, C: WireCalls<W>>(
         &mut self,
         rt: &R,
         shop: &Shop<'_, N, P>,
         gate: &G,
-        place: &DeviceSlot<P, W, Q>,
-        wiring: &Q,
+        place: &DeviceSlot<'_, P, W, C>,
+        wiring: &Wiring<'_, C>,
     ) -> Result<(), End>
         requires few { length self.old.session.posted ≤ judged_bytes + 1 }
-        requires ready { Q.ready wiring.now }
+        requires ready { (C.can_put wiring.now.calls.now × C.can_flush wiring.now.calls.now) × CanFrame wiring.now.mtu }
         requires same { place.now.wiring ≡ wiring.now }
         requires plan { CanTake P.sizes N.sizes.shards self.old.dump.plan }
         ensures plan { CanTake P.sizes N.sizes.shards self.new.dump.plan }
@@ -112,16 +114,16 @@ impl<N: BookName, P: PoolName + Send, S: Source> SessionSide<N, P, S> {
 
     // Runs the commands, each behind the gate, to the source's end or until memory is wanting. The dump is taken before
     // its call, or last.
-    fn run<R: Wait, G: Gate, W: Drop, Q: Wiring<W>>(
+    fn run<R: Wait, G: Gate, W: Drop, C: WireCalls<W>>(
         self,
         rt: &R,
         shop: &Shop<'_, N, P>,
         gate: &G,
-        place: &DeviceSlot<P, W, Q>,
-        wiring: &Q,
+        place: &DeviceSlot<'_, P, W, C>,
+        wiring: &Wiring<'_, C>,
     ) -> Ended<N, P, S>
         requires fresh { IsFresh P.sizes self.session self.pump }
-        requires ready { Q.ready wiring.now }
+        requires ready { (C.can_put wiring.now.calls.now × C.can_flush wiring.now.calls.now) × CanFrame wiring.now.mtu }
         requires same { place.now.wiring ≡ wiring.now }
         requires plan { CanTake P.sizes N.sizes.shards self.dump.plan }
         requires untried { self.dump.taken ≡ None }
@@ -154,17 +156,17 @@ impl<N: BookName, P: PoolName + Send, S: Source> SessionSide<N, P, S> {
     }
 
     /// The same beside its device, whose device is within reach; or nothing is done, where the device doesn't come.
-    pub fn within_reach<R: Wait, G: Gate, W: Drop, Q: Wiring<W>>(
+    pub fn within_reach<R: Wait, G: Gate, W: Drop, C: WireCalls<W>>(
         self,
         rt: &R,
         shop: &Shop<'_, N, P>,
         gate: &G,
-        place: &DeviceSlot<P, W, Q>,
-        wiring: &Q,
+        place: &DeviceSlot<'_, P, W, C>,
+        wiring: &Wiring<'_, C>,
         start_barrier: &StartBarrier,
     ) -> Result<Ended<N, P, S>, Self>
         requires fresh { IsFresh P.sizes self.session self.pump }
-        requires ready { Q.ready wiring.now }
+        requires ready { (C.can_put wiring.now.calls.now × C.can_flush wiring.now.calls.now) × CanFrame wiring.now.mtu }
         requires same { place.now.wiring ≡ wiring.now }
         requires plan { CanTake P.sizes N.sizes.shards self.dump.plan }
         requires untried { self.dump.taken ≡ None }

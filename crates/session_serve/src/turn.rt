@@ -16,6 +16,7 @@ use crate::counting::whole_bytes;
 use crate::gather::gather_next;
 use crate::link::Link;
 use crate::room::Room;
+use any_wire::WireCalls;
 use command_exec::Shop;
 use flake_base::{End, Source};
 use order_book::BookName;
@@ -26,23 +27,16 @@ use std::sync::Wait;
 impl<N: BookName, P: PoolName + Send, S: Source> Link<N, P, S> {
     /// Runs the next command and puts its reply, and answers how many bytes were put in a whole reply; or says how the
     /// session ends. Before the command the dump is taken, if it is to stand there.
-    pub(crate) fn turn<
-        R: Wait,
-        G: Gate,
-        W: Drop,
-        PUT: Fn(W, &[u8]) -> (W, bool),
-        FLUSH: Fn(W) -> (W, bool),
-    >(
+    pub(crate) fn turn<R: Wait, G: Gate, W: Drop, C: WireCalls<W>>(
         &mut self,
         rt: &R,
         shop: &Shop<'_, N, P>,
         gate: &G,
         room: &mut Room,
         wire: W,
-        put: &PUT,
-        flush: &FLUSH,
+        calls: &C,
     ) -> (W, Result<u64, End>)
-        requires calls { PUT.IsAlwaysCallable put.now × FLUSH.IsAlwaysCallable flush.now }
+        requires calls { C.can_put calls.now × C.can_flush calls.now }
         requires gathered { IsGathered self.old.session self.old.device.end }
         requires ready { IsReady self.old.session }
         requires plan { CanTake P.sizes N.sizes.shards self.old.dump.plan }
@@ -58,14 +52,14 @@ impl<N: BookName, P: PoolName + Send, S: Source> Link<N, P, S> {
             → IsInTime asked self.old.dump.plan (length self.old.session.posted)
             → IsInTime asked self.new.dump.plan (length self.new.session.posted)) }
         ensures gathered { IsGathered self.new.session self.new.device.end }
-        ensures forwards { ForwardsAs self.old.mtu (λ w p r. PUT.post put.now w p r) (λ w r. FLUSH.post flush.now w r)
+        ensures forwards { ForwardsAs self.old.mtu (C.put_may calls.now) (C.flush_may calls.now)
             self.old.device.failed self.new.device.failed self.old.session.posted self.new.session.posted wire
             result.0 }
-        ensures sent { IfOk result.1 (λ bytes. SendsMore self.old.mtu (λ w p r. PUT.post put.now w p r)
-            (λ w r. FLUSH.post flush.now w r) self.old.device.failed self.new.device.failed self.old.session.posted
+        ensures sent { IfOk result.1 (λ bytes. SendsMore self.old.mtu (C.put_may calls.now) (C.flush_may calls.now)
+            self.old.device.failed self.new.device.failed self.old.session.posted
             self.new.session.posted bytes wire result.0) }
-        ensures none_sent { OnErr result.1 (SendsMore self.old.mtu (λ w p r. PUT.post put.now w p r)
-            (λ w r. FLUSH.post flush.now w r) self.old.device.failed self.new.device.failed self.old.session.posted
+        ensures none_sent { OnErr result.1 (SendsMore self.old.mtu (C.put_may calls.now) (C.flush_may calls.now)
+            self.old.device.failed self.new.device.failed self.old.session.posted
             self.new.session.posted 0 wire result.0) }
         ensures unstopped { OnOk result.1 (self.new.session.stopped ≡ self.old.session.stopped) }
         ensures call { OnOk result.1 ((first : SessionView) (origin : Origin) (before : ℕ)
@@ -94,19 +88,18 @@ impl<N: BookName, P: PoolName + Send, S: Source> Link<N, P, S> {
             Err(_) => unreachable!(),
         }
         self.pump.give_back(command);
-        let (wire, bytes) = self.forward(shop, wire, put, flush);
+        let (wire, bytes) = self.forward(shop, wire, calls);
         (wire, Ok(bytes))
     }
 
     // Puts the reply that was posted last, and answers how many bytes were put in a whole reply.
-    fn forward<W: Drop, PUT: Fn(W, &[u8]) -> (W, bool), FLUSH: Fn(W) -> (W, bool)>(
+    fn forward<W: Drop, C: WireCalls<W>>(
         &mut self,
         shop: &Shop<'_, N, P>,
         wire: W,
-        put: &PUT,
-        flush: &FLUSH,
+        calls: &C,
     ) -> (W, u64)
-        requires calls { PUT.IsAlwaysCallable put.now × FLUSH.IsAlwaysCallable flush.now }
+        requires calls { C.can_put calls.now × C.can_flush calls.now }
         requires one { HasOneMore self.old.session self.old.device.end }
         requires mtu { CanFrame self.old.mtu }
         ensures mtu { self.new.mtu ≡ self.old.mtu }
@@ -115,16 +108,16 @@ impl<N: BookName, P: PoolName + Send, S: Source> Link<N, P, S> {
             ≡ record self.old.session { told = length self.old.session.posted } }
         ensures pump { self.new.pump ≡ self.old.pump }
         ensures dump { self.new.dump ≡ self.old.dump }
-        ensures forwards { ForwardsAs self.old.mtu (λ w p r. PUT.post put.now w p r) (λ w r. FLUSH.post flush.now w r)
+        ensures forwards { ForwardsAs self.old.mtu (C.put_may calls.now) (C.flush_may calls.now)
             self.old.device.failed self.new.device.failed (completed self.old.device.end) self.old.session.posted wire
             result.0 }
-        ensures sent { SendsMore self.old.mtu (λ w p r. PUT.post put.now w p r) (λ w r. FLUSH.post flush.now w r)
+        ensures sent { SendsMore self.old.mtu (C.put_may calls.now) (C.flush_may calls.now)
             self.old.device.failed self.new.device.failed (completed self.old.device.end) self.old.session.posted
             result.1 wire result.0 }
     {
         // The device is told what was posted, and then the session what was gathered.
         laws::both_ends(&mut self.session, &mut self.device);
-        let (wire, found) = gather_next(&mut self.device, shop.pool, wire, self.mtu, put, flush);
+        let (wire, found) = gather_next(&mut self.device, shop.pool, wire, self.mtu, calls);
         laws::both_ends(&mut self.session, &mut self.device);
         (wire, whole_bytes(found))
     }

@@ -4,11 +4,13 @@ ghost use Rattle.flake_model.specs.Resp.{judged_bytes};
 ghost use Rattle.tx_ring.specs.Shown.{closed_ring, closed_view};
 ghost use Rattle.session_serve.specs.Beside.{CallsAtLast, BreaksAtLast};
 ghost use Rattle.session_serve.specs.Working.{IsLeft};
+ghost use Rattle.device_model.specs.Devices.{CanFrame};
 
 use crate::backoff::Backoff;
 use crate::lending::{DeviceSlot, relieve};
 use crate::room::Room;
 use crate::wiring::Wiring;
+use any_wire::WireCalls;
 use command_exec::Shop;
 use command_parts::Command;
 use flake_base::Memory;
@@ -32,14 +34,14 @@ where
 }
 
 // Replies take all room: some are gathered, or the device does so meanwhile.
-fn rest<R: Wait, P: PoolName + Send, W: Drop, Q: Wiring<W>>(
+fn rest<R: Wait, P: PoolName + Send, W: Drop, C: WireCalls<W>>(
     rt: &R,
     pool: &Pool<P>,
-    place: &DeviceSlot<P, W, Q>,
-    wiring: &Q,
+    place: &DeviceSlot<'_, P, W, C>,
+    wiring: &Wiring<'_, C>,
     backoff: &mut Backoff,
 )
-    requires ready { Q.ready wiring.now }
+    requires ready { (C.can_put wiring.now.calls.now × C.can_flush wiring.now.calls.now) × CanFrame wiring.now.mtu }
     requires same { place.now.wiring ≡ wiring.now }
 {
     if relieve(pool, place, wiring) {
@@ -50,17 +52,17 @@ fn rest<R: Wait, P: PoolName + Send, W: Drop, Q: Wiring<W>>(
 }
 
 /// Runs a command and posts its reply. Where ring or stage is full, replies are gathered, and the call is made again.
-pub(crate) fn call<R: Wait, N: BookName, P: PoolName + Send, W: Drop, Q: Wiring<W>>(
+pub(crate) fn call<R: Wait, N: BookName, P: PoolName + Send, W: Drop, C: WireCalls<W>>(
     rt: &R,
     shop: &Shop<'_, N, P>,
     session: &mut Session<N, P>,
     command: &Command,
     room: &mut Room,
-    place: &DeviceSlot<P, W, Q>,
-    wiring: &Q,
+    place: &DeviceSlot<'_, P, W, C>,
+    wiring: &Wiring<'_, C>,
 ) -> Result<(), Memory>
     requires few { length session.old.posted ≤ judged_bytes + 1 }
-    requires ready { Q.ready wiring.now }
+    requires ready { (C.can_put wiring.now.calls.now × C.can_flush wiring.now.calls.now) × CanFrame wiring.now.mtu }
     requires same { place.now.wiring ≡ wiring.now }
     ensures posted { OnOk result (CallsAtLast P.sizes N.sizes.shards command.now session.old session.new) }
     ensures memory { OnErr result (BreaksAtLast P.sizes N.sizes.shards command.now session.old session.new) }
@@ -78,14 +80,14 @@ pub(crate) fn call<R: Wait, N: BookName, P: PoolName + Send, W: Drop, Q: Wiring<
 }
 
 /// Waits until all replies are sent, gives them back, and closes ring and pass.
-pub(crate) fn finish<R: Wait, N: BookName, P: PoolName + Send, W: Drop, Q: Wiring<W>>(
+pub(crate) fn finish<R: Wait, N: BookName, P: PoolName + Send, W: Drop, C: WireCalls<W>>(
     rt: &R,
     shop: &Shop<'_, N, P>,
     session: Session<N, P>,
-    place: &DeviceSlot<P, W, Q>,
-    wiring: &Q,
+    place: &DeviceSlot<'_, P, W, C>,
+    wiring: &Wiring<'_, C>,
 ) -> Remains<N, P>
-    requires ready { Q.ready wiring.now }
+    requires ready { (C.can_put wiring.now.calls.now × C.can_flush wiring.now.calls.now) × CanFrame wiring.now.mtu }
     requires same { place.now.wiring ≡ wiring.now }
     ensures left { IsLeft session result.seat result.mine }
     ensures ring { closed_ring result.closed ≡ session.ring }

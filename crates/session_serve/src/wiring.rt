@@ -1,84 +1,43 @@
-// What bytes are put on a wire with, whichever side has it.
-ghost use Rattle.std.specs.Prelude.{◌≡◌, ℕ, List, Bool, Option};
+// How a session's replies come onto its wire.
+ghost use Rattle.std.specs.Prelude.{ℕ, List, Bool};
 ghost use Rattle.std.specs.Borrow.{Bor};
-ghost use Rattle.device_model.specs.Devices.{CanFrame};
 
-/// How bytes come onto a wire of this type.
-pub(crate) trait Wiring<W> {
-    ghost ready: { Self → Type 0 };
+use any_wire::WireCalls;
 
-    ghost mtu: { Self → Option ℕ };
-
-    ghost put_may: { Self → W → Bor (List ℕ) → (W × Bool) → Type 0 };
-
-    ghost flush_may: { Self → W → (W × Bool) → Type 0 };
-
-    fn put(&self, wire: W, piece: &[u8]) -> (W, bool)
-        requires { ready self.now }
-        ensures { put_may self.now wire piece.entry result };
-
-    fn flush(&self, wire: W) -> (W, bool)
-        requires { ready self.now }
-        ensures { flush_may self.now wire result };
-
-    /// Replies are put as frames of at most so many bytes, if there is a bound.
-    fn mtu(&self) -> Option<u16>
-        requires { ready self.now }
-        ensures bound { result ≡ mtu self.now }
-        ensures can_frame { CanFrame (mtu self.now) };
-}
-
-/// By one call that puts and one that flushes.
-pub(crate) struct Calls<'a, PUT, FLUSH> {
-    pub put: &'a PUT,
-    pub flush: &'a FLUSH,
+/// The wire's calls, and how replies are put by them.
+pub(crate) struct Wiring<'a, C> {
+    pub calls: &'a C,
     /// Replies are put as frames of at most so many bytes, if there is a bound.
     pub mtu: Option<u16>,
 }
 
-impl<'a, W, PUT: Fn(W, &[u8]) -> (W, bool), FLUSH: Fn(W) -> (W, bool)> Wiring<W>
-    for Calls<'a, PUT, FLUSH> {
-    ghost ready = { λ calls. PUT.IsAlwaysCallable calls.put.now × FLUSH.IsAlwaysCallable calls.flush.now
-        × CanFrame calls.mtu };
+// By calls of a type of its own, what the device's side does is compiled for it alone.
+impl<'a, W, C: WireCalls<W>> WireCalls<W> for Wiring<'a, C> {
+    ghost can_put = { λ wiring. C.can_put wiring.calls.now };
 
-    ghost mtu = { λ calls. calls.mtu };
+    ghost can_flush = { λ wiring. C.can_flush wiring.calls.now };
 
-    ghost put_may = { λ calls w p r. PUT.post calls.put.now w p r };
+    ghost put_may = { λ wiring w p r. C.put_may wiring.calls.now w p r };
 
-    ghost flush_may = { λ calls w r. FLUSH.post calls.flush.now w r };
+    ghost flush_may = { λ wiring w r. C.flush_may wiring.calls.now w r };
 
     fn put(&self, wire: W, piece: &[u8]) -> (W, bool)
-        requires { PUT.IsAlwaysCallable self.now.put.now × FLUSH.IsAlwaysCallable self.now.flush.now
-            × CanFrame self.now.mtu }
-        ensures { PUT.post self.now.put.now wire piece.entry result }
+        requires { C.can_put self.now.calls.now }
+        ensures { C.put_may self.now.calls.now wire piece.entry result }
     {
-        (self.put)(wire, piece)
+        self.calls.put(wire, piece)
     }
 
     fn flush(&self, wire: W) -> (W, bool)
-        requires { PUT.IsAlwaysCallable self.now.put.now × FLUSH.IsAlwaysCallable self.now.flush.now
-            × CanFrame self.now.mtu }
-        ensures { FLUSH.post self.now.flush.now wire result }
+        requires { C.can_flush self.now.calls.now }
+        ensures { C.flush_may self.now.calls.now wire result }
     {
-        (self.flush)(wire)
-    }
-
-    fn mtu(&self) -> Option<u16>
-        requires { PUT.IsAlwaysCallable self.now.put.now × FLUSH.IsAlwaysCallable self.now.flush.now
-            × CanFrame self.now.mtu }
-        ensures bound { result ≡ self.now.mtu }
-        ensures can_frame { CanFrame self.now.mtu }
-    {
-        self.mtu
+        self.calls.flush(wire)
     }
 }
 
-impl<'a, PUT, FLUSH> Drop for Calls<'a, PUT, FLUSH> {
+impl<'a, C> Drop for Wiring<'a, C> {
     fn drop(self) {
-        let Self {
-            put: _,
-            flush: _,
-            mtu: _,
-        } = self;
+        let Self { calls: _, mtu: _ } = self;
     }
 }

@@ -2,7 +2,6 @@
 ghost use Rattle.std.specs.Prelude.{◌≡◌, ◌+◌, ◌<◌, ◌≤◌, true, false, nat_lt, min, is_some, None, [], length};
 ghost use Rattle.std.specs.Prelude.{IfOk, IfErr, OnErr};
 ghost use Rattle.view_sums.specs.Total.{Each};
-ghost use Rattle.flake_model.specs.Journal.{shard_of as shard_of_key};
 ghost use Rattle.frag_value.specs.Fragments.{frags_limit};
 ghost use Rattle.flake_base.specs.Limits.{value_limit};
 ghost use Rattle.order_book.specs.Pages.{new_shards};
@@ -16,7 +15,7 @@ ghost use Rattle.pin_core.specs.Buffers.{buffers};
 ghost use Rattle.shard_store.specs.Images.{IsImage};
 
 use crate::image::ShardImage;
-use crate::locks::{open_lock, pin_in, run_in};
+use crate::locks::{locked, open_lock, pin_in};
 use crate::parts::{Parts, Room, all_taken, first_lock, take_lock};
 use crate::shard::Shard;
 use crate::spread::ClaimSpread;
@@ -28,6 +27,31 @@ use shard_core::PartAnswer;
 use shard_part::{Part, shard_of};
 use std::alloc::Global;
 use std::sync::{Mutex, Wait};
+
+// What an expression comes to in one of the store's shards, whose lock is held for it.
+macro_rules! in_shard {
+    ($store:expr, $rt:expr, $number:expr, $shard:ident => $done:expr) => {
+        match $number {
+            0 => { let mut $shard = locked($rt, &$store.shard0); $done }
+            1 => { let mut $shard = locked($rt, &$store.shard1); $done }
+            2 => { let mut $shard = locked($rt, &$store.shard2); $done }
+            3 => { let mut $shard = locked($rt, &$store.shard3); $done }
+            4 => { let mut $shard = locked($rt, &$store.shard4); $done }
+            5 => { let mut $shard = locked($rt, &$store.shard5); $done }
+            6 => { let mut $shard = locked($rt, &$store.shard6); $done }
+            7 => { let mut $shard = locked($rt, &$store.shard7); $done }
+            8 => { let mut $shard = locked($rt, &$store.shard8); $done }
+            9 => { let mut $shard = locked($rt, &$store.shard9); $done }
+            10 => { let mut $shard = locked($rt, &$store.shard10); $done }
+            11 => { let mut $shard = locked($rt, &$store.shard11); $done }
+            12 => { let mut $shard = locked($rt, &$store.shard12); $done }
+            13 => { let mut $shard = locked($rt, &$store.shard13); $done }
+            14 => { let mut $shard = locked($rt, &$store.shard14); $done }
+            15 => { let mut $shard = locked($rt, &$store.shard15); $done }
+            _ => unreachable!(),
+        }
+    };
+}
 
 /// The shards of a book over the buffers of a pool. The type behind each lock has the shard's number as a parameter,
 /// since all that a lock tells is its type.
@@ -194,217 +218,10 @@ impl<N: BookName, P: PoolName> Store<N, P> {
             → T.range_room taker.old + length (T.taken taker.old)
             ≤ T.range_room taker.new + length (T.taken taker.new) }
     {
-        match shard_of(part.key, self.shards) {
-            0 => run_in(
-                rt,
-                self.alloc,
-                &self.shard0,
-                pool,
-                book,
-                seat,
-                mine,
-                at,
-                part,
-                taker,
-                stored,
-            ),
-            1 => run_in(
-                rt,
-                self.alloc,
-                &self.shard1,
-                pool,
-                book,
-                seat,
-                mine,
-                at,
-                part,
-                taker,
-                stored,
-            ),
-            2 => run_in(
-                rt,
-                self.alloc,
-                &self.shard2,
-                pool,
-                book,
-                seat,
-                mine,
-                at,
-                part,
-                taker,
-                stored,
-            ),
-            3 => run_in(
-                rt,
-                self.alloc,
-                &self.shard3,
-                pool,
-                book,
-                seat,
-                mine,
-                at,
-                part,
-                taker,
-                stored,
-            ),
-            4 => run_in(
-                rt,
-                self.alloc,
-                &self.shard4,
-                pool,
-                book,
-                seat,
-                mine,
-                at,
-                part,
-                taker,
-                stored,
-            ),
-            5 => run_in(
-                rt,
-                self.alloc,
-                &self.shard5,
-                pool,
-                book,
-                seat,
-                mine,
-                at,
-                part,
-                taker,
-                stored,
-            ),
-            6 => run_in(
-                rt,
-                self.alloc,
-                &self.shard6,
-                pool,
-                book,
-                seat,
-                mine,
-                at,
-                part,
-                taker,
-                stored,
-            ),
-            7 => run_in(
-                rt,
-                self.alloc,
-                &self.shard7,
-                pool,
-                book,
-                seat,
-                mine,
-                at,
-                part,
-                taker,
-                stored,
-            ),
-            8 => run_in(
-                rt,
-                self.alloc,
-                &self.shard8,
-                pool,
-                book,
-                seat,
-                mine,
-                at,
-                part,
-                taker,
-                stored,
-            ),
-            9 => run_in(
-                rt,
-                self.alloc,
-                &self.shard9,
-                pool,
-                book,
-                seat,
-                mine,
-                at,
-                part,
-                taker,
-                stored,
-            ),
-            10 => run_in(
-                rt,
-                self.alloc,
-                &self.shard10,
-                pool,
-                book,
-                seat,
-                mine,
-                at,
-                part,
-                taker,
-                stored,
-            ),
-            11 => run_in(
-                rt,
-                self.alloc,
-                &self.shard11,
-                pool,
-                book,
-                seat,
-                mine,
-                at,
-                part,
-                taker,
-                stored,
-            ),
-            12 => run_in(
-                rt,
-                self.alloc,
-                &self.shard12,
-                pool,
-                book,
-                seat,
-                mine,
-                at,
-                part,
-                taker,
-                stored,
-            ),
-            13 => run_in(
-                rt,
-                self.alloc,
-                &self.shard13,
-                pool,
-                book,
-                seat,
-                mine,
-                at,
-                part,
-                taker,
-                stored,
-            ),
-            14 => run_in(
-                rt,
-                self.alloc,
-                &self.shard14,
-                pool,
-                book,
-                seat,
-                mine,
-                at,
-                part,
-                taker,
-                stored,
-            ),
-            15 => run_in(
-                rt,
-                self.alloc,
-                &self.shard15,
-                pool,
-                book,
-                seat,
-                mine,
-                at,
-                part,
-                taker,
-                stored,
-            ),
-            _ => unreachable!(),
-        }
+        let number = shard_of(part.key, self.shards);
+        in_shard!(self, rt, number, shard => {
+            shard.run(self.alloc, pool, book, seat, mine, at, part, taker, stored)
+        })
     }
 
     /// How many shards there are.

@@ -11,7 +11,7 @@ use Rattle.flake_base.specs.Told.{WireTold}
 use Rattle.flake_model.specs.Command.{Command}
 use Rattle.flake_model.specs.Deed.{Deed, Places}
 use Rattle.flake_model.specs.Wire.{faults_told}
-use Rattle.wire_told.specs.Sent.{WasSentByPuts}
+use Rattle.any_wire.specs.Sent.{WasSentByPuts}
 use Rattle.schedule_text.specs.declared.line.Line.TheVariants.{Call, Gather}
 use Rattle.transcript_model.specs.Lines.{LineEvent, sent, dropped}
 use Rattle.transcript_model.specs.Standing.{at_first}

@@ -9,3 +9,4 @@ pub mod Stays
 pub mod Wants
 pub mod Whole
 pub mod Cut
+pub mod Some

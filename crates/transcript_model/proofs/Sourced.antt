@@ -28,7 +28,7 @@ use Rattle.transcript_model.specs.Transcript.{Wires, SessionsAreRight, IsToldBy,
 use Rattle.transcript_model.specs.Sources.{IsOwnDeed, AreSources}
 use Rattle.flake_model.specs.Replay.{IsShownAt}
 use Rattle.flake_model.proofs.Replays.{replay-legal}
-use Rattle.wire_told.specs.Sent.{WasSentByPuts}
+use Rattle.any_wire.specs.Sent.{WasSentByPuts}
 use Rattle.transcript_model.proofs.Stays.{all_stay}
 use Rattle.transcript_model.proofs.Shown.{shown_by_events, posted_shows, fragments_at}
 

@@ -16,7 +16,7 @@ use Rattle.flake_model.specs.Deed.{Deed, Places, places_at, AreApart, IsLegal}
 use Rattle.transcript_model.specs.Lines.{transcript_text}
 use Rattle.view_sums.specs.Total.{Each}
 use Rattle.flake_base.specs.Told.{WireTold}
-use Rattle.wire_told.specs.Sent.{WasSentByPuts}
+use Rattle.any_wire.specs.Sent.{WasSentByPuts}
 use Rattle.reply_planner.specs.Stages.{IsAbove, IsRising}
 use Rattle.transcript_model.specs.Terms.{Terms}
 use Rattle.transcript_model.specs.Standing.{at_first}

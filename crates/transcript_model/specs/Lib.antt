@@ -11,3 +11,4 @@ pub mod News
 pub mod Sources
 pub mod Worked
 pub mod Whole
+pub mod Told

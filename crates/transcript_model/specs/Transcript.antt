@@ -21,7 +21,7 @@ use Rattle.transcript_model.specs.Lines.{LineEvent, posted, EventLine, line_of, 
 use Rattle.transcript_model.specs.Terms.{Terms}
 use Rattle.any_wire.specs.Texts.{Sending, WireGrew}
 use Rattle.transcript_model.specs.Sessions.{events_of, texts_of, IsRightSession}
-use Rattle.wire_told.specs.Sent.{WasSentByPuts}
+use Rattle.any_wire.specs.Sent.{WasSentByPuts}
 
 -- the words of the run, what its inputs ask for, and what it answered
 pub record DrivenRun : Type 0 where

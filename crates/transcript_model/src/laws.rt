@@ -13,7 +13,7 @@ ghost use Rattle.transcript_model.specs.Standing.{Standing, at_first};
 ghost use Rattle.transcript_model.specs.Right.{AreRight};
 ghost use Rattle.transcript_model.specs.Transcript.{DrivenRun, Wires, AreAllApart, transcript_places, IsToldBy};
 ghost use Rattle.transcript_model.specs.Transcript.{IsTranscript, CutReplyIsDropped};
-ghost use Rattle.wire_told.specs.Sent.{WasSentByPuts};
+ghost use Rattle.any_wire.specs.Sent.{WasSentByPuts};
 ghost use Rattle.transcript_model.specs.News.{with_news, LeavesSaid};
 ghost use Rattle.transcript_model.specs.Sources.{AreSources};
 ghost use Rattle.transcript_model.specs.Worked.{worked, wrong, wants_memory};

@@ -7,23 +7,23 @@ ghost use Rattle.frag_value.specs.Values.{frag_bytes, value_bytes};
 ghost use Rattle.value_pins.specs.Pins.{IsPinned, PutsText};
 
 use crate::pinned::Pinned;
-use any_wire::{MOST_PUT, put_unless_failed};
+use any_wire::{MOST_PUT, WireCalls, put_unless_failed};
 use pinned_pool::{Pool, PoolName, PoolSeat};
 
 /// Puts the value's bytes in pieces of at most 512, each read under the seat's own hold, until a put fails.
-pub fn put_value<N: PoolName, W: Drop, P: Fn(W, &[u8]) -> (W, bool)>(
+pub fn put_value<N: PoolName, W: Drop, C: WireCalls<W>>(
     pool: &Pool<N>,
     seat: &mut PoolSeat<N>,
     value: &Pinned<N>,
     room: &mut [u8; MOST_PUT],
     wire: W,
     failed: bool,
-    put: &P,
+    calls: &C,
 ) -> (W, bool)
-    requires calls { P.IsAlwaysCallable put.now }
+    requires calls { C.can_put calls.now }
     requires value { IsPinned seat.old.holds value.now }
     ensures seat { seat.new ≡ seat.old }
-    ensures puts { PutsText (λ w p r. P.post put.now w p r) failed result.1 (value_bytes seat.old.holds value.now) wire
+    ensures puts { PutsText (C.put_may calls.now) failed result.1 (value_bytes seat.old.holds value.now) wire
         result.0 }
 {
     let mut wire = wire;
@@ -31,7 +31,7 @@ pub fn put_value<N: PoolName, W: Drop, P: Fn(W, &[u8]) -> (W, bool)>(
     for i in 0..value.count() {
         let frag = value.frag(i);
         let buffer = frag.hold.buffer();
-        let (after, now) = put_frag(pool, seat, buffer, frag.len, room, wire, has_failed, put);
+        let (after, now) = put_frag(pool, seat, buffer, frag.len, room, wire, has_failed, calls);
         wire = after;
         has_failed = now;
     }
@@ -39,7 +39,7 @@ pub fn put_value<N: PoolName, W: Drop, P: Fn(W, &[u8]) -> (W, bool)>(
 }
 
 // Puts the bytes of one fragment.
-fn put_frag<N: PoolName, W: Drop, P: Fn(W, &[u8]) -> (W, bool)>(
+fn put_frag<N: PoolName, W: Drop, C: WireCalls<W>>(
     pool: &Pool<N>,
     seat: &mut PoolSeat<N>,
     buffer: u32,
@@ -47,13 +47,13 @@ fn put_frag<N: PoolName, W: Drop, P: Fn(W, &[u8]) -> (W, bool)>(
     room: &mut [u8; MOST_PUT],
     wire: W,
     failed: bool,
-    put: &P,
+    calls: &C,
 ) -> (W, bool)
-    requires calls { P.IsAlwaysCallable put.now }
+    requires calls { C.can_put calls.now }
     requires held { 0 < total (at buffer) seat.old.holds }
     requires filled { len ≤ 8 * length (front_of buffer seat.old.holds) }
     ensures seat { seat.new ≡ seat.old }
-    ensures puts { PutsText (λ w p r. P.post put.now w p r) failed result.1 (frag_bytes seat.old.holds (buffer, len))
+    ensures puts { PutsText (C.put_may calls.now) failed result.1 (frag_bytes seat.old.holds (buffer, len))
         wire result.0 }
 {
     let mut wire = wire;
@@ -69,7 +69,7 @@ fn put_frag<N: PoolName, W: Drop, P: Fn(W, &[u8]) -> (W, bool)>(
             &mut room[..count as usize],
             wire,
             has_failed,
-            put,
+            calls,
         );
         wire = after;
         has_failed = now;
@@ -79,7 +79,7 @@ fn put_frag<N: PoolName, W: Drop, P: Fn(W, &[u8]) -> (W, bool)>(
 }
 
 // Reads a piece, as long as the room, and puts it.
-fn put_piece<N: PoolName, W: Drop, P: Fn(W, &[u8]) -> (W, bool)>(
+fn put_piece<N: PoolName, W: Drop, C: WireCalls<W>>(
     pool: &Pool<N>,
     seat: &mut PoolSeat<N>,
     buffer: u32,
@@ -87,19 +87,19 @@ fn put_piece<N: PoolName, W: Drop, P: Fn(W, &[u8]) -> (W, bool)>(
     room: &mut [u8],
     wire: W,
     failed: bool,
-    put: &P,
+    calls: &C,
 ) -> (W, bool)
-    requires calls { P.IsAlwaysCallable put.now }
+    requires calls { C.can_put calls.now }
     requires count { (0 < length room.old) × (length room.old ≤ 512) }
     requires held { 0 < total (at buffer) seat.old.holds }
     requires inside { from + length room.old ≤ 8 * length (front_of buffer seat.old.holds) }
     ensures seat { seat.new ≡ seat.old }
-    ensures puts { PutsText (λ w p r. P.post put.now w p r) failed result.1
+    ensures puts { PutsText (C.put_may calls.now) failed result.1
         (take (length room.old) (drop from (bytes_of_words (front_of buffer seat.old.holds)))) wire result.0 }
 {
     if failed {
         return (wire, true);
     }
     pool.load_bytes(seat, buffer, from, room);
-    put_unless_failed(wire, false, put, room)
+    put_unless_failed(wire, false, calls, room)
 }

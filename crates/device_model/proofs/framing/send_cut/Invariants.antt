@@ -12,7 +12,7 @@ invariant-loop-done g l =
       job : l.job ≡ l.fn.job;
       place : IsInText reply.segments l.place.segment l.place.offset;
       rest : text_behind g.N.PoolName.sizes reply l.place.segment l.place.offset ≡ drop l.done behind;
-      sends : PutsText (λ w p r. goal.P-post g l.put w p r) false l.has_failed
+      sends : PutsText (g.C.WireCalls.put_may l.calls) false l.has_failed
           (take 16 l.fn.room ++ take l.done behind) l.fn.wire l.wire;
     }
 

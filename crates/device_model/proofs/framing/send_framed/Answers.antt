@@ -43,7 +43,7 @@ returns-then-has_failed-clause-sends g c =
     let before = c.loop-left.invariant in
     sends-same _ _ _ true _ _ _ _ (sym before.sent.1)
     (sends-on _ _ _ true true before.sent.0 _ _ _ _
-    (subst (λ f. PutsText (λ w p r. goal.P-post g c.args.put.now w p r) c.args.failed f before.sent.0 c.args.wire
+    (subst (λ f. PutsText (g.C.WireCalls.put_may c.args.calls.now) c.args.failed f before.sent.0 c.args.wire
     c.loop-left.wire) c.if-has_failed.true before.sent.2)
     (sends-over _ _ _ c.loop-left.wire))
 
@@ -55,17 +55,17 @@ returns-then-has_failed-clause-frames g c =
     let rest = frames_to_put p.call (length (cuts_of c.args.mtu p.text)) c.loop-left.index (c.args.mtu - 16)
     (text_behind g.N.PoolName.sizes p place.segment place.offset) in
     subst
-    (λ frames. PutsEach (λ w p r. goal.P-post g c.args.put.now w p r) (map mtu_frame_bytes frames) c.args.failed
+    (λ frames. PutsEach (g.C.WireCalls.put_may c.args.calls.now) (map mtu_frame_bytes frames) c.args.failed
     true c.args.wire c.loop-left.wire)
     (sym each.1)
     (subst
-    (λ texts. PutsEach (λ w p r. goal.P-post g c.args.put.now w p r) texts c.args.failed true c.args.wire
+    (λ texts. PutsEach (g.C.WireCalls.put_may c.args.calls.now) texts c.args.failed true c.args.wire
     c.loop-left.wire)
     (sym (map-append mtu_frame_bytes each.0 rest))
     (puts-each-on _ (map mtu_frame_bytes each.0) (map mtu_frame_bytes rest) c.args.failed true true c.args.wire
     c.loop-left.wire c.loop-left.wire
     (subst
-    (λ f. PutsEach (λ w p r. goal.P-post g c.args.put.now w p r) (map mtu_frame_bytes each.0) c.args.failed f
+    (λ f. PutsEach (g.C.WireCalls.put_may c.args.calls.now) (map mtu_frame_bytes each.0) c.args.failed f
     c.args.wire c.loop-left.wire)
     c.if-has_failed.true each.2)
     (puts-each-over _ (map mtu_frame_bytes rest) c.loop-left.wire)))
@@ -77,7 +77,7 @@ returns-clause-frames g c =
     let place = c.loop-left.place in
     let behind = text_behind g.N.PoolName.sizes p place.segment place.offset in
     subst
-    (λ frames. PutsEach (λ w p r. goal.P-post g c.args.put.now w p r) (map mtu_frame_bytes frames) c.args.failed
+    (λ frames. PutsEach (g.C.WireCalls.put_may c.args.calls.now) (map mtu_frame_bytes frames) c.args.failed
     c.loop-left.has_failed c.args.wire c.loop-left.wire)
     (sym (before.each.1
     ∙ ap (λ frames. before.each.0 ++ frames)
@@ -119,10 +119,10 @@ loop-left-preserved g c =
     ap (take len) here ∙ take-least len size behind least in
     let put : take 16 c.write_header.new.room
     ++ take len (text_behind z (frame_of c.loop-left.job) old.segment old.offset) ≡ frame = (λ k. head k ++ next k) in
-    let sends : PutsText (λ w p r. goal.P-post g c.args.put.now w p r) c.loop-left.has_failed
+    let sends : PutsText (g.C.WireCalls.put_may c.args.calls.now) c.loop-left.has_failed
     c.send_cut-after.result.1 frame c.loop-left.wire c.send_cut-after.result.0 =
     subst
-    (λ f. PutsText (λ w p r. goal.P-post g c.args.put.now w p r) f c.send_cut-after.result.1 frame c.loop-left.wire
+    (λ f. PutsText (g.C.WireCalls.put_may c.args.calls.now) f c.send_cut-after.result.1 frame c.loop-left.wire
     c.send_cut-after.result.0)
     (sym c.if-has_failed.false) (sends-same _ _ _ _ _ _ _ _ put c.send_cut-after.ensures.sends) in
     let some : 0 < size = omega (arith, c.requires.mtu.0) in
@@ -152,7 +152,7 @@ loop-left-preserved g c =
             ∙ ap (λ t. (before.each.0 ++ cut ∷ []) ++ frames_to_put p.call count (index + 1) size t)
             (sym (rest ∙ drop-least len size behind least)),
         subst
-            (λ texts. PutsEach (λ w p r. goal.P-post g c.args.put.now w p r) texts c.args.failed
+            (λ texts. PutsEach (g.C.WireCalls.put_may c.args.calls.now) texts c.args.failed
             c.send_cut-after.result.1 c.args.wire c.send_cut-after.result.0)
             (sym (map-append mtu_frame_bytes before.each.0 (cut ∷ [])))
             (puts-each-on _ (map mtu_frame_bytes before.each.0) (frame ∷ []) _ _ _ _ _ _ before.each.2

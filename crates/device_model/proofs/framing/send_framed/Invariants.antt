@@ -18,10 +18,10 @@ invariant-loop-left g l =
       few : l.index + l.left ≤ l.bytes;
       sent : (text : List ℕ) × (framed reply.text reply.call l.mtu ≡ text
           ++ frames_left reply.call (length (cuts_of l.mtu reply.text)) l.index (l.mtu - 16) behind)
-          × PutsText (λ w p r. goal.P-post g l.put w p r) l.failed l.has_failed text l.fn.wire l.wire;
+          × PutsText (g.C.WireCalls.put_may l.calls) l.failed l.has_failed text l.fn.wire l.wire;
       each : (done : List MtuFrame) × (frames_of reply.text reply.call l.mtu ≡ done
           ++ frames_to_put reply.call (length (cuts_of l.mtu reply.text)) l.index (l.mtu - 16) behind)
-          × PutsEach (λ w p r. goal.P-post g l.put w p r) (map mtu_frame_bytes done) l.failed l.has_failed l.fn.wire
+          × PutsEach (g.C.WireCalls.put_may l.calls) (map mtu_frame_bytes done) l.failed l.has_failed l.fn.wire
           l.wire;
     }
 

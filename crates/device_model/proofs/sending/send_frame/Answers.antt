@@ -55,13 +55,13 @@ loop-i-preserved g c =
       pieces =
           let more = subst
           (λ (q : Sent). (steps : List WireStep) × AreCuts steps (reading z q.holds seg.address seg.len)
-          × Chain (λ w b r. goal.P-post g c.args.put.now w b r) (λ w r. ⊥) steps c.loop-i.has_failed
+          × Chain (g.C.WireCalls.put_may c.args.calls.now) (λ w r. ⊥) steps c.loop-i.has_failed
           c.send_segment-after.result.1 c.loop-i.wire c.send_segment-after.result.0)
           same c.send_segment-after.ensures.pieces in (
             before.pieces.0 ++ more.0,
             cuts-at-next (reading z p.holds) before.pieces.0 more.0 p.segments c.loop-i.i seg found before.pieces.1
                 more.1,
-            chain-more (λ w b r. goal.P-post g c.args.put.now w b r) before.pieces.0 more.0 _ _ _ _ _ _ before.pieces.2
+            chain-more (g.C.WireCalls.put_may c.args.calls.now) before.pieces.0 more.0 _ _ _ _ _ _ before.pieces.2
                 more.2,
           );
     }

@@ -10,7 +10,7 @@ use Rattle.device_model.proofs.sending.send_frame.Given as goal
 abbrev pub invariant-loop-i : goal.invariant-loop-i
 invariant-loop-i g l = record {
   job : l.job ≡ l.fn.job;
-  sends : PutsText (λ w p r. goal.P-post g l.put w p r) l.failed l.has_failed
+  sends : PutsText (g.C.WireCalls.put_may l.calls) l.failed l.has_failed
       (read_all (reading g.N.PoolName.sizes (frame_of l.fn.job).holds) (take l.i (frame_of l.fn.job).segments))
       l.fn.wire l.wire;
   bytes : l.bytes ≡ length
@@ -18,5 +18,5 @@ invariant-loop-i g l = record {
   few : l.bytes ≤ 4096 * l.i;
   pieces : (steps : List WireStep) × AreCutsAt (reading g.N.PoolName.sizes (frame_of l.fn.job).holds) steps
       (take l.i (frame_of l.fn.job).segments)
-      × Chain (λ w p r. goal.P-post g l.put w p r) (λ w r. ⊥) steps l.failed l.has_failed l.fn.wire l.wire;
+      × Chain (g.C.WireCalls.put_may l.calls) (λ w r. ⊥) steps l.failed l.has_failed l.fn.wire l.wire;
 }

@@ -13,9 +13,9 @@ returns-then-failed-clause-sends g c =
     let bytes = buffer_bytes p.holds c.args.buffer c.args.from (length c.args.room.now) in
     let n = run-length g.N.PoolName.sizes p c.args.buffer c.args.from (length c.args.room.now) c.is_parcel.ensures
     c.requires.bytes in
-    subst (λ f. PutsText (λ w p r. goal.P-post g c.args.put.now w p r) f true bytes c.args.wire c.args.wire)
+    subst (λ f. PutsText (g.C.WireCalls.put_may c.args.calls.now) f true bytes c.args.wire c.args.wire)
     (sym c.if-failed.true)
-    (sends-put (λ w p r. goal.P-post g c.args.put.now w p r) (λ w r. ⊥) true true bytes c.args.wire c.args.wire
+    (sends-put (g.C.WireCalls.put_may c.args.calls.now) (λ w r. ⊥) true true bytes c.args.wire c.args.wire
     (omega (arith, n, c.requires.count.0), omega (arith, n, c.requires.count.1)) (refl, refl))
 
 pub returns-clause-sends : goal.returns-clause-sends
@@ -25,27 +25,27 @@ returns-clause-sends g c =
     let n = run-length g.N.PoolName.sizes p c.args.buffer c.args.from (length c.args.room.now) c.is_parcel.ensures
     c.requires.bytes in
     let read : c.load_bytes.new.room ≡ bytes = search rules in
-    let done : Puts (λ w p r. goal.P-post g c.args.put.now w p r) false c.put.result.1 bytes c.args.wire
+    let done : Puts (g.C.WireCalls.put_may c.args.calls.now) false c.put.result.1 bytes c.args.wire
     c.put.result.0 = (_, read, c.put.ensures) in
-    subst (λ f. PutsText (λ w p r. goal.P-post g c.args.put.now w p r) f c.put.result.1 bytes c.args.wire
+    subst (λ f. PutsText (g.C.WireCalls.put_may c.args.calls.now) f c.put.result.1 bytes c.args.wire
     c.put.result.0) (sym c.if-failed.false)
-    (sends-put (λ w p r. goal.P-post g c.args.put.now w p r) (λ w r. ⊥) false c.put.result.1 bytes c.args.wire
+    (sends-put (g.C.WireCalls.put_may c.args.calls.now) (λ w r. ⊥) false c.put.result.1 bytes c.args.wire
     c.put.result.0 (omega (arith, n, c.requires.count.0), omega (arith, n, c.requires.count.1)) done)
 
 pub returns-then-failed-clause-piece : goal.returns-then-failed-clause-piece
 returns-then-failed-clause-piece g c =
     let bytes = buffer_bytes c.args.parcel.now.holds c.args.buffer c.args.from (length c.args.room.now) in
-    chain-put (λ w p r. goal.P-post g c.args.put.now w p r) c.args.failed true bytes c.args.wire c.args.wire
-    (subst (λ f. Puts (λ w p r. goal.P-post g c.args.put.now w p r) f true bytes c.args.wire c.args.wire)
+    chain-put (g.C.WireCalls.put_may c.args.calls.now) c.args.failed true bytes c.args.wire c.args.wire
+    (subst (λ f. Puts (g.C.WireCalls.put_may c.args.calls.now) f true bytes c.args.wire c.args.wire)
     (sym c.if-failed.true) (refl, refl))
 
 pub returns-clause-piece : goal.returns-clause-piece
 returns-clause-piece g c =
     let bytes = buffer_bytes c.args.parcel.now.holds c.args.buffer c.args.from (length c.args.room.now) in
     let read : c.load_bytes.new.room ≡ bytes = search rules in
-    let done : Puts (λ w p r. goal.P-post g c.args.put.now w p r) false c.put.result.1 bytes c.args.wire
+    let done : Puts (g.C.WireCalls.put_may c.args.calls.now) false c.put.result.1 bytes c.args.wire
     c.put.result.0 = (_, read, c.put.ensures) in
-    chain-put (λ w p r. goal.P-post g c.args.put.now w p r) c.args.failed c.put.result.1 bytes c.args.wire
+    chain-put (g.C.WireCalls.put_may c.args.calls.now) c.args.failed c.put.result.1 bytes c.args.wire
     c.put.result.0
-    (subst (λ f. Puts (λ w p r. goal.P-post g c.args.put.now w p r) f c.put.result.1 bytes c.args.wire c.put.result.0)
+    (subst (λ f. Puts (g.C.WireCalls.put_may c.args.calls.now) f c.put.result.1 bytes c.args.wire c.put.result.0)
     (sym c.if-failed.false) done)

@@ -68,11 +68,11 @@ loop-done-preserved g c =
                 c.is_parcel.ensures c.requires.segment.1 c.in-Some.ensures.some k.1
                 (omega (arith, c.min-count.ensures, c.loop-done-test.true)) (omega (arith, c.min-count.ensures))
                 (omega (arith, c.min-count.ensures, c.loop-done-test.true)) before.pieces.1,
-            chain-more (λ w p r. goal.P-post g c.args.put.now w p r) before.pieces.0
+            chain-more (g.C.WireCalls.put_may c.args.calls.now) before.pieces.0
                 (puts (buffer_bytes hs b (from + done) n) ∷ []) _ _ _ _ _ _
                 before.pieces.2
                 (subst
-                (λ piece. Chain (λ w q r. goal.P-post g c.args.put.now w q r) (λ w r. ⊥) (puts piece ∷ [])
+                (λ piece. Chain (g.C.WireCalls.put_may c.args.calls.now) (λ w r. ⊥) (puts piece ∷ [])
                 c.loop-done.has_failed c.send_piece-after.result.1 c.loop-done.wire c.send_piece-after.result.0)
                 bytes c.send_piece-after.ensures.piece),
           );

@@ -9,10 +9,10 @@ abbrev pub invariant-loop-done : goal.invariant-loop-done
 invariant-loop-done g l = record {
   within : l.done ≤ l.segment.len;
   parcel : l.parcel ≡ l.fn.parcel;
-  sends : PutsText (λ w p r. goal.P-post g l.put w p r) l.failed l.has_failed
+  sends : PutsText (g.C.WireCalls.put_may l.calls) l.failed l.has_failed
       (buffer_bytes l.fn.parcel.holds l.buffer l.from l.done) l.fn.wire l.wire;
   pieces : (steps : List WireStep) × AreCuts steps (buffer_bytes l.fn.parcel.holds l.buffer l.from l.done)
-      × Chain (λ w p r. goal.P-post g l.put w p r) (λ w r. ⊥) steps l.failed l.has_failed l.fn.wire l.wire;
+      × Chain (g.C.WireCalls.put_may l.calls) (λ w r. ⊥) steps l.failed l.has_failed l.fn.wire l.wire;
   whole : (l.done ≡ l.segment.len) ⊎ ((k : ℕ) × (l.done ≡ 512 * k));
 }
 

@@ -13,14 +13,14 @@ invariant-loop-session g l = record {
   all : l.yielded ++ into_iter_items l.session-iterator ≡ l.fn.sessions.items;
   left : into_iter_len l.session-iterator ≡ length (into_iter_items l.session-iterator);
   done : AllZip (λ d a. (first : Driving g.row.W.Denot) (events : List LineEvent)
-      → IsUnderWay (sends_by (λ w p r. goal.PUT-post g l.put w p r) (λ w r. goal.FLUSH-post g l.flush w r))
+      → IsUnderWay (sends_by (g.C.WireCalls.put_may l.calls) (g.C.WireCalls.flush_may l.calls))
       g.P.PoolName.sizes g.N.BookName.sizes.shards first events
       (driving_of d.lane.session d.lane.device.failed d.lane.device.end d.asking.kept d.asking.end d.asking.pump d.wire)
-      → HasLeft (sends_by (λ w p r. goal.PUT-post g l.put w p r) (λ w r. goal.FLUSH-post g l.flush w r))
+      → HasLeft (sends_by (g.C.WireCalls.put_may l.calls) (g.C.WireCalls.flush_may l.calls))
       g.P.PoolName.sizes first events a.end a.mine a.pump a.wire
-      × HasDriven (λ w p r. goal.PUT-post g l.put w p r) (λ w r. goal.FLUSH-post g l.flush w r) g.P.PoolName.sizes
+      × HasDriven (g.C.WireCalls.put_may l.calls) (g.C.WireCalls.flush_may l.calls) g.P.PoolName.sizes
       g.N.BookName.sizes.shards first events a.end a.mine a.seat a.pump a.wire) l.yielded l.accounts.items;
-  rest : All (λ d. IsGoing (sends_by (λ w p r. goal.PUT-post g l.put w p r) (λ w r. goal.FLUSH-post g l.flush w r))
+  rest : All (λ d. IsGoing (sends_by (g.C.WireCalls.put_may l.calls) (g.C.WireCalls.flush_may l.calls))
       g.P.PoolName.sizes g.N.BookName.sizes.shards
       (driving_of d.lane.session d.lane.device.failed d.lane.device.end d.asking.kept d.asking.end d.asking.pump
       d.wire)) (into_iter_items l.session-iterator);

@@ -7,7 +7,7 @@ use Rattle.drive_script.proofs.lines.drive_lines.Given as goal
 
 abbrev pub invariant-loop-line : goal.invariant-loop-line
 invariant-loop-line g l = record {
-  driven : WereDriven (sends_by (λ w p r. goal.PUT-post g l.put w p r) (λ w r. goal.FLUSH-post g l.flush w r))
+  driven : WereDriven (sends_by (g.C.WireCalls.put_may l.calls) (g.C.WireCalls.flush_may l.calls))
       g.P.PoolName.sizes g.N.BookName.sizes.shards
       (map (λ d. driving_of d.lane.session d.lane.device.failed d.lane.device.end d.asking.kept d.asking.end
       d.asking.pump d.wire) l.fn.sessions.items)

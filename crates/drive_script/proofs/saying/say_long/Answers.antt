@@ -1,5 +1,5 @@
 use Rattle.std.proofs.Common.{subst, sym, ap, ◌∙◌}
-use Rattle.transcript_text.specs.Told.{said}
+use Rattle.transcript_model.specs.Told.{said}
 use Rattle.transcript_model.specs.Lines.{transcript_line}
 use Rattle.drive_script.specs.Happened.{line_event}
 use Rattle.drive_script.specs.Says.{PrintsText}

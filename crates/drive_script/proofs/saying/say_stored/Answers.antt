@@ -1,5 +1,5 @@
 use Rattle.std.proofs.Common.{subst, sym, arith}
-use Rattle.transcript_text.proofs.Some.{some_stored}
+use Rattle.transcript_model.proofs.Some.{some_stored}
 use Rattle.drive_script.specs.Says.{PrintsText}
 use Rattle.drive_script.proofs.Sayings.{says_then}
 use Rattle.drive_script.proofs.saying.say_stored.Goals as goal

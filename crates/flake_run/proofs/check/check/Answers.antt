@@ -3,8 +3,8 @@ use Rattle.std.specs.List.{AllByRecursion}
 use Rattle.std.specs.Option.{option_map}
 use Rattle.std.proofs.lemmas.List.{length-map}
 use Rattle.check_files.specs.Named.{named}
-use Rattle.serve_words.specs.Check.{check_of, shown_check}
-use Rattle.serve_words.specs.Task.{word_texts}
+use Rattle.command_line.specs.Check.{check_of, shown_check}
+use Rattle.command_line.specs.Task.{word_texts}
 use Rattle.flake_run.specs.Checked.{Checked, ConcludesBy}
 use Rattle.flake_run.specs.Outcome.{GaveFront, done, opened_told, source_told, sources_of}
 use Rattle.flake_run.specs.Outside.{outside}

@@ -2,7 +2,7 @@ use Rattle.std.proofs.Common.{◌≡◌, Bor, List, ℕ, Some, None, [], ◌∷�
 use Rattle.std.specs.List.{AllByRecursion, range_with_len}
 use Rattle.std.specs.Option.{option_map}
 use Rattle.std.proofs.lemmas.List.{length-map}
-use Rattle.serve_words.specs.Drive.{shown_drive}
+use Rattle.command_line.specs.Drive.{shown_drive}
 use Rattle.flake_run.specs.Driven.{CameOf}
 use Rattle.flake_run.specs.DriveTask.{IsUndrivable, drive_job, drive_job_of, shown_job}
 use Rattle.flake_run.specs.Opening.{AreOpened, FailsToOpen}

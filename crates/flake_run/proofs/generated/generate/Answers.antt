@@ -1,8 +1,8 @@
 use Rattle.std.proofs.Common.{◌≡◌, inr, Some, IfSome, map, arith, refl, sym, ap, ◌∙◌, subst}
 use Rattle.std.proofs.lemmas.List.{length-map}
 use Rattle.serve_inputs.specs.Whole.{raised}
-use Rattle.serve_words.specs.Task.{word_texts}
-use Rattle.gen_words.specs.Task.{IsAllowedGenerated, generated_task_of}
+use Rattle.command_line.specs.Task.{word_texts}
+use Rattle.command_line.specs.GenerateTask.{IsAllowedGenerated, generated_task_of}
 use Rattle.flake_run.specs.declared.outcome.Detail.TheVariants.{Nothing}
 use Rattle.flake_run.specs.Generated.{Generated, IsUngenerated, sum_of}
 use Rattle.flake_run.specs.Outcome.{done, opened_told, source_told}

@@ -2,8 +2,8 @@ use Rattle.std.proofs.Common.{◌≡◌, ◌≢◌, List, ℕ, Some, None, IfSom
 use Rattle.std.proofs.Common.{◌<◌, subst, vec_len}
 use Rattle.std.proofs.lemmas.Bool.{eqb-false, eqb-true}
 use Rattle.std.specs.Option.{option_map}
-use Rattle.serve_words.specs.Join.{AreJoinNumbers, join_of, shown_join}
-use Rattle.serve_words.specs.Task.{word_texts}
+use Rattle.command_line.specs.Join.{AreJoinNumbers, join_of, shown_join}
+use Rattle.command_line.specs.Task.{word_texts}
 use Rattle.flake_run.specs.Joined.{IsUnjoinable, Joined}
 use Rattle.flake_run.specs.Opening.{AreOpened, IsUnopened}
 use Rattle.flake_run.specs.Outcome.{IsUntouched, done, opened_told, source_told}

@@ -2,7 +2,7 @@ use Rattle.std.proofs.Common.{◌≡◌, inl, inr, [], ◌∷◌, refl, sym, ap,
 use Rattle.std.specs.List.{AllByRecursion}
 use Rattle.flake_base.specs.Histories.{histories}
 use Rattle.mtu_frames.specs.Joining.{IsWhole, replies}
-use Rattle.serve_words.specs.Join.{shown_join}
+use Rattle.command_line.specs.Join.{shown_join}
 use Rattle.join_files.specs.Source.{IsUnjoined}
 use Rattle.flake_run.specs.Checked.{ConcludesBy}
 use Rattle.flake_run.specs.Joined.{IsPutOnFirst}

@@ -2,7 +2,7 @@ use Rattle.std.proofs.Common.{◌≡◌, ap, not, subst}
 use Rattle.flake_base.specs.Told.{WireTold}
 use Rattle.flake_model.specs.Wire.{KeptIs}
 use Rattle.mtu_frames.specs.Joining.{replies}
-use Rattle.wire_told.specs.Sent.{WasSent}
+use Rattle.any_wire.specs.Sent.{WasSent}
 use Rattle.flake_run.proofs.JoinedAll.{put_first}
 use Rattle.flake_run.proofs.join.put_on_first.Goals as goal
 

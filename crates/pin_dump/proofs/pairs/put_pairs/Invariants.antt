@@ -6,6 +6,6 @@ use Rattle.pin_dump.proofs.pairs.put_pairs.Given as goal
 abbrev pub invariant-loop-i : goal.invariant-loop-i
 invariant-loop-i g l = record {
   seat : l.seat ≡ l.fn.seat;
-  puts : PutsText (λ w p r. goal.P-post g l.put w p r) l.failed l.has_failed
+  puts : PutsText (g.C.WireCalls.put_may l.calls) l.failed l.has_failed
       (pairs_text (pairs_shown l.fn.seat.holds (take l.i l.pairs))) l.fn.wire l.wire;
 }

@@ -20,14 +20,14 @@ loop-done-preserved g c =
       c.min-count.ensures,
       c.loop-done-test.true,
     ) in
-    let put = subst (λ (k : ℕ). Puts (λ w p r. goal.P-post g c.args.put.now w p r) c.loop-done.has_failed
+    let put = subst (λ (k : ℕ). Puts (g.C.WireCalls.put_may c.args.calls.now) c.loop-done.has_failed
     c.put_unless_failed-after.result.1 (take k (drop done bytes)) c.loop-done.wire c.put_unless_failed-after.result.0)
     size c.put_unless_failed-after.ensures in
     record {
       within = omega (arith, c.min-count.ensures, c.loop-done-test.true);
       puts = sends-same _ _ _ _ _ _ _ _ (piece_more bytes done n)
           (sends-on _ _ _ _ _ _ _ _ _ _ before.puts
-          (sends-put (λ w p r. goal.P-post g c.args.put.now w p r) (λ w r. ⊥) c.loop-done.has_failed
+          (sends-put (g.C.WireCalls.put_may c.args.calls.now) (λ w r. ⊥) c.loop-done.has_failed
           c.put_unless_failed-after.result.1 piece c.loop-done.wire c.put_unless_failed-after.result.0 (
             omega (arith, long, c.min-count.ensures, c.loop-done-test.true),
             omega (

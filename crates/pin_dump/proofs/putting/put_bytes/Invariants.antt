@@ -8,5 +8,5 @@ decreases-loop-done g l = length l.bytes - l.done
 abbrev pub invariant-loop-done : goal.invariant-loop-done
 invariant-loop-done g l = record {
   within : l.done ≤ length l.bytes;
-  puts : PutsText (λ w p r. goal.P-post g l.put w p r) l.failed l.has_failed (take l.done l.bytes) l.fn.wire l.wire;
+  puts : PutsText (g.C.WireCalls.put_may l.calls) l.failed l.has_failed (take l.done l.bytes) l.fn.wire l.wire;
 }

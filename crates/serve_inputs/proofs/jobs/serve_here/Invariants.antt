@@ -8,8 +8,8 @@ abbrev pub invariant-loop-job : goal.invariant-loop-job
 invariant-loop-job g l = record {
   all : l.yielded ++ into_iter_items l.job-iterator ≡ l.fn.jobs.items;
   left : into_iter_len l.job-iterator ≡ length (into_iter_items l.job-iterator);
-  done : AllZip (λ job done. IsDone job.link.mtu (λ w p r. goal.PUT-post g l.put w p r)
-      (λ w r. goal.FLUSH-post g l.flush w r) g.P.PoolName.sizes g.N.BookName.sizes.shards job.link.session
+  done : AllZip (λ job done. IsDone job.link.mtu (g.C.WireCalls.put_may l.calls)
+      (g.C.WireCalls.flush_may l.calls) g.P.PoolName.sizes g.N.BookName.sizes.shards job.link.session
       job.link.pump job.link.dump.plan job.wire
       job.dump_wire done.account.end done.account.sent done.account.mine done.account.seat done.account.pump
       done.wire done.dump) l.yielded l.dones.items;

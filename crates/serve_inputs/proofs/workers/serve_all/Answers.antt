@@ -25,7 +25,6 @@ jobs_in_workers-served-requires-clause-calls g c = λ κs within k d small. (
     search,
     search,
     search,
-    search,
   ),
 )
 

@@ -1,9 +1,7 @@
-use Rattle.std.proofs.Common.{of_calls}
 use Rattle.session_serve.proofs.Between.{more-gathered}
 use Rattle.session_serve.proofs.device_side.gathered.Goals as goal
 
 pub returns-clause-more : goal.returns-clause-more
 returns-clause-more g c =
     let e = c.gather_next-wire.ensures in
-    more-gathered _ _ _ _ _ (λ w p r may. search of_calls) (λ w r may. search of_calls) _ _ _ _ _ _ _ _ _ _ _ e.found
-    e.put e.flushed e.forwards c.whole_bytes.ensures c.counted.ensures c.requires.mtu
+    more-gathered _ _ _ _ _ _ _ _ _ _ _ _ _ e.found e.put e.flushed e.forwards c.whole_bytes.ensures c.counted.ensures

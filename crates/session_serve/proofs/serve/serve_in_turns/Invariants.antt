@@ -22,9 +22,9 @@ invariant-turns g l = record {
       l.fn.link.session.pass.list l.link.session.pass.list;
   in_time : IsInTime l.fn.link.dump.plan l.link.dump.plan (length l.link.session.posted);
   mtu : l.link.mtu ≡ l.fn.link.mtu;
-  forwards : ForwardsAs l.fn.link.mtu (λ w p r. goal.PUT-post g l.put w p r) (λ w r. goal.FLUSH-post g l.flush w r)
+  forwards : ForwardsAs l.fn.link.mtu (g.C.WireCalls.put_may l.calls) (g.C.WireCalls.flush_may l.calls)
       false l.link.device.failed [] l.link.session.posted l.fn.wire l.wire;
-  whole : SentWhole (λ w p r. goal.PUT-post g l.put w p r) (λ w r. goal.FLUSH-post g l.flush w r) l.link.device.failed
+  whole : SentWhole (g.C.WireCalls.put_may l.calls) (g.C.WireCalls.flush_may l.calls) l.link.device.failed
       (each_as_sent l.fn.link.mtu l.link.session.posted) (texts_in l.link.session.posted) l.sent l.fn.wire l.wire;
 }
 

@@ -11,6 +11,6 @@ abbrev pub invariant-loop-done : goal.invariant-loop-done
 invariant-loop-done g l = record {
   seat : l.seat ≡ l.fn.seat;
   within : l.done ≤ l.len;
-  puts : PutsText (λ w p r. goal.P-post g l.put w p r) l.failed l.has_failed (take l.done (bytes_of_words (front_of
+  puts : PutsText (g.C.WireCalls.put_may l.calls) l.failed l.has_failed (take l.done (bytes_of_words (front_of
       l.buffer l.fn.seat.holds))) l.fn.wire l.wire;
 }

@@ -6,6 +6,6 @@ use Rattle.value_pins.proofs.putting.put_value.Given as goal
 abbrev pub invariant-loop-i : goal.invariant-loop-i
 invariant-loop-i g l = record {
   seat : l.seat ≡ l.fn.seat;
-  puts : PutsText (λ w p r. goal.P-post g l.put w p r) l.failed l.has_failed (value_bytes l.fn.seat.holds (take l.i
+  puts : PutsText (g.C.WireCalls.put_may l.calls) l.failed l.has_failed (value_bytes l.fn.seat.holds (take l.i
       l.value)) l.fn.wire l.wire;
 }

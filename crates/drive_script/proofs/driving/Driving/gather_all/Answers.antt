@@ -47,4 +47,4 @@ unreachable-requires g c =
     let few = no_more_gathered _ _ _ going.first going.events c.loop-i.i _
     (c.loop-i.invariant.quietly going.first going.events going.is) in
     let posted = ap (λ (list : List Sent). length list) c.loop-i.invariant.posted in
-    omega (arith, few, posted, c.loop-i-test.false, c.from-i-end.ensures, c.calls-calls.ensures)
+    omega (arith, few, posted, c.loop-i-test.false, c.from-i-end.ensures, c.calls-made.ensures)

@@ -13,11 +13,11 @@ invariant-loop-i g l = record {
   wire : IsSome l.self.wire;
   posted : l.self.lane.session.posted ≡ l.fn.self.lane.session.posted;
   quietly : (first : Driving g.row.W.Denot) (events : List LineEvent)
-      → IsUnderWay (sends_by (λ w p r. goal.PUT-post g l.put w p r) (λ w r. goal.FLUSH-post g l.flush w r))
+      → IsUnderWay (sends_by (g.C.WireCalls.put_may l.calls) (g.C.WireCalls.flush_may l.calls))
       g.P.PoolName.sizes g.N.BookName.sizes.shards first events
       (driving_of l.fn.self.lane.session l.fn.self.lane.device.failed l.fn.self.lane.device.end l.fn.self.asking.kept
       l.fn.self.asking.end l.fn.self.asking.pump l.fn.self.wire)
-      → GoesQuietly (sends_by (λ w p r. goal.PUT-post g l.put w p r) (λ w r. goal.FLUSH-post g l.flush w r))
+      → GoesQuietly (sends_by (g.C.WireCalls.put_may l.calls) (g.C.WireCalls.flush_may l.calls))
       g.P.PoolName.sizes g.N.BookName.sizes.shards first events l.i
       (driving_of l.self.lane.session l.self.lane.device.failed l.self.lane.device.end l.self.asking.kept
       l.self.asking.end l.self.asking.pump l.self.wire);

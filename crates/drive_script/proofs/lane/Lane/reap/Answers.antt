@@ -1,6 +1,6 @@
 use Rattle.std.proofs.Common.{◌++◌, ◌∷◌, [], sym, subst}
 use Rattle.transcript_model.specs.Lines.{nothing_reaped}
-use Rattle.drive_model.specs.Views.{SessionShown, DeviceShown}
+use Rattle.drive_script.specs.Views.{SessionShown, DeviceShown}
 use Rattle.drive_script.specs.Lanes.{IsDriven}
 use Rattle.drive_script.specs.Shown.{session_shown, device_shown}
 use Rattle.drive_script.proofs.Counted.{reap_counts}

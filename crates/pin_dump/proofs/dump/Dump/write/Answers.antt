@@ -13,7 +13,7 @@ returns-clause-puts g c =
     let given : c.as_slice.result.now ≡ c.self.inside.pairs.items = search rules in
     sends-same _ _ _ _ _ _ _ _
     (ap (λ (l : List KeyFrags). pairs_text (pairs_shown hs l)) given ∙ ap (λ (d : DumpView). d.text) c.self.view_is)
-    (flushed (λ w p r. goal.Q-post g c.args.put.now w p r) (λ w r. goal.F-post g c.args.flush.now w r) false
+    (flushed (g.C.WireCalls.put_may c.args.calls.now) (g.C.WireCalls.flush_may c.args.calls.now) false
     c.put_pairs-put_all.result.1 c.flush_unless_failed-flushed.result.1
     (pairs_text (pairs_shown hs c.as_slice.result.now)) c.args.wire c.put_pairs-put_all.result.0
     c.flush_unless_failed-flushed.result.0 c.put_pairs-put_all.ensures.puts c.flush_unless_failed-flushed.ensures)

@@ -6,8 +6,8 @@ use Rattle.session_serve.proofs.device_side.DeviceSide.forward_all.Given as goal
 abbrev pub invariant-loop : goal.invariant-loop
 invariant-loop g l = record {
   ring : device_ring l.device_side.device.end ≡ device_ring l.fn.self.device.end;
-  more : ForwardsMore (g.Q.Wiring.mtu l.wiring) (g.Q.Wiring.put_may l.wiring) (g.Q.Wiring.flush_may l.wiring)
-      l.fn.self.device.failed
+  more : ForwardsMore l.wiring.mtu (g.C.WireCalls.put_may l.wiring.calls.now)
+      (g.C.WireCalls.flush_may l.wiring.calls.now) l.fn.self.device.failed
       l.device_side.device.failed
       (completed l.fn.self.device.end) (completed l.device_side.device.end) l.fn.self.sent l.device_side.sent
       l.fn.self.wire

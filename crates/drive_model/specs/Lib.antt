@@ -1,4 +1,0 @@
-pub mod Views
-pub mod Calls
-pub mod Matches
-pub mod Quiet

@@ -1,3 +1,0 @@
-pub mod Command
-pub mod Numbers
-pub mod Task

@@ -1,4 +1,0 @@
-use Rattle.pool_tests.proofs.books.run.Given as goal
-
-abbrev pub ghosts-run_named : goal.ghosts-run_named
-ghosts-run_named g a = record { table = a.blank.table; sizes = a.blank.sizes }

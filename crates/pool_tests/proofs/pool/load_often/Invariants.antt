@@ -1,8 +1,0 @@
-use Rattle.std.proofs.Common.{◌≡◌}
-use Rattle.pool_tests.proofs.pool.load_often.Given as goal
-
-abbrev pub invariant-loop : goal.invariant-loop
-invariant-loop g l = record {
-  seat : l.seat ≡ l.fn.seat;
-  hold : l.hold ≡ l.fn.hold;
-}

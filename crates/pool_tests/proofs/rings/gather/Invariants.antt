@@ -1,5 +1,0 @@
-use Rattle.tx_ring.specs.Shown.{IsResting}
-use Rattle.pool_tests.proofs.rings.gather.Given as goal
-
-abbrev pub invariant-loop : goal.invariant-loop
-invariant-loop l = IsResting l.end

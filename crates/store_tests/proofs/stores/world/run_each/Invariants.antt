@@ -1,5 +1,0 @@
-use Rattle.std.proofs.Common.{◌≡◌}
-use Rattle.store_tests.proofs.stores.world.run_each.Given as goal
-
-abbrev pub invariant-loop-asked : goal.invariant-loop-asked
-invariant-loop-asked g l = l.session.seat.credits ≡ l.fn.session.seat.credits

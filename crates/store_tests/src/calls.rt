@@ -1,7 +1,0 @@
-mod asking;
-mod looks;
-mod passes;
-mod replies;
-mod resources;
-mod rows;
-mod tight;

@@ -1,0 +1,20 @@
+use Rattle.std.proofs.Common.{◌≡◌, ◌++◌, drop, sym, ap, ◌∙◌, subst}
+use Rattle.pinned_pool.specs.declared.view.View.{View}
+use Rattle.reply_planner.specs.Owned.{AreOwn}
+use Rattle.reply_planner.specs.Planned.{Planned}
+use Rattle.reply_planner.specs.declared.terms.Terms.{Terms}
+use Rattle.reply_planner.proofs.Grown.{lent_own}
+use Rattle.test_replies.proofs.plans.answer.Goals as goal
+
+pub send-requires-clause-own : goal.send-requires-clause-own
+send-requires-clause-own g c =
+    let e = c.in_ok-plan.ensures in
+    let hs = c.args.slot.seat.holds in
+    let s = c.args.slot.stage in
+    let n = c.values-need.result.stage in
+    let base = ap (λ (t : Terms). t.stage)
+    (c.copy_nulls.ensures.base ∙ c.hand_often.ensures.base ∙ ap (λ (p : Planned). p.base) c.copy.ensures.plan)
+    ∙ ap (λ (p : Planned). p.base.stage) e.plan in
+    subst (λ (v : View). AreOwn v.holds (c.start.new.stage ++ c.copy_nulls.new.plan.base.stage)) (sym e.seat)
+    (subst (λ l. AreOwn hs (l ++ c.copy_nulls.new.plan.base.stage)) (sym e.stage)
+    (subst (λ l. AreOwn hs (drop n s ++ l)) (sym base) (lent_own hs s n c.args.slot.own)))

@@ -1,0 +1,15 @@
+//! Tests of sessions that are served and driven, by public items.
+#![tactic(auto)]
+
+#[cfg(test)]
+mod alone;
+#[cfg(test)]
+mod common;
+#[cfg(test)]
+mod demands;
+#[cfg(test)]
+mod driven;
+#[cfg(test)]
+mod generated;
+#[cfg(test)]
+mod inputs;

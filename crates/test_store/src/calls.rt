@@ -1,0 +1,6 @@
+mod looks;
+mod passes;
+mod replies;
+mod resources;
+mod rows;
+mod tight;

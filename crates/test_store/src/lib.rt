@@ -1,0 +1,11 @@
+//! Tests of shards, of the store, and of commands on it, by public items.
+#![tactic(auto)]
+
+#[cfg(test)]
+mod calls;
+#[cfg(test)]
+mod seats;
+#[cfg(test)]
+mod shard_maps;
+#[cfg(test)]
+mod stores;

@@ -1,0 +1,8 @@
+use Rattle.std.proofs.Common.{◌≡◌, length}
+use Rattle.test_text.proofs.requests.give.Given as goal
+
+abbrev pub invariant-loop-request : goal.invariant-loop-request
+invariant-loop-request l = l.reader.closed ≡ l.fn.reader.closed
+
+abbrev pub decreases-loop-request : goal.decreases-loop-request
+decreases-loop-request l = length l.reader.requests
