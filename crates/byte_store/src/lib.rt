@@ -4,4 +4,4 @@
 mod store;
 mod table;
 
-pub use store::{PartAnswer, Store};
+pub use store::{ByteAnswer, ByteStore};

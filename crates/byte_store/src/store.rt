@@ -19,7 +19,7 @@ use std::marker::Model;
 
 /// What a part of a command answers.
 #[derive(Drop)]
-pub enum PartAnswer {
+pub enum ByteAnswer {
     /// A copy of the value.
     Bulk(Bytes),
     /// The key is missing.
@@ -35,11 +35,11 @@ pub enum PartAnswer {
 
 /// A value for each key that has one.
 #[derive(Drop)]
-pub struct Store {
+pub struct ByteStore {
     table: Table,
 }
 
-impl Model for Store {
+impl Model for ByteStore {
     ghost use Rattle.byte_store.specs.Table.{TableEntries};
 
     ghost Value = { TableEntries };
@@ -47,17 +47,17 @@ impl Model for Store {
     ghost view = { λ s. s.table.entries };
 }
 
-impl Store {
-    pub fn new(alloc: Global) -> Store
+impl ByteStore {
+    pub fn new(alloc: Global) -> ByteStore
         ensures { HoldsStore result finite.empty }
     {
-        Store {
+        ByteStore {
             table: IndexMap::new(alloc),
         }
     }
 
     /// Does a part. After want of memory the store is as it was.
-    pub fn run(&mut self, alloc: Global, part: &Part<'_>) -> Result<PartAnswer, Memory>
+    pub fn run(&mut self, alloc: Global, part: &Part<'_>) -> Result<ByteAnswer, Memory>
         ensures answer { (store : Meaning) → HoldsStore self.old store
             → IfOk result (λ a. answer_meant a ≡ answer store (operation_of part.now)) }
         ensures after { (store : Meaning) → HoldsStore self.old store
@@ -69,7 +69,7 @@ impl Store {
 }
 
 // Does a part in a table.
-fn run_on(alloc: Global, table: &mut Table, part: &Part<'_>) -> Result<PartAnswer, Memory>
+fn run_on(alloc: Global, table: &mut Table, part: &Part<'_>) -> Result<ByteAnswer, Memory>
     ensures answer { IfOk result (λ a. answer_meant a
         ≡ answer_on (table_bytes part.now.key.now table.old.entries) (operation_of part.now)) }
     ensures after { OnOk result
@@ -82,12 +82,12 @@ fn run_on(alloc: Global, table: &mut Table, part: &Part<'_>) -> Result<PartAnswe
     match part.op {
         PartOp::Get => copied(alloc, table, part.key),
         PartOp::Append => match append(alloc, table, part.key, part.value)? {
-            Some(length) => Ok(PartAnswer::Length(length)),
-            None => Ok(PartAnswer::TooLong),
+            Some(length) => Ok(ByteAnswer::Length(length)),
+            None => Ok(ByteAnswer::TooLong),
         },
-        PartOp::Del => Ok(PartAnswer::Did(remove(table, part.key))),
-        PartOp::Exists => Ok(PartAnswer::Did(contains(table, part.key))),
-        PartOp::StrLen => Ok(PartAnswer::Length(bytes_of(table, part.key).len() as u64)),
+        PartOp::Del => Ok(ByteAnswer::Did(remove(table, part.key))),
+        PartOp::Exists => Ok(ByteAnswer::Did(contains(table, part.key))),
+        PartOp::StrLen => Ok(ByteAnswer::Length(bytes_of(table, part.key).len() as u64)),
         PartOp::GetRange { start, end } => range_copied(alloc, table, part.key, start, end),
         _ => unreachable!(),
     }
@@ -100,7 +100,7 @@ fn set_as(
     key: &[u8],
     value: &[u8],
     setting: Setting,
-) -> Result<PartAnswer, Memory>
+) -> Result<ByteAnswer, Memory>
     ensures answer { IfOk result (λ a. answer_meant a
         ≡ answer_on (table_bytes key.now table.old.entries) (set_by setting key.now value.now)) }
     ensures after { OnOk result
@@ -110,8 +110,8 @@ fn set_as(
     let stores = setting.when.stores(contains(table, key));
     let answer = match (setting.asks, stores) {
         (true, _) => copied(alloc, table, key)?,
-        (false, true) => PartAnswer::Done,
-        (false, false) => PartAnswer::Null,
+        (false, true) => ByteAnswer::Done,
+        (false, false) => ByteAnswer::Null,
     };
     if stores {
         put(alloc, table, key, value)?;
@@ -120,12 +120,12 @@ fn set_as(
 }
 
 // A copy of a key's value.
-fn copied(alloc: Global, table: &Table, key: &[u8]) -> Result<PartAnswer, Memory>
+fn copied(alloc: Global, table: &Table, key: &[u8]) -> Result<ByteAnswer, Memory>
     ensures { IfOk result (λ a. answer_meant a ≡ found (table_bytes key.now table.now.entries)) }
 {
     match get(table, key) {
-        Some(value) => Ok(PartAnswer::Bulk(Bytes::from_slice(alloc, value.as_slice())?)),
-        None => Ok(PartAnswer::Null),
+        Some(value) => Ok(ByteAnswer::Bulk(Bytes::from_slice(alloc, value.as_slice())?)),
+        None => Ok(ByteAnswer::Null),
     }
 }
 
@@ -146,7 +146,7 @@ fn range_copied(
     key: &[u8],
     start: i64,
     end: i64,
-) -> Result<PartAnswer, Memory>
+) -> Result<ByteAnswer, Memory>
     ensures { IfOk result (λ a. answer_meant a
         ≡ value (range_of (model.bytes_of (table_bytes key.now table.now.entries)) start end)) }
 {
@@ -154,5 +154,5 @@ fn range_copied(
     let Span { from, len } = span(bytes.len() as u64, start, end);
     let from = from as usize;
     let bytes = &bytes[from..from + len as usize];
-    Ok(PartAnswer::Bulk(Bytes::from_slice(alloc, bytes)?))
+    Ok(ByteAnswer::Bulk(Bytes::from_slice(alloc, bytes)?))
 }

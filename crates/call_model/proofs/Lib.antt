@@ -1,4 +1,5 @@
 pub mod Growing
 pub mod Deeds
 pub mod Rows
+pub mod Needed
 pub mod Running

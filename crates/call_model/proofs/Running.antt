@@ -1,5 +1,5 @@
 -- The parts of a call, one more at a time, and a call that memory cuts short.
-use Rattle.std.proofs.Common.{inl, inr, [], ◌∷◌, ◌++◌, length, take}
+use Rattle.std.proofs.Common.{inl, inr, ◌++◌, length, take}
 use Rattle.std.proofs.Common.{refl, ap, sym, ◌∙◌, append-nil, arith}
 use Rattle.std.proofs.lemmas.List.{append_assoc}
 use Rattle.pin_core.specs.declared.class.Class.{Class}
@@ -10,14 +10,14 @@ use Rattle.call_model.specs.Outcomes.{SessionDeeds, entry_at, part_told, call_to
 use Rattle.call_model.specs.Demand.{parts_row}
 use Rattle.call_model.specs.Steps.{RunningStarts, PartStep, RunningRests, CutsBefore, CutsBehind, CutsRest}
 use Rattle.call_model.proofs.Growing.{parts_add, nothing_more}
+use Rattle.call_model.proofs.Needed.{for_then, for_within, for_moved, for_nothing, needing_more}
 use Rattle.call_model.proofs.Rows.{row_more, missed_more, front_row, below_end, sought_as}
 
 pub running_starts : RunningStarts
 running_starts z shards session call operations told seat after claims looks = record {
   are = tt;
   told = sym (append-nil told);
-  sought = sought_as z (λ class. 0) _ 0 _ seat after (sought_nothing z seat after claims looks)
-      (λ class. omega arith) refl;
+  sought = for_nothing z _ _ seat after claims looks;
   free = λ none. (claims, looks);
 }
 
@@ -26,15 +26,14 @@ part_step z shards session call operations outcomes operation outcome old mid ne
     let one = parts_add shards session call operations outcomes operation outcome is in
     let here = call_told shards session call 0 operations outcomes in
     let next = part_told shards (entry_at session call (length outcomes)) operation outcome in
-    let rows = λ (class : Class). parts_row class (take (length outcomes) operations) in
     record {
       are = one.are running.are done.is;
       told = done.told ∙ ap (λ (told : SessionDeeds). told ++ next) running.told ∙ append_assoc old here next
           ∙ ap (λ (told : SessionDeeds). old ++ told) (sym one.told);
-      sought = sought_as z _ _ _ _ seat after
-          (sought_then z rows (λ class. part_row class operation) (missed_in outcomes) (missed_in (outcome ∷ [])) seat
-          later after running.sought done.sought)
+      sought = for_within z _ _ _ _ _ _ seat after
+          (for_then z _ _ _ _ _ _ seat later after running.sought done.sought)
           (λ class. omega (arith, row_more class operations outcomes outcome operation is))
+          (λ class. omega (arith, needing_more class operations outcomes outcome operation is))
           (sym (missed_more outcomes outcome));
       free = λ none.
           let each = nothing_more operations outcomes operation outcome is none in
@@ -47,8 +46,7 @@ pub running_rests : RunningRests
 running_rests z shards session call operations outcomes old new seat later after claims looks running = record {
   are = running.are;
   told = running.told;
-  sought = sought_still z (λ (class : Class). parts_row class (take (length outcomes) operations)) (missed_in outcomes)
-      seat later after running.sought claims looks;
+  sought = for_moved z _ _ _ seat later seat after running.sought refl refl claims looks;
   free = λ none. let before = running.free none in (claims ∙ before.0, looks ∙ before.1);
 }
 
@@ -71,7 +69,7 @@ cuts_behind z shards session call command outcomes operation old new seat later 
       told = running.told;
       sought = sought_as z _ _ _ _ seat after
           (sought_then z rows (λ class. part_row class operation) (missed_in outcomes) 0 seat later after
-          running.sought sought)
+          running.sought.sought sought)
           (λ class. omega (arith, front_row class operations (length outcomes) operation is)) (omega arith);
     }
 

@@ -1,6 +1,8 @@
 -- What a part hands up: its answer, the pieces of the value that it answered, and the segments that it stored.
 use Rattle.std.specs.Prelude.{◌≡◌, ℕ, ◌+◌, ◌*◌, ◌<◌, ◌≤◌, List, [], ◌∷◌, ◌++◌, Option, Some, None, length}
+use Rattle.std.specs.Prelude.{Result, IfOk, OnErr}
 use Rattle.view_sums.specs.Total.{Each}
+use Rattle.flake_base.specs.declared.fault.Memory.{Memory}
 use Rattle.flake_base.specs.declared.journal.Entry.{Entry}
 use Rattle.flake_base.specs.declared.segment.Seg.{Seg}
 use Rattle.flake_model.specs.Store.{Operation, Answer, value, answer_on, change_on, first_on, bytes_put}
@@ -77,32 +79,45 @@ pub record IsInBuffer (z : Sizes) (seg : Seg) : Type 0 where
   pub address_is : seg.address ≡ address_of z buffer
   pub class_is : class_at z buffer ≡ class_for seg.len
 
+-- what stands before a part, or behind it: the session's list, the seat that pays, the segments that were stored, and
+-- the pieces that were taken
+pub record PartState : Type 0 where
+  pub list : SessionList
+  pub seat : View
+  pub stored : List Seg
+  pub taken : List TakenPiece
+
 -- A part was run at an entry: its outcome is what the session's list, the answer, the taker and the stored segments
 -- show.
 pub record PartShows (z : Sizes) (shards : ℕ) (entry : Entry) (operation : Operation) (said : PartAnswer)
-    (old new : SessionList) (seat after : View) (segs_before segs : List Seg) (taken_before taken : List TakenPiece)
-    : Type 0 where
+    (old new : PartState) : Type 0 where
   pub outcome : Option PartOutcome
-  pub run : IsPartRun z shards entry operation outcome old.told new.told seat after
-  pub number : new.number ≡ old.number
-  pub looks : new.looks ≡ old.looks
-  pub says : AnswersPart z operation outcome said seat after
-  pub pieces : taken ≡ taken_before ++ pieces_told operation outcome
+  pub run : IsPartRun z shards entry operation outcome old.list.told new.list.told old.seat new.seat
+  pub number : new.list.number ≡ old.list.number
+  pub looks : new.list.looks ≡ old.list.looks
+  pub says : AnswersPart z operation outcome said old.seat new.seat
+  pub pieces : new.taken ≡ old.taken ++ pieces_told operation outcome
   pub reaches : Reaches outcome
   pub answered : Answered operation outcome
-  pub segs_are : segs ≡ segs_before ++ segs_told operation outcome
+  pub segs_are : new.stored ≡ old.stored ++ segs_told operation outcome
   pub in_buffers : Each (IsInBuffer z) (segs_told operation outcome)
 
 -- Memory was wanting: nothing was entered, taken or stored. Buffers may have been claimed, and were given back.
-pub record IsUntold (z : Sizes) (operation : Operation) (old new : SessionList) (seat after : View)
-    (segs_before segs : List Seg) (taken_before taken : List TakenPiece) : Type 0 where
-  pub list : new ≡ old
-  pub taken_is : taken ≡ taken_before
-  pub segs_are : segs ≡ segs_before
-  pub sought : Sought z (λ (class : Class). part_row class operation) 0 seat after
+pub record IsUntold (z : Sizes) (operation : Operation) (old new : PartState) : Type 0 where
+  pub list : new.list ≡ old.list
+  pub taken_is : new.taken ≡ old.taken
+  pub segs_are : new.stored ≡ old.stored
+  pub sought : Sought z (λ (class : Class). part_row class operation) 0 old.seat new.seat
 
 -- what no part changes of the seat that pays for it
 pub record KeepsSeat (old new : View) : Type 0 where
   pub holds : new.holds ≡ old.holds
   pub credits : new.credits ≡ old.credits
   pub returns : new.returns ≡ old.returns
+
+-- A part was run at an entry, or memory was wanting, and the seat that pays has kept what no part changes.
+pub record PartEnds (z : Sizes) (shards : ℕ) (entry : Entry) (operation : Operation)
+    (result : Result PartAnswer Memory) (old new : PartState) : Type 0 where
+  pub told : IfOk result (λ said. PartShows z shards entry operation said old new)
+  pub untold : OnErr result (IsUntold z operation old new)
+  pub seat : KeepsSeat old.seat new.seat

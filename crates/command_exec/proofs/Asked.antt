@@ -5,8 +5,7 @@ use Rattle.std.specs.Prelude.{Result, Ok, Err, OnErr}
 use Rattle.std.proofs.lemmas.Option.{slice_get-get_or}
 use Rattle.flake_model.specs.Store as part
 use Rattle.flake_model.specs.Store.{Operation}
-use Rattle.flake_model.specs.Command.{Command, ping, ping_with, get, set, mget, del, exists, append, str_len, get_range}
-use Rattle.flake_model.specs.Command.{fault, parts}
+use Rattle.flake_model.specs.Command.{Command, ping, ping_with, mget, del, exists, fault, parts}
 use Rattle.command_exec.specs.Kinds.{HasOnePart, AsksValues, Counts, part_at}
 
 pub on_err : {T E P : Type 0} (result : Result T E) → P → OnErr result P
@@ -19,17 +18,13 @@ pub part_there : (command : Command) (j : ℕ) → j < length (parts command) �
 part_there command j near = slice_get-get_or (parts command) j (part.get []) near
 
 pub one_part : (command : Command) → HasOnePart command → length (parts command) ≡ 1
-one_part (get key) one = refl
-one_part (set when asks key bytes) one = refl
-one_part (append key bytes) one = refl
-one_part (str_len key) one = refl
-one_part (get_range key first last) one = refl
 one_part ping one = absurd one
 one_part (ping_with bytes) one = absurd one
 one_part (mget keys) one = absurd one
 one_part (del keys) one = absurd one
 one_part (exists keys) one = absurd one
 one_part (fault kind) one = absurd one
+one_part command one = refl
 
 -- the keys that are asked for
 abbrev pub keys_of : Command → List (List ℕ)
@@ -46,16 +41,7 @@ get_at (key ∷ keys) (suc j) = get_at keys j
 pub value_part : (command : Command) → AsksValues command → (j : ℕ) → part_at command j
     ≡ part.get (get_or (keys_of command) j [])
 value_part (mget keys) asks j = get_at keys j
-value_part ping asks j = absurd asks
-value_part (ping_with bytes) asks j = absurd asks
-value_part (get key) asks j = absurd asks
-value_part (set when answers key bytes) asks j = absurd asks
-value_part (del keys) asks j = absurd asks
-value_part (exists keys) asks j = absurd asks
-value_part (append key bytes) asks j = absurd asks
-value_part (str_len key) asks j = absurd asks
-value_part (get_range key first last) asks j = absurd asks
-value_part (fault kind) asks j = absurd asks
+value_part command asks j = absurd asks
 
 del_at : (keys : List (List ℕ)) (j : ℕ) → j < length (map part.del keys) → get_or (map part.del keys) j (part.get [])
     ≡ part.del (get_or keys j [])
@@ -79,12 +65,4 @@ pub count_part : (command : Command) → Counts command → (j : ℕ) → j < le
     → IsCounting (part_at command j)
 count_part (del keys) counts j near = subst IsCounting (sym (del_at keys j near)) tt
 count_part (exists keys) counts j near = subst IsCounting (sym (exists_at keys j near)) tt
-count_part ping counts j near = absurd counts
-count_part (ping_with bytes) counts j near = absurd counts
-count_part (get key) counts j near = absurd counts
-count_part (set when answers key bytes) counts j near = absurd counts
-count_part (mget keys) counts j near = absurd counts
-count_part (append key bytes) counts j near = absurd counts
-count_part (str_len key) counts j near = absurd counts
-count_part (get_range key first last) counts j near = absurd counts
-count_part (fault kind) counts j near = absurd counts
+count_part command counts j near = absurd counts

@@ -12,18 +12,19 @@ use Rattle.flake_base.specs.declared.segment.Seg.{Seg}
 use Rattle.flake_model.specs.Store as part
 use Rattle.flake_model.specs.Store.{Operation, Answer, did, IsWrite}
 use Rattle.flake_model.specs.Deed.{Deed}
-use Rattle.flake_model.specs.Command.{Command, ping, ping_with, get, set, mget, del, exists, append, str_len, get_range}
-use Rattle.flake_model.specs.Command.{fault, parts}
+use Rattle.flake_model.specs.Command.{Command, del, exists, parts}
 use Rattle.flake_model.specs.Reply.{is_yes}
 use Rattle.frag_value.specs.Taken as taken
 use Rattle.shard_core.specs.Answers.{answer_shown}
 use Rattle.shard_core.specs.Done.{is_taking, is_ranged}
 use Rattle.shard_core.specs.Pieces as answered
+use Rattle.shard_core.specs.Pieces.{is_over}
 use Rattle.shard_core.specs.declared.answer.PartAnswer.{PartAnswer}
 use Rattle.shard_core.specs.declared.answer.PartAnswer.TheVariants as say
 use Rattle.reply_layout.specs.Pieces.{plain, pieces_of}
 use Rattle.reply_planner.specs.Laid.{pieces_in}
 use Rattle.reply_planner.specs.Planned.{Planned, planned}
+use Rattle.call_model.specs.Demand.{pins_by, part_pins, call_pins}
 use Rattle.call_model.specs.Outcomes.{PartOutcome, Outcomes, entry_at, IsOutcome, call_deeds, answer_told, answers_told}
 use Rattle.call_model.specs.Parts.{AnswersPart, Answered, pieces_told, segs_told}
 use Rattle.command_exec.specs.Kinds.{Counts, part_at}
@@ -35,25 +36,17 @@ use Rattle.command_exec.proofs.AlikePieces.{alike_same}
 use Rattle.command_exec.proofs.Asked.{IsCounting, part_there}
 use Rattle.command_exec.proofs.Growing.{run_none, run_more, outcome_of}
 use Rattle.command_exec.proofs.Replying.{nothing_stored}
-use Rattle.command_exec.proofs.SoFar.{long_told, answers_from, answers-more}
+use Rattle.command_exec.proofs.SoFar.{pins_more, answers_from, answers-more}
 
 pub counting_untaken : (operation : Operation) → IsCounting operation → is_taking operation ≡ false
 counting_untaken (part.del key) counting = refl
 counting_untaken (part.exists key) counting = refl
-counting_untaken (part.get key) counting = absurd counting
-counting_untaken (part.set when asks key bytes) counting = absurd counting
-counting_untaken (part.append key bytes) counting = absurd counting
-counting_untaken (part.str_len key) counting = absurd counting
-counting_untaken (part.get_range key first last) counting = absurd counting
+counting_untaken operation counting = absurd counting
 
 pub counting_plain : (operation : Operation) → IsCounting operation → is_ranged operation ≡ false
 counting_plain (part.del key) counting = refl
 counting_plain (part.exists key) counting = refl
-counting_plain (part.get key) counting = absurd counting
-counting_plain (part.set when asks key bytes) counting = absurd counting
-counting_plain (part.append key bytes) counting = absurd counting
-counting_plain (part.str_len key) counting = absurd counting
-counting_plain (part.get_range key first last) counting = absurd counting
+counting_plain operation counting = absurd counting
 
 -- whether the key was there, as a number
 abbrev one_at : Bool → ℕ
@@ -77,6 +70,11 @@ record HasCounted (operation : Operation) (outcome : Option PartOutcome) (said :
   count : yes_of said ≡ one_at (is_yes (answer_told outcome))
   pieces : pieces_told operation outcome ≡ []
   segs : segs_told operation outcome ≡ []
+  free : (t : ℕ) → part_pins t operation outcome ≡ 0
+
+same_either : (n : ℕ) (b : Bool) → cond b n n ≡ n
+same_either n true = refl
+same_either n false = refl
 
 by_answer : (operation : Operation) (d : PartOutcome) (said : PartAnswer) (happened : Bool)
     → said ≡ answer_shown d.answer → d.answer ≡ did happened → d.stored ≡ [] → HasCounted operation (Some d) said
@@ -84,6 +82,7 @@ by_answer operation d said happened says is none = record {
   count = ap yes_of (says ∙ ap answer_shown is) ∙ sym (ap (λ a. one_at (is_yes (Some a))) is);
   pieces = ap (λ a. answered.answer_pieces operation a d.found d.first) is;
   segs = nothing_stored operation d none;
+  free = λ t. ap (λ a. pins_by t operation a d.first) is ∙ same_either 0 (is_over operation);
 }
 
 has_counted : (z : Sizes) (operation : Operation) (outcome : Option PartOutcome) (said : PartAnswer) (seat after : View)
@@ -96,11 +95,7 @@ has_counted z (part.del key) (Some d) said seat after counting is says answers =
 has_counted z (part.exists key) None said seat after counting is says answers = absurd is
 has_counted z (part.exists key) (Some d) said seat after counting is says answers = by_answer (part.exists key) d said
     (is_some answers.had) says answers.answer_is (answers.stored_is refl)
-has_counted z (part.get key) outcome said seat after counting is says answers = absurd counting
-has_counted z (part.set when asks key bytes) outcome said seat after counting is says answers = absurd counting
-has_counted z (part.append key bytes) outcome said seat after counting is says answers = absurd counting
-has_counted z (part.str_len key) outcome said seat after counting is says answers = absurd counting
-has_counted z (part.get_range key first last) outcome said seat after counting is says answers = absurd counting
+has_counted z operation outcome said seat after counting is says answers = absurd counting
 
 module _ (z : Sizes) (shards : ℕ) (entry : Entry) (operation : Operation) (said : PartAnswer) (old new : PassView)
     (segs_before segs : List Seg) (p mid : Planned) (counting : IsCounting operation)
@@ -118,6 +113,7 @@ module _ (z : Sizes) (shards : ℕ) (entry : Entry) (operation : Operation) (sai
         outcome = ran.told.outcome;
         ran = outcome_of z shards entry operation said old new segs_before segs p mid ran;
         count = is ∙ counted.count;
+        free = counted.free;
         plan = ran.plan ∙ (λ i. planned p.base (taken_is i) (sym none i));
       }
 
@@ -131,6 +127,7 @@ pub record CountSoFar (z : Sizes) (shards call : ℕ) (command : Command) (j the
   pub count : length outcomes ≡ j
   pub ran : HasRun z shards call (parts command) outcomes old new segs_before segs
   pub there_is : there ≡ count_by is_yes (answers_told outcomes)
+  pub free : (t : ℕ) → call_pins t (parts command) outcomes ≡ 0
   pub few : there ≤ j
   pub plan : q ≡ p
 
@@ -141,6 +138,7 @@ no_keys z shards call command old segs p = record {
   count = refl;
   ran = run_none z shards call (parts command) old segs;
   there_is = refl;
+  free = λ t. refl;
   few = omega arith;
   plan = refl;
 }
@@ -173,41 +171,17 @@ key_more z shards command j there n at old mid new first second third p q r near
       there_is = (λ i. so.there_is i + counts.count i)
           ∙ sym (ap (count_by is_yes) (answers-more outcomes outcome) ∙ sum_by_push (λ a. one_at (is_yes a))
           (answers_told outcomes) (answer_told outcome));
+      free = λ t. omega (arith, so.free t, counts.free t, pins_more t operations outcomes operation outcome is);
       few = omega (arith, so.few, counts.count, one_most (is_yes (answer_told outcome)));
       plan = counts.plan ∙ so.plan;
     }
 
--- no long fragments are answered
-long_dels : (keys : List (List ℕ)) (outcomes : Outcomes) → long_told (map part.del keys) outcomes ≡ 0
-long_dels [] outcomes = refl
-long_dels (key ∷ keys) [] = refl
-long_dels (key ∷ keys) (outcome ∷ outcomes) = omega (arith, long_dels keys outcomes)
-
-long_exists : (keys : List (List ℕ)) (outcomes : Outcomes) → long_told (map part.exists keys) outcomes ≡ 0
-long_exists [] outcomes = refl
-long_exists (key ∷ keys) [] = refl
-long_exists (key ∷ keys) (outcome ∷ outcomes) = omega (arith, long_exists keys outcomes)
-
-record IsCount (command : Command) (deeds : List (Option Deed)) (outcomes : Outcomes) : Type 0 where
-  pieces : pieces_of command deeds ≡ plain (number_line 58 (count_by is_yes (answers_told outcomes))) ∷ []
-  long : long_told (parts command) outcomes ≡ 0
-
 count_is : (command : Command) → Counts command → (deeds : List (Option Deed)) (outcomes : Outcomes)
     → map (λ found. option_map_or (λ (d : Deed). Some d.answer) found None) deeds ≡ answers_told outcomes
-    → IsCount command deeds outcomes
-count_is (del keys) counts deeds outcomes are =
-    record { pieces = ap (λ a. plain (number_line 58 (count_by is_yes a)) ∷ []) are; long = long_dels keys outcomes }
-count_is (exists keys) counts deeds outcomes are =
-    record { pieces = ap (λ a. plain (number_line 58 (count_by is_yes a)) ∷ []) are; long = long_exists keys outcomes }
-count_is ping counts deeds outcomes are = absurd counts
-count_is (ping_with bytes) counts deeds outcomes are = absurd counts
-count_is (get key) counts deeds outcomes are = absurd counts
-count_is (set when does key bytes) counts deeds outcomes are = absurd counts
-count_is (mget keys) counts deeds outcomes are = absurd counts
-count_is (append key bytes) counts deeds outcomes are = absurd counts
-count_is (str_len key) counts deeds outcomes are = absurd counts
-count_is (get_range key first last) counts deeds outcomes are = absurd counts
-count_is (fault kind) counts deeds outcomes are = absurd counts
+    → pieces_of command deeds ≡ plain (number_line 58 (count_by is_yes (answers_told outcomes))) ∷ []
+count_is (del keys) counts deeds outcomes are = ap (λ a. plain (number_line 58 (count_by is_yes a)) ∷ []) are
+count_is (exists keys) counts deeds outcomes are = ap (λ a. plain (number_line 58 (count_by is_yes a)) ∷ []) are
+count_is command counts deeds outcomes are = absurd counts
 
 pub all_counted : (z : Sizes) (shards call : ℕ) (command : Command) (j there : ℕ) (old new : PassView)
     (first second : List Seg) (p q r : Planned) → Counts command → j ≡ length (parts command) → p.taken ≡ []
@@ -225,12 +199,12 @@ all_counted z shards call command j there old new first second p q r counts end 
     ap (λ (s : Planned). pieces_in s.taken) now
     ∙ ap (λ (l : List taken.TakenPiece). pieces_in (l ++ taken.copied (number_line 58 there) ∷ [])) q_none
     ∙ ap (λ n. plain (number_line 58 n) ∷ []) so.there_is
-    ∙ sym is.pieces in
+    ∙ sym is in
     record {
       outcomes = outcomes;
       ran = so.ran;
       whole = so.count ∙ end;
       pieces = alike_same r.base.threshold (pieces_in r.taken) (pieces_of command deeds) line;
-      paid = omega (arith, is.long);
+      paid = omega (arith, so.free r.base.threshold);
       begun = ap (λ (s : Planned). s.begun) now;
     }

@@ -37,7 +37,9 @@ use Rattle.reply_planner.specs.Planned.{Planned, planned, terms, paid_of, long_o
 use Rattle.reply_planner.specs.Planned.{copied_in}
 use Rattle.reply_planner.specs.Sealed.{used_of, IsSealed, Keeps, Cancels}
 use Rattle.reply_planner.specs.Stages.{IsOrdered, merged}
+use Rattle.call_model.specs.Demand.{call_pins}
 use Rattle.call_model.specs.Outcomes.{call_deeds}
+use Rattle.call_model.proofs.Needed.{for_moved}
 use Rattle.reply_planner.specs.declared.terms.Terms.{Terms}
 use Rattle.command_exec.specs.Alike.{Alike}
 use Rattle.command_exec.specs.Executed.{Executes, FallsShort}
@@ -201,15 +203,20 @@ module _ (z : Sizes) (shards call : ℕ) (command : Command) (old mid : PassView
           running = record {
             are = reply.ran.running.are;
             told = reply.ran.running.told;
-            sought = moved z _ _ (begin_of (need_of command) old).seat mid.seat old.seat seat reply.ran.running.sought
-                refl refl kept.claims kept.looks;
+            sought = for_moved z _ _ _ (begin_of (need_of command) old).seat mid.seat old.seat seat
+                reply.ran.running.sought refl refl kept.claims kept.looks;
             free = λ none.
                 let before = reply.ran.running.free none in
                 (kept.claims ∙ before.0, kept.looks ∙ before.1);
           };
           whole = reply.whole;
           text_is = text_is ∙ ap (λ a. reply_text (reply_of command a)) answers;
-          pinned = omega (arith, reply.paid, sealed.paid);
+          pinned = omega (
+            arith,
+            reply.paid,
+            sealed.paid,
+            ap (λ m. call_pins m operations outcomes) threshold,
+          );
         };
         number = keeps.number;
         looks = keeps.looks;

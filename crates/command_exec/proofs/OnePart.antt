@@ -1,7 +1,6 @@
 -- A command with one part, whose answer is the reply.
 use Rattle.std.proofs.Common.{◌≡◌, ℕ, ◌≤◌, List, [], ◌∷◌, ◌++◌, Option, None, Some, length, slice_get, refl, ap, sym}
 use Rattle.std.proofs.Common.{◌∙◌, subst, arith}
-use Rattle.std.specs.List.{zip}
 use Rattle.view_sums.specs.Total.{total}
 use Rattle.view_sums.proofs.Sums.{total-append}
 use Rattle.pin_core.specs.declared.sizes.Sizes.{Sizes}
@@ -18,7 +17,7 @@ use Rattle.reply_layout.specs.Pieces.{pieces_of}
 use Rattle.reply_planner.specs.Laid.{pieces_in}
 use Rattle.reply_planner.specs.Planned.{Planned, planned, paid_by, left_of}
 use Rattle.call_model.specs.Outcomes.{PartOutcome, entry_at, call_deeds, answer_told, answers_told}
-use Rattle.call_model.specs.Demand.{long_in}
+use Rattle.call_model.specs.Demand.{part_pins, call_pins}
 use Rattle.call_model.specs.Parts.{AnswersPart, pieces_told}
 use Rattle.call_model.specs.Steps.{deed_told}
 use Rattle.call_model.proofs.Growing.{more_deeds}
@@ -32,10 +31,6 @@ use Rattle.command_exec.proofs.Asked.{part_there, one_part}
 use Rattle.command_exec.proofs.Growing.{run_none, run_more, run_missed, outcome_of}
 use Rattle.command_exec.proofs.Replying.{one_alike, part_paid}
 use Rattle.command_exec.proofs.Started.{line_fits}
-
-zip_none : (operations : List Operation) → zip operations (answers_told []) ≡ []
-zip_none [] = refl
-zip_none (operation ∷ operations) = refl
 
 -- an answer that makes a line has given no bytes
 unanswered : (z : Sizes) (operation : Operation) (answer : Answer) (found : List ℕ) (first : ℕ) (stored : List ℕ)
@@ -107,7 +102,8 @@ module _ (z : Sizes) (shards : ℕ) (command : Command) (at : Entry) (said : Par
         paid = omega (
           arith,
           one_paid operations there outcome,
-          part_paid t started.threshold operation outcome ran.told.reaches ran.told.answered,
+          part_paid t operation outcome ran.told.reaches,
+          ap (λ n. call_pins n operations (outcome ∷ [])) base,
           ap (λ (l : List taken.TakenPiece). total (paid_by t) l) taken_is,
           total-append (paid_by t) (pieces_told operation outcome) (line_for said),
           ap (λ n. total (paid_by n) q.taken) base,
@@ -116,19 +112,12 @@ module _ (z : Sizes) (shards : ℕ) (command : Command) (at : Entry) (said : Par
       } where
         one_paid : (operations : List Operation) → slice_get operations 0 ≡ Some (part_at command at.part)
             → (outcome : Option PartOutcome)
-            → total (λ (x : Operation × Option Answer). long_in x.0 x.1) (zip operations (answers_told (outcome ∷ [])))
-            ≤ long_in (part_at command at.part) (answer_told outcome)
+            → call_pins p.base.threshold operations (outcome ∷ [])
+            ≤ part_pins p.base.threshold (part_at command at.part) outcome
         one_paid [] is outcome = omega arith
         one_paid (operation ∷ operations) is outcome =
             let same : operation ≡ part_at command at.part = cc in
-            omega (
-              arith,
-              ap (λ o. long_in o (answer_told outcome)) same,
-              ap
-                  (λ (l : List (Operation × Option Answer)). total (λ (x : Operation × Option Answer). long_in x.0 x.1)
-                  l)
-                  (zip_none operations),
-            )
+            omega (arith, ap (λ o. part_pins p.base.threshold o outcome) same)
 
 pub one_missed : (z : Sizes) (shards : ℕ) (command : Command) (at : Entry) (old new : PassView) (segs : List Seg)
     → HasOnePart command → at.part ≡ 0 → MissesPart z (part_at command at.part) old new

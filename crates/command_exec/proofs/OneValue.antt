@@ -78,10 +78,10 @@ null_item (say.NoBuffer none) not = refl
 module _ (z : Sizes) (shards : ℕ) (entry : Entry) (operation : Operation) (said : PartAnswer) (old new : PassView)
     (segs_before segs : List Seg) (p mid : Planned)
     (ran : RunsPart z shards entry operation said old new segs_before segs p mid) where
-  pub adds_value : (q : Planned) → p.begun ≡ None → p.base.threshold ≤ 512 → is_ranged operation ≡ false
+  pub adds_value : (q : Planned) → p.begun ≡ None → is_ranged operation ≡ false
       → q ≡ planned mid.base (mid.taken ++ item_for said) None → room_of mid ≤ room_of q + length (item_for said)
       → AddsValue z shards entry operation old new segs_before segs p q
-  adds_value q none few plain now room =
+  adds_value q none plain now room =
       let outcome = ran.told.outcome in
       let t = p.base.threshold in
       let more = pieces_told operation outcome ++ item_for said in
@@ -102,7 +102,7 @@ module _ (z : Sizes) (shards : ℕ) (entry : Entry) (operation : Operation) (sai
             (item_alike t z entry operation outcome said old.seat new.seat ran.told.says ran.told.reaches));
         paid = omega (
           arith,
-          part_paid t few operation outcome ran.told.reaches ran.told.answered,
+          part_paid t operation outcome ran.told.reaches,
           ap (λ (l : List taken.TakenPiece). total (paid_by t) l) taken_is,
           total-append (paid_by t) p.taken more,
           total-append (paid_by t) (pieces_told operation outcome) (item_for said),

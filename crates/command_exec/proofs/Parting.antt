@@ -3,6 +3,7 @@ use Rattle.std.proofs.Common.{◌≡◌, ℕ, ◌+◌, ◌≤◌, List, None, fa
 use Rattle.std.specs.Prelude.{Result, Ok, Err, IfOk, OnErr}
 use Rattle.pin_core.specs.declared.sizes.Sizes.{Sizes}
 use Rattle.pinned_pool.specs.declared.view.View.{View}
+use Rattle.flake_base.specs.declared.fault.Memory.{Memory}
 use Rattle.flake_base.specs.declared.journal.Entry.{Entry}
 use Rattle.flake_base.specs.declared.segment.Seg.{Seg}
 use Rattle.flake_model.specs.Store.{Operation}
@@ -10,7 +11,7 @@ use Rattle.order_book.specs.Pages.{SessionList}
 use Rattle.shard_core.specs.Done.{is_ranged}
 use Rattle.shard_core.specs.declared.answer.PartAnswer.{PartAnswer}
 use Rattle.reply_planner.specs.Planned.{Planned, planned, room_of}
-use Rattle.call_model.specs.Parts.{PartShows, IsUntold, KeepsSeat}
+use Rattle.call_model.specs.Parts.{PartState, PartEnds, PartShows, IsUntold, KeepsSeat}
 use Rattle.command_exec.specs.Passes.{pass_of}
 use Rattle.command_exec.specs.Running.{KeepsPass}
 use Rattle.command_exec.specs.Parted.{RunsPart, MissesPart}
@@ -35,8 +36,9 @@ plan_kept before after base none = λ i. planned (base i) after.taken (none i)
 pub ran_part : {E : Type 0} (z : Sizes) (shards : ℕ) (entry : Entry) (operation : Operation)
     (result : Result PartAnswer E) (list now : SessionList) (seat after_seat : View) (stage free : List ℕ)
     (threshold : ℕ) (segs_before segs : List Seg) (before after : Planned)
-    → IfOk result (λ said. PartShows z shards entry operation said list now seat after_seat segs_before segs
-    before.taken after.taken)
+    → IfOk result (λ said. PartShows z shards entry operation said
+    (record { list = list; seat = seat; stored = segs_before; taken = before.taken })
+    (record { list = now; seat = after_seat; stored = segs; taken = after.taken }))
     → KeepsSeat seat after_seat → after.base ≡ before.base → after.begun ≡ None
     → (is_ranged operation ≡ false → room_of before + length before.taken ≤ room_of after + length after.taken)
     → IfOk result (λ said. RunsPart z shards entry operation said (pass_of list seat stage free threshold)
@@ -54,7 +56,9 @@ ran_part z shards entry operation (Err e) list now seat after_seat stage free th
 pub missed_part : {E : Type 0} (z : Sizes) (operation : Operation) (result : Result PartAnswer E)
     (list now : SessionList) (seat after_seat : View) (stage free : List ℕ) (threshold : ℕ)
     (segs_before segs : List Seg) (before after : Planned)
-    → OnErr result (IsUntold z operation list now seat after_seat segs_before segs before.taken after.taken)
+    → OnErr result (IsUntold z operation
+    (record { list = list; seat = seat; stored = segs_before; taken = before.taken })
+    (record { list = now; seat = after_seat; stored = segs; taken = after.taken }))
     → KeepsSeat seat after_seat
     → OnErr result (MissesPart z operation (pass_of list seat stage free threshold)
     (pass_of now after_seat stage free threshold))
@@ -67,3 +71,9 @@ missed_part z operation (Err e) list now seat after_seat stage free threshold se
       keeps = keeps list now seat after_seat stage free threshold (ap (λ (l : SessionList). l.number) untold.list)
           (ap (λ (l : SessionList). l.looks) untold.list) kept;
     }
+
+-- after want of memory no segment is stored
+pub untold_segs : {z : Sizes} {shards : ℕ} {entry : Entry} {operation : Operation} {result : Result PartAnswer Memory}
+    {old new : PartState} → PartEnds z shards entry operation result old new → OnErr result (new.stored ≡ old.stored)
+untold_segs {result = Ok said} ends = tt
+untold_segs {result = Err e} ends = ends.untold.segs_are

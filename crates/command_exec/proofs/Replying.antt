@@ -1,5 +1,6 @@
 -- What a plan has of one part: the pieces of its reply, or of an item of an array.
-use Rattle.std.proofs.Common.{◌≡◌, ℕ, ◌≤◌, false, List, [], ◌∷◌, ◌++◌, Option, Some, None, refl, ap, sym, ◌∙◌, subst}
+use Rattle.std.proofs.Common.{◌≡◌, ℕ, ◌≤◌, Bool, true, false, if◌then◌else◌, List, [], ◌∷◌, ◌++◌, Option, Some, None}
+use Rattle.std.proofs.Common.{refl, ap, sym, ◌∙◌, subst}
 use Rattle.std.proofs.Common.{arith, append_assoc, append-nil}
 use Rattle.std.specs.Option.{option_map_or}
 use Rattle.view_sums.specs.Total.{total}
@@ -12,10 +13,9 @@ use Rattle.flake_model.specs.Resp.{crlf}
 use Rattle.flake_model.specs.Store as part
 use Rattle.flake_model.specs.Store.{Operation, Answer, value, missing, done, length_is, did, too_long}
 use Rattle.flake_model.specs.Deed.{Deed}
-use Rattle.flake_model.specs.Command.{Command, ping, ping_with, get, set, mget, del, exists, append, str_len, get_range}
-use Rattle.flake_model.specs.Command.{fault}
+use Rattle.flake_model.specs.Command.{Command, ping, ping_with, mget, del, exists, fault}
 use Rattle.flake_model.specs.Reply.{error, reply_to, reply_text, error_text, null_text, item_of}
-use Rattle.frag_value.specs.Taken.{copied, whole, entire}
+use Rattle.frag_value.specs.Taken.{Extent, copied, whole}
 use Rattle.frag_value.specs.Taken as taken
 use Rattle.shard_core.specs.Answers.{answer_shown}
 use Rattle.shard_core.specs.Pieces as answered
@@ -25,14 +25,14 @@ use Rattle.reply_layout.specs.Pieces.{Piece, plain, bulk_pieces, item_pieces, re
 use Rattle.reply_planner.specs.Laid.{begun_pieces, pieces_in}
 use Rattle.reply_planner.specs.Planned.{paid_by}
 use Rattle.call_model.specs.Outcomes.{PartOutcome, deed_of, answer_told}
-use Rattle.call_model.specs.Demand.{long_in, long_answer}
-use Rattle.call_model.specs.Parts.{AnswersPart, Reach, Reaches, Answered, pieces_told, segs_told}
+use Rattle.call_model.specs.Demand.{value_stays, part_pins}
+use Rattle.call_model.specs.Parts.{AnswersPart, Reach, Reaches, pieces_told, segs_told}
 use Rattle.call_model.specs.Steps.{deed_told}
 use Rattle.command_exec.specs.Alike.{Alike}
 use Rattle.command_exec.specs.Kinds.{HasOnePart}
 use Rattle.command_exec.specs.Lines.{line_for, item_for, error_line}
 use Rattle.command_exec.proofs.AlikePieces.{alike_same, alike_trans, alike_then, alike_joined}
-use Rattle.command_exec.proofs.ValueRuns.{bulk_alike, fragments_paid}
+use Rattle.command_exec.proofs.ValueRuns.{bulk_alike, pieces_paid}
 
 pub pieces-append : (ps qs : List taken.TakenPiece) → pieces_in (ps ++ qs) ≡ pieces_in ps ++ pieces_in qs
 pieces-append [] qs = refl
@@ -90,17 +90,13 @@ answer_in entry operation (Some d) = refl
 
 one_pieces : (command : Command) → HasOnePart command → (deed : Option Deed) → pieces_of command (deed ∷ [])
     ≡ reply_pieces (reply_to (option_map_or (λ (d : Deed). Some d.answer) deed None)) (deed ∷ [])
-one_pieces (get key) one deed = refl
-one_pieces (set when asks key bytes) one deed = refl
-one_pieces (append key bytes) one deed = refl
-one_pieces (str_len key) one deed = refl
-one_pieces (get_range key first last) one deed = refl
 one_pieces ping one deed = absurd one
 one_pieces (ping_with bytes) one deed = absurd one
 one_pieces (mget keys) one deed = absurd one
 one_pieces (del keys) one deed = absurd one
 one_pieces (exists keys) one deed = absurd one
 one_pieces (fault kind) one deed = absurd one
+one_pieces command one deed = refl
 
 -- the reply of a command with one part
 pub one_alike : (t : ℕ) (z : Sizes) (command : Command) (entry : Entry) (operation : Operation)
@@ -145,33 +141,23 @@ item_alike t z entry operation (Some d) said seat after says reach =
     (item_pieces (item_of (Some d.answer) ∷ []) (Some (deed_of entry operation d) ∷ []))) (sym says)
     (item_alike_of t entry operation d.answer d.found d.first d.stored reach)
 
--- what a plan pays of a value that a GET found
-got_paid : (t : ℕ) → t ≤ 512 → (answer : Answer) (found : List ℕ) (first : ℕ) → first ≡ 0 → Reach answer first found
-    → long_answer (Some answer) ≤ total (paid_by t) (pieces_at entire false answer found first)
-got_paid t few (value bytes) found first none reach = omega (arith, at_start first none reach) where
-  at_start : (n : ℕ) → n ≡ 0 → Reach (value bytes) n found → long_answer (Some (value bytes)) ≤ total (paid_by t)
-      (pieces_at entire false (value bytes) found n)
-  at_start n is reach' =
-      subst (λ m. long_answer (Some (value bytes)) ≤ total (paid_by t) (pieces_at entire false (value bytes) found m))
-      (sym is)
-      (omega (arith, fragments_paid t few found bytes (λ some. omega (arith, reach' some, is))))
-got_paid t few missing found first none reach = omega arith
-got_paid t few done found first none reach = omega arith
-got_paid t few (length_is n) found first none reach = omega arith
-got_paid t few (did happened) found first none reach = omega arith
-got_paid t few too_long found first none reach = omega arith
+-- what a plan pays of an answer
+answer_paid : (t : ℕ) (extent : Extent) (over : Bool) (answer : Answer) (found : List ℕ) (first : ℕ)
+    → Reach answer first found
+    → (if over then 0 else value_stays t answer first) ≤ total (paid_by t) (pieces_at extent over answer found first)
+answer_paid t extent true answer found first reach = omega arith
+answer_paid t extent false (value bytes) found first reach = omega (arith, pieces_paid t found bytes first reach)
+answer_paid t extent false missing found first reach = omega arith
+answer_paid t extent false done found first reach = omega arith
+answer_paid t extent false (length_is n) found first reach = omega arith
+answer_paid t extent false (did happened) found first reach = omega arith
+answer_paid t extent false too_long found first reach = omega arith
 
-pub part_paid : (t : ℕ) → t ≤ 512 → (operation : Operation) (outcome : Option PartOutcome) → Reaches outcome
-    → Answered operation outcome → long_in operation (answer_told outcome) ≤ total (paid_by t)
-    (pieces_told operation outcome)
-part_paid t few (part.get key) None reach answered = omega arith
-part_paid t few (part.get key) (Some d) reach answered = got_paid t few d.answer d.found d.first answered.first_is reach
-part_paid t few (part.set when asks key bytes) outcome reach answered = omega arith
-part_paid t few (part.append key bytes) outcome reach answered = omega arith
-part_paid t few (part.del key) outcome reach answered = omega arith
-part_paid t few (part.exists key) outcome reach answered = omega arith
-part_paid t few (part.str_len key) outcome reach answered = omega arith
-part_paid t few (part.get_range key first last) outcome reach answered = omega arith
+pub part_paid : (t : ℕ) (operation : Operation) (outcome : Option PartOutcome) → Reaches outcome
+    → part_pins t operation outcome ≤ total (paid_by t) (pieces_told operation outcome)
+part_paid t operation None reach = omega arith
+part_paid t operation (Some d) reach =
+    answer_paid t (extent_of operation) (is_over operation) d.answer d.found d.first reach
 
 -- parts that store nothing
 pub nothing_stored : (operation : Operation) (d : PartOutcome) → d.stored ≡ [] → segs_told operation (Some d) ≡ []

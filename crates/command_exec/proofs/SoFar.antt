@@ -1,10 +1,8 @@
 -- The parts of an array, or of a count, as far as they were run.
 use Rattle.std.proofs.Common.{◌≡◌, ℕ, ◌+◌, ◌<◌, ◌≤◌, List, [], ◌∷◌, ◌++◌, Option, None, Some, length, map, slice_get}
 use Rattle.std.proofs.Common.{refl, ap, sym, ◌∙◌, subst, arith, append_assoc, length-append}
-use Rattle.std.specs.List.{zip}
 use Rattle.std.specs.Option.{option_map, option_map_or}
 use Rattle.std.proofs.lemmas.List.{map-append, length-map}
-use Rattle.view_sums.specs.Total.{total}
 use Rattle.pin_core.specs.declared.sizes.Sizes.{Sizes}
 use Rattle.flake_base.specs.declared.journal.Entry.{Entry}
 use Rattle.flake_base.specs.declared.segment.Seg.{Seg}
@@ -12,8 +10,7 @@ use Rattle.flake_model.specs.Resp.{array_head}
 use Rattle.flake_model.specs.Store as part
 use Rattle.flake_model.specs.Store.{Operation, Answer}
 use Rattle.flake_model.specs.Deed.{Deed}
-use Rattle.flake_model.specs.Command.{Command, ping, ping_with, get, set, mget, del, exists, append, str_len, get_range}
-use Rattle.flake_model.specs.Command.{fault, parts}
+use Rattle.flake_model.specs.Command.{Command, mget, parts}
 use Rattle.flake_model.specs.Reply.{item_of, null_text}
 use Rattle.frag_value.specs.Taken as taken
 use Rattle.reply_layout.specs.Need.{need_of, values_need}
@@ -22,7 +19,7 @@ use Rattle.reply_planner.specs.Laid.{pieces_in}
 use Rattle.reply_planner.specs.Planned.{Planned, planned, paid_in, left_of, slots_of, room_of}
 use Rattle.call_model.specs.Outcomes.{PartOutcome, Outcomes, entry_at, AreOutcomes, call_deeds, answer_told}
 use Rattle.call_model.specs.Outcomes.{answers_told}
-use Rattle.call_model.specs.Demand.{long_in}
+use Rattle.call_model.specs.Demand.{part_pins, call_pins}
 use Rattle.call_model.specs.Steps.{deed_told}
 use Rattle.call_model.proofs.Growing.{more_deeds}
 use Rattle.call_model.proofs.Deeds.{as_many, deed_answers}
@@ -43,10 +40,6 @@ values_pieces session call command outcomes =
     plain (array_head (length (parts command)))
     ∷ item_pieces (map item_of (answers_told outcomes)) (call_deeds session call 0 (parts command) outcomes)
 
-abbrev pub long_told : List Operation → Outcomes → ℕ
-long_told operations outcomes = total (λ (x : Operation × Option Answer). long_in x.0 x.1)
-    (zip operations (answers_told outcomes))
-
 -- so many values are in the plan
 pub record ValuesSoFar (z : Sizes) (shards call : ℕ) (command : Command) (j : ℕ) (old new : PassView)
     (segs_before segs : List Seg) (p q : Planned) : Type 0 where
@@ -54,25 +47,22 @@ pub record ValuesSoFar (z : Sizes) (shards call : ℕ) (command : Command) (j : 
   pub count : length outcomes ≡ j
   pub ran : HasRun z shards call (parts command) outcomes old new segs_before segs
   pub pieces : Alike p.base.threshold (pieces_in q.taken) (values_pieces old.list.number call command outcomes)
-  pub paid : long_told (parts command) outcomes ≤ paid_in q
+  pub paid : call_pins p.base.threshold (parts command) outcomes ≤ paid_in q
   pub begun : q.begun ≡ None
   pub base : q.base ≡ p.base
   pub room : length (parts command) ≤ j + room_of q
 
-pub zip_none : (operations : List Operation) → long_told operations [] ≡ 0
-zip_none [] = refl
-zip_none (operation ∷ operations) = refl
-
-long_more : (operations : List Operation) (outcomes : Outcomes) (operation : Operation) (outcome : Option PartOutcome)
-    → slice_get operations (length outcomes) ≡ Some operation
-    → long_told operations (outcomes ++ outcome ∷ []) ≡ long_told operations outcomes + long_in operation
-    (answer_told outcome)
-long_more [] outcomes operation outcome is = absurd (let no : ⊥ = cc in no)
-long_more (first ∷ operations) [] operation outcome is =
+-- what one part more pins
+pub pins_more : (t : ℕ) (operations : List Operation) (outcomes : Outcomes) (operation : Operation)
+    (outcome : Option PartOutcome) → slice_get operations (length outcomes) ≡ Some operation
+    → call_pins t operations (outcomes ++ outcome ∷ [])
+    ≡ call_pins t operations outcomes + part_pins t operation outcome
+pins_more t [] outcomes operation outcome is = absurd (let no : ⊥ = cc in no)
+pins_more t (first ∷ operations) [] operation outcome is =
     let same : first ≡ operation = cc in
-    omega (arith, zip_none operations, zip_none (first ∷ operations), ap (λ o. long_in o (answer_told outcome)) same)
-long_more (first ∷ operations) (o ∷ outcomes) operation outcome is =
-    omega (arith, long_more operations outcomes operation outcome is)
+    omega (arith, ap (λ o. part_pins t o outcome) same)
+pins_more t (first ∷ operations) (o ∷ outcomes) operation outcome is =
+    omega (arith, pins_more t operations outcomes operation outcome is)
 
 items-more : (items : List (Option (List ℕ))) (deeds : List (Option Deed)) (item : Option (List ℕ)) (deed : Option Deed)
     → length items ≡ length deeds
@@ -104,7 +94,7 @@ no_values z shards call command old segs p q none now room = record {
       (ap (λ (r : Planned). pieces_in r.taken) now
       ∙ ap (λ (l : List taken.TakenPiece). pieces_in
       (l ++ taken.copied (number_line 42 (length (parts command))) ∷ [])) none);
-  paid = omega (arith, zip_none (parts command));
+  paid = omega arith;
   begun = ap (λ (r : Planned). r.begun) now;
   base = ap (λ (r : Planned). r.base) now;
   room = omega (arith, room);
@@ -163,7 +153,13 @@ value_more z shards command j at old mid new first second third p q r near part 
           (values_pieces old.list.number at.call command outcomes ++ last) at_t
           (alike_then t (pieces_in q.taken) (values_pieces old.list.number at.call command outcomes) last last so.pieces
           (alike_same t last last refl)));
-      paid = omega (arith, so.paid, adds.paid, long_more operations outcomes operation outcome there);
+      paid = omega (
+        arith,
+        so.paid,
+        adds.paid,
+        ap (λ b. part_pins b.threshold operation outcome) so.base,
+        pins_more t operations outcomes operation outcome there,
+      );
       begun = adds.begun;
       base = base ∙ so.base;
       room = omega (arith, so.room, adds.room);
@@ -194,16 +190,7 @@ array_is : (command : Command) → AsksValues command → (deeds : List (Option 
 array_is (mget keys) asks deeds answers are whole =
     ap (λ a. plain (array_head (length (map item_of a))) ∷ item_pieces (map item_of a) deeds) are
     ∙ ap (λ n. plain (array_head n) ∷ item_pieces (map item_of answers) deeds) (length-map answers item_of ∙ whole)
-array_is ping asks deeds answers are whole = absurd asks
-array_is (ping_with bytes) asks deeds answers are whole = absurd asks
-array_is (get key) asks deeds answers are whole = absurd asks
-array_is (set when does key bytes) asks deeds answers are whole = absurd asks
-array_is (del keys) asks deeds answers are whole = absurd asks
-array_is (exists keys) asks deeds answers are whole = absurd asks
-array_is (append key bytes) asks deeds answers are whole = absurd asks
-array_is (str_len key) asks deeds answers are whole = absurd asks
-array_is (get_range key first last) asks deeds answers are whole = absurd asks
-array_is (fault kind) asks deeds answers are whole = absurd asks
+array_is command asks deeds answers are whole = absurd asks
 
 -- all values
 pub all_values : (z : Sizes) (shards call : ℕ) (command : Command) (j : ℕ) (old new : PassView)
@@ -224,7 +211,7 @@ all_values z shards call command j old new first second p q asks end so =
       whole = whole;
       pieces = subst (λ n. Alike n (pieces_in q.taken) (pieces_of command deeds)) (ap (λ b. b.threshold) (sym so.base))
           (subst (Alike p.base.threshold (pieces_in q.taken)) (sym is) so.pieces);
-      paid = so.paid;
+      paid = omega (arith, so.paid, ap (λ b. call_pins b.threshold operations outcomes) so.base);
       begun = so.begun;
     }
 
@@ -232,16 +219,7 @@ all_values z shards call command j old new first second p q asks end so =
 values_fit : (command : Command) → AsksValues command → need_of command ≡ values_need (length (parts command))
     (length (array_head (length (parts command))))
 values_fit (mget keys) asks = ap (λ n. values_need n (length (array_head n))) (sym (length-map keys part.get))
-values_fit ping asks = absurd asks
-values_fit (ping_with bytes) asks = absurd asks
-values_fit (get key) asks = absurd asks
-values_fit (set when does key bytes) asks = absurd asks
-values_fit (del keys) asks = absurd asks
-values_fit (exists keys) asks = absurd asks
-values_fit (append key bytes) asks = absurd asks
-values_fit (str_len key) asks = absurd asks
-values_fit (get_range key first last) asks = absurd asks
-values_fit (fault kind) asks = absurd asks
+values_fit command asks = absurd asks
 
 pub head_room : (command : Command) (p q : Planned) → AsksValues command → IsStarted (need_of command) p
     → left_of p ≡ left_of q + length (number_line 42 (length (parts command))) → slots_of q ≡ slots_of p

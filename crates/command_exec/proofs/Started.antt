@@ -1,7 +1,6 @@
 -- What a plan has room for, to which nothing was given yet.
 use Rattle.std.proofs.Common.{◌≡◌, ℕ, ◌+◌, ◌-◌, ◌*◌, ◌<◌, ◌≤◌, true, false, List, length, ap, arith, length-append}
-use Rattle.flake_model.specs.Command.{Command, get, set, append, str_len, get_range, mget, del, exists, ping, ping_with}
-use Rattle.flake_model.specs.Command.{fault}
+use Rattle.flake_model.specs.Command.{Command, get, set, get_range, mget, del, exists, ping, ping_with, fault}
 use Rattle.flake_model.specs.Reply.{bulk, reply_text}
 use Rattle.reply_layout.specs.declared.need.Need.{Need}
 use Rattle.reply_layout.specs.Need.{need_of, values_need}
@@ -44,15 +43,13 @@ one_room (get key) p one is taking = room_for_one p (left_started (values_need 1
 one_room (set when true key bytes) p one is taking = room_for_one p (left_started (values_need 1 0) p is)
     (slots_started (values_need 1 0) p is)
 one_room (set when false key bytes) p one is taking = false_is taking
-one_room (append key bytes) p one is taking = false_is taking
-one_room (str_len key) p one is taking = false_is taking
-one_room (get_range key first last) p one is taking = false_is taking
 one_room ping p one is taking = absurd one
 one_room (ping_with bytes) p one is taking = absurd one
 one_room (mget keys) p one is taking = absurd one
 one_room (del keys) p one is taking = absurd one
 one_room (exists keys) p one is taking = absurd one
 one_room (fault kind) p one is taking = absurd one
+one_room command p one is taking = false_is taking
 
 pub one_range : (command : Command) (p : Planned) → HasOnePart command → IsStarted (need_of command) p
     → is_ranged (part_at command 0) ≡ true → 0 < range_room_of p
@@ -60,47 +57,27 @@ one_range (get_range key first last) p one is ranged =
     let left = left_started (need_of (get_range key first last)) p is in
     let slots = slots_started (need_of (get_range key first last)) p is in
     omega (arith, left, slots)
-one_range (get key) p one is ranged = false_is ranged
-one_range (set when answers key bytes) p one is ranged = false_is ranged
-one_range (append key bytes) p one is ranged = false_is ranged
-one_range (str_len key) p one is ranged = false_is ranged
 one_range ping p one is ranged = absurd one
 one_range (ping_with bytes) p one is ranged = absurd one
 one_range (mget keys) p one is ranged = absurd one
 one_range (del keys) p one is ranged = absurd one
 one_range (exists keys) p one is ranged = absurd one
 one_range (fault kind) p one is ranged = absurd one
+one_range command p one is ranged = false_is ranged
 
 -- each reply has at least one staging buffer
 pub stage_some : (command : Command) → 0 < (need_of command).stage
-stage_some ping = omega arith
 stage_some (ping_with bytes) = omega (arith, some_text bytes) where
   some_text : (bytes : List ℕ) → 0 < length (reply_text (bulk bytes))
   some_text bytes = omega arith
-stage_some (get key) = omega arith
 stage_some (set when true key bytes) = omega arith
 stage_some (set when false key bytes) = omega arith
-stage_some (mget keys) = omega arith
-stage_some (del keys) = omega arith
-stage_some (exists keys) = omega arith
-stage_some (append key bytes) = omega arith
-stage_some (str_len key) = omega arith
-stage_some (get_range key first last) = omega arith
-stage_some (fault kind) = omega arith
+stage_some command = omega arith
 
 pub slots_some : (command : Command) → (need_of command).stage ≤ (need_of command).descriptors
-slots_some ping = omega arith
-slots_some (ping_with bytes) = omega arith
-slots_some (get key) = omega arith
 slots_some (set when true key bytes) = omega arith
 slots_some (set when false key bytes) = omega arith
-slots_some (mget keys) = omega arith
-slots_some (del keys) = omega arith
-slots_some (exists keys) = omega arith
-slots_some (append key bytes) = omega arith
-slots_some (str_len key) = omega arith
-slots_some (get_range key first last) = omega arith
-slots_some (fault kind) = omega arith
+slots_some command = omega arith
 
 -- a line fits any plan that was started
 pub line_fits : (command : Command) (p : Planned) → IsStarted (need_of command) p → 64 ≤ left_of p

@@ -1,8 +1,6 @@
 -- The runs of a value that was taken are the pieces of its bytes.
 use Rattle.std.proofs.Common.{◌≡◌, ℕ, zero, suc, ◌+◌, ◌-◌, ◌*◌, ◌/◌, ◌%◌, ◌<◌, ◌≤◌, Bool, true, false, cond, List, []}
 use Rattle.std.proofs.Common.{◌∷◌, ◌++◌, length, map, take, drop, Some, refl, arith, rules, length-drop}
-use Rattle.std.specs.Prelude.{nat_le}
-use Rattle.std.proofs.lemmas.Bool.{le-leb}
 use Rattle.view_sums.specs.Total.{total}
 use Rattle.flake_model.specs.Resp.{crlf}
 use Rattle.flake_model.specs.Deed.{Deed}
@@ -12,7 +10,7 @@ use Rattle.shard_core.specs.Pieces.{runs_over, runs_at}
 use Rattle.reply_layout.specs.Pieces.{Piece, plain, stored, pieces_over, value_pieces, bulk_pieces}
 use Rattle.reply_planner.specs.Laid.{stored_run, head_text, pieces_in}
 use Rattle.reply_planner.specs.Planned.{paid_of}
-use Rattle.call_model.specs.Demand.{long_fragments}
+use Rattle.call_model.specs.Demand.{pieces_from, stay_in}
 use Rattle.command_exec.specs.Alike.{Alike}
 use Rattle.command_exec.proofs.AlikePieces.{alike_same, alike_then, alike_empty}
 
@@ -50,36 +48,37 @@ bulk_alike t extent over deed bytes reach =
     (λ some. within deed.found deed.first (length bytes) (reach some))))
     (alike_same t end end refl)
 
--- a fragment of 512 bytes and more stays whatever the threshold is
-abbrev one_at : Bool → ℕ
-one_at b = cond b 1 0
-
-one_if_long : (t n : ℕ) (b c : Bool) → t ≤ 512 → nat_le 512 n ≡ b → nat_le t n ≡ c → one_at b ≤ one_at c
-one_if_long t n false c few long stays = omega arith
-one_if_long t n true true few long stays = omega arith
-one_if_long t n true false few long stays =
-    let more : 512 ≤ n = search rules in
-    let test : nat_le t n ≡ true = le-leb t n (omega (arith, few, more)) in
-    absurd (let no : ⊥ = cc in no)
-
-long_paid : (t : ℕ) → t ≤ 512 → (n : ℕ) (found bytes : List ℕ)
-    → (0 < length bytes → length bytes ≤ fragment_limit * length found)
-    → total (λ (f : List ℕ). one_at (nat_le 512 (length f))) (cuts n bytes) ≤ total (paid_of t)
-    (runs_over false found 0 bytes)
-long_paid t few zero found bytes reach = omega arith
-long_paid t few (suc n) found [] reach = omega arith
-long_paid t few (suc n) [] (byte ∷ bytes) reach = absurd (let no = reach (omega arith) in omega (arith, no))
-long_paid t few (suc n) (address ∷ found) (byte ∷ bytes) reach =
+-- a run of each piece that stays is paid for
+cuts_paid : (t n : ℕ) (found bytes : List ℕ) → (0 < length bytes → length bytes ≤ fragment_limit * length found)
+    → stay_in t (cuts n bytes) ≤ total (paid_of t) (runs_over false found 0 bytes)
+cuts_paid t zero found bytes reach = omega arith
+cuts_paid t (suc n) found [] reach = omega arith
+cuts_paid t (suc n) [] (byte ∷ bytes) reach = absurd (let no = reach (omega arith) in omega (arith, no))
+cuts_paid t (suc n) (address ∷ found) (byte ∷ bytes) reach =
     let rest = drop fragment_limit (byte ∷ bytes) in
-    let size = length (take fragment_limit (byte ∷ bytes)) in
     let all : length (byte ∷ bytes) ≤ fragment_limit * length (address ∷ found) = reach (omega arith) in
     omega (
       arith,
-      one_if_long t size (nat_le 512 size) (nat_le t size) few refl refl,
-      long_paid t few n found rest (λ some. omega (arith, all, length-drop fragment_limit (byte ∷ bytes))),
+      cuts_paid t n found rest (λ some. omega (arith, all, length-drop fragment_limit (byte ∷ bytes))),
     )
 
-pub fragments_paid : (t : ℕ) → t ≤ 512 → (found bytes : List ℕ)
-    → (0 < length bytes → length bytes ≤ fragment_limit * length found) → long_fragments bytes ≤ total (paid_of t)
-    (runs_at false found 0 bytes)
-fragments_paid t few found bytes reach = long_paid t few (length bytes) found bytes reach
+from_paid : (t first : ℕ) (found bytes : List ℕ)
+    → (0 < length bytes → first % fragment_limit + length bytes ≤ fragment_limit * length found)
+    → stay_in t (pieces_from first bytes) ≤ total (paid_of t) (runs_over false found (first % fragment_limit) bytes)
+from_paid t first found [] reach = omega arith
+from_paid t first [] (byte ∷ bytes) reach = absurd (let no = reach (omega arith) in omega (arith, no))
+from_paid t first (address ∷ found) (byte ∷ bytes) reach =
+    let room = fragment_limit - first % fragment_limit in
+    let rest = drop room (byte ∷ bytes) in
+    let all = reach (omega arith) in
+    omega (
+      arith,
+      cuts_paid t (length rest) found rest (λ some. omega (arith, all, length-drop room (byte ∷ bytes))),
+    )
+
+pub pieces_paid : (t : ℕ) (found bytes : List ℕ) (first : ℕ)
+    → (0 < length bytes → first + length bytes ≤ fragment_limit * length found)
+    → stay_in t (pieces_from first bytes) ≤ total (paid_of t) (runs_at false found first bytes)
+pieces_paid t found bytes first reach =
+    from_paid t first (drop (first / fragment_limit) found) bytes
+    (λ some. within found first (length bytes) (reach some))

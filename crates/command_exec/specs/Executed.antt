@@ -28,7 +28,7 @@ frame_shown z parcel = record {
 pub record Executes (z : Sizes) (shards : ℕ) (command : Command) (call : ℕ) (old new : PassView) (parcel : Sent)
     (segs_before segs : List Seg) : Type 0 where
   pub outcomes : Outcomes
-  pub executed : IsExecuted z shards old.list.number call command outcomes parcel.text parcel.paid
+  pub executed : IsExecuted z old.threshold shards old.list.number call command outcomes parcel.text parcel.paid
       old.list.told new.list.told old.seat new.seat
   pub number : new.list.number ≡ old.list.number
   pub looks : new.list.looks ≡ old.list.looks

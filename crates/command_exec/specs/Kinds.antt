@@ -2,8 +2,7 @@
 use Rattle.std.specs.Prelude.{ℕ, [], slice_index_or}
 use Rattle.flake_model.specs.Store as part
 use Rattle.flake_model.specs.Store.{Operation}
-use Rattle.flake_model.specs.Command.{Command, ping, ping_with, get, set, mget, del, exists, append, str_len, get_range}
-use Rattle.flake_model.specs.Command.{fault, parts}
+use Rattle.flake_model.specs.Command.{Command, ping, ping_with, mget, del, exists, fault, parts}
 
 -- a command without parts
 abbrev pub HasNoParts : Command → Type 0
@@ -14,12 +13,13 @@ HasNoParts command = ⊥
 
 -- one whose only part's answer is the reply
 abbrev pub HasOnePart : Command → Type 0
-HasOnePart (get key) = Unit {0}
-HasOnePart (set when asks key bytes) = Unit {0}
-HasOnePart (append key bytes) = Unit {0}
-HasOnePart (str_len key) = Unit {0}
-HasOnePart (get_range key first last) = Unit {0}
-HasOnePart command = ⊥
+HasOnePart ping = ⊥
+HasOnePart (ping_with bytes) = ⊥
+HasOnePart (mget keys) = ⊥
+HasOnePart (del keys) = ⊥
+HasOnePart (exists keys) = ⊥
+HasOnePart (fault kind) = ⊥
+HasOnePart command = Unit {0}
 
 -- one that answers the values of keys
 abbrev pub AsksValues : Command → Type 0

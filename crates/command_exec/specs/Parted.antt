@@ -15,7 +15,7 @@ use Rattle.reply_layout.specs.Pieces.{item_pieces}
 use Rattle.reply_planner.specs.Laid.{pieces_in}
 use Rattle.reply_planner.specs.Planned.{Planned, planned, room_of, paid_in}
 use Rattle.call_model.specs.Outcomes.{PartOutcome, answer_told}
-use Rattle.call_model.specs.Demand.{long_in}
+use Rattle.call_model.specs.Demand.{part_pins}
 use Rattle.call_model.specs.Calls.{IsPartRun}
 use Rattle.call_model.specs.Parts.{PartShows, IsInBuffer, segs_told}
 use Rattle.call_model.specs.Steps.{deed_told}
@@ -26,8 +26,9 @@ use Rattle.command_exec.specs.Running.{KeepsPass}
 -- what became of it
 pub record RunsPart (z : Sizes) (shards : ℕ) (entry : Entry) (operation : Operation) (said : PartAnswer)
     (old new : PassView) (segs_before segs : List Seg) (before after : Planned) : Type 0 where
-  pub told : PartShows z shards entry operation said old.list new.list old.seat new.seat segs_before segs
-      before.taken after.taken
+  pub told : PartShows z shards entry operation said
+      (record { list = old.list; seat = old.seat; stored = segs_before; taken = before.taken })
+      (record { list = new.list; seat = new.seat; stored = segs; taken = after.taken })
   pub keeps : KeepsPass old new
   pub plan : after ≡ planned before.base after.taken None
   pub room : is_ranged operation ≡ false
@@ -55,14 +56,15 @@ pub record AddsValue (z : Sizes) (shards : ℕ) (entry : Entry) (operation : Ope
   pub pieces : Alike before.base.threshold (pieces_in after.taken)
       (pieces_in before.taken
       ++ item_pieces (item_of (answer_told outcome) ∷ []) (deed_told entry operation outcome ∷ []))
-  pub paid : paid_in before + long_in operation (answer_told outcome) ≤ paid_in after
+  pub paid : paid_in before + part_pins before.base.threshold operation outcome ≤ paid_in after
   pub begun : after.begun ≡ None
   pub room : room_of before ≤ room_of after + 1
 
--- 1 was answered where the key was there, and else 0
+-- 1 was answered where the key was there, and else 0; the answer pins nothing
 pub record CountsKey (z : Sizes) (shards : ℕ) (entry : Entry) (operation : Operation) (n : ℕ)
     (old new : PassView) (segs_before segs : List Seg) (before after : Planned) : Type 0 where
   pub outcome : Option PartOutcome
   pub ran : HasOutcome z shards entry operation outcome old new segs_before segs
   pub count : n ≡ (if is_yes (answer_told outcome) then 1 else 0)
+  pub free : (threshold : ℕ) → part_pins threshold operation outcome ≡ 0
   pub plan : after ≡ before

@@ -1,7 +1,6 @@
 -- A call, part by part: what its first parts did, and how the plan has its reply in the end.
 use Rattle.std.specs.Prelude.{◌≡◌, ℕ, ◌≤◌, List, [], ◌++◌, None, length}
-use Rattle.std.specs.List.{zip}
-use Rattle.view_sums.specs.Total.{total, Each}
+use Rattle.view_sums.specs.Total.{Each}
 use Rattle.pin_core.specs.declared.sizes.Sizes.{Sizes}
 use Rattle.flake_base.specs.declared.segment.Seg.{Seg}
 use Rattle.flake_model.specs.Store.{Operation}
@@ -10,8 +9,8 @@ use Rattle.reply_layout.specs.declared.need.Need.{Need}
 use Rattle.reply_layout.specs.Pieces.{pieces_of}
 use Rattle.reply_planner.specs.Laid.{pieces_in}
 use Rattle.reply_planner.specs.Planned.{Planned, paid_in}
-use Rattle.call_model.specs.Outcomes.{Outcomes, call_deeds, answers_told}
-use Rattle.call_model.specs.Demand.{long_in}
+use Rattle.call_model.specs.Outcomes.{Outcomes, call_deeds}
+use Rattle.call_model.specs.Demand.{call_pins}
 use Rattle.call_model.specs.Calls.{AreRunning, IsCutShort}
 use Rattle.call_model.specs.Parts.{call_segs, IsInBuffer, KeepsSeat}
 use Rattle.command_exec.specs.Alike.{Alike}
@@ -57,5 +56,5 @@ pub record HasReply (z : Sizes) (shards call : ℕ) (command : Command) (old new
   pub whole : length outcomes ≡ length (parts command)
   pub pieces : Alike p.base.threshold (pieces_in p.taken)
       (pieces_of command (call_deeds old.list.number call 0 (parts command) outcomes))
-  pub paid : total (λ q. long_in q.0 q.1) (zip (parts command) (answers_told outcomes)) ≤ paid_in p
+  pub paid : call_pins p.base.threshold (parts command) outcomes ≤ paid_in p
   pub begun : p.begun ≡ None

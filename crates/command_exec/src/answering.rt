@@ -51,9 +51,7 @@ pub(crate) fn answer<R: Wait, N: BookName, P: PoolName>(
             answer_at_once(plan, command);
             Ok(())
         }
-        Op::Get | Op::Set | Op::Append | Op::StrLen | Op::GetRange => {
-            answer_one(rt, shop, pass, at, command, plan, stored)
-        }
+        Op::One(_) => answer_one(rt, shop, pass, at, command, plan, stored),
         Op::MGet => answer_values(rt, shop, pass, at, command, plan, stored),
         Op::Del | Op::Exists => answer_count(rt, shop, pass, at, command, plan, stored),
     }
@@ -119,7 +117,6 @@ fn answer_value<R: Wait, N: BookName, P: PoolName>(
     requires credits { 1 < pass.old.seat.credits }
     requires spare { frags_limit ≤ stored.old.spare }
     requires none { plan.old.begun ≡ None }
-    requires threshold { plan.old.base.threshold ≤ 512 }
     requires room { 0 < room_of plan.old }
     ensures value { OnOk result (AddsValue P.sizes N.sizes.shards at (part_at command.now at.part) pass.old pass.new
         stored.old.items stored.new.items plan.old plan.new) }

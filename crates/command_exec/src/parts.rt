@@ -14,7 +14,7 @@ use flake_base::{Entry, Memory, Segs};
 use order_book::BookName;
 use pinned_pool::PoolName;
 use reply_planner::Plan;
-use shard_store::PartAnswer;
+use shard_store::{AskedPart, Commons, PartAnswer};
 use std::sync::Wait;
 
 /// Runs the part of a command that an entry names. A value that it answers goes to the plan.
@@ -43,14 +43,17 @@ pub(crate) fn run_part<R: Wait, N: BookName, P: PoolName>(
     ensures spare { stored.old.spare + length stored.old.items ≤ stored.new.spare + length stored.new.items }
 {
     let part = command.part(at.part as usize);
+    let asked = AskedPart { at, part };
+    let commons = Commons {
+        pool: shop.pool,
+        book: shop.book,
+    };
     shop.store.run_part(
         rt,
-        shop.pool,
-        shop.book,
+        &commons,
         &mut pass.seat,
         &mut pass.mine,
-        at,
-        &part,
+        &asked,
         plan,
         stored,
     )

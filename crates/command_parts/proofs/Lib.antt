@@ -1,3 +1,4 @@
 pub mod Keys
 pub mod Words
 pub mod Parts
+pub mod Tests

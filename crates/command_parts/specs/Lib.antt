@@ -1,4 +1,3 @@
 pub mod Settings
-pub mod Names
-pub mod Asked
 pub mod Meaning
+pub mod Table

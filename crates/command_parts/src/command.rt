@@ -4,7 +4,6 @@ ghost use Rattle.shard_part.specs.Parts.{operation_of, HasOwnValue};
 ghost use Rattle.command_parts.specs.Meaning.{op_of, argument_of, request_words, IsAmong};
 
 use crate::Op;
-use crate::asked::Asked;
 use crate::tested::asked;
 use flake_base::ErrorKind;
 use resp_reader::Request;
@@ -14,7 +13,7 @@ use std::marker::Model;
 /// A command, with the words of its request, if it came from one.
 #[derive(Drop)]
 pub struct Command {
-    pub(crate) asked: Asked,
+    pub(crate) op: Op,
     pub(crate) request: Option<Request>,
 }
 
@@ -24,9 +23,9 @@ impl Model for Command {
 
     ghost Value = { model.Command };
 
-    ghost view = { λ c. command_by c.asked (request_words c.request) };
+    ghost view = { λ c. command_by c.op (request_words c.request) };
 
-    ghost invariant = { λ c. FitsWords c.asked (request_words c.request) };
+    ghost invariant = { λ c. FitsWords c.op (request_words c.request) };
 }
 
 impl Command {
@@ -36,7 +35,7 @@ impl Command {
         ensures { result ≡ command_of request }
     {
         Command {
-            asked: asked(&request),
+            op: asked(&request),
             request: Some(request),
         }
     }
@@ -46,7 +45,7 @@ impl Command {
         ensures { result ≡ fault error }
     {
         Command {
-            asked: Asked::Fault(error),
+            op: Op::Fault(error),
             request: None,
         }
     }
@@ -61,7 +60,7 @@ impl Command {
     pub fn op(&self) -> Op
         ensures { result ≡ op_of self.now }
     {
-        self.asked.op()
+        self.op
     }
 
     /// The number of parts.
@@ -69,10 +68,10 @@ impl Command {
         ensures parts { result ≡ length (parts self.now) }
         ensures few { result ≤ 64 }
     {
-        match (self.asked, &self.request) {
-            (Asked::MGet | Asked::Del | Asked::Exists, Some(request)) => request.len() - 1,
-            (Asked::Ping | Asked::PingWith | Asked::Fault(_), _) => 0,
-            _ => 1,
+        match (self.op, &self.request) {
+            (Op::One(_), _) => 1,
+            (Op::MGet | Op::Del | Op::Exists, Some(request)) => request.len() - 1,
+            _ => 0,
         }
     }
 
@@ -88,15 +87,17 @@ impl Command {
             unreachable!()
         };
         let key = request.word(j + 1);
-        let (op, value): (PartOp, &[u8]) = match self.asked {
-            Asked::Get | Asked::MGet => (PartOp::Get, &[]),
-            Asked::Set(setting) => (setting.part_op(), request.word(2)),
-            Asked::Append => (PartOp::Append, request.word(2)),
-            Asked::Del => (PartOp::Del, &[]),
-            Asked::Exists => (PartOp::Exists, &[]),
-            Asked::StrLen => (PartOp::StrLen, &[]),
-            Asked::GetRange { start, end } => (PartOp::GetRange { start, end }, &[]),
-            Asked::Ping | Asked::PingWith | Asked::Fault(_) => unreachable!(),
+        let op = match self.op {
+            Op::One(op) => op,
+            Op::MGet => PartOp::Get,
+            Op::Del => PartOp::Del,
+            Op::Exists => PartOp::Exists,
+            Op::Ping | Op::PingWith | Op::Fault(_) => unreachable!(),
+        };
+        let value: &[u8] = if op.takes_value() {
+            request.word(2)
+        } else {
+            &[]
         };
         Part { op, key, value }
     }
@@ -106,8 +107,8 @@ impl Command {
         ensures argument { result.now ≡ argument_of self.now }
         ensures short { length result.now ≤ 16384 }
     {
-        match (self.asked, &self.request) {
-            (Asked::PingWith, Some(request)) => request.word(1),
+        match (self.op, &self.request) {
+            (Op::PingWith, Some(request)) => request.word(1),
             _ => &[],
         }
     }

@@ -1,12 +1,11 @@
 //! Commands: what a request asks for, by tests in a fixed order, and its parts, one for each key.
 #![tactic(auto)]
 
-mod asked;
 mod command;
-mod name;
 mod need;
 mod op;
 mod options;
+mod table;
 mod tested;
 
 pub use command::Command;

@@ -9,7 +9,7 @@ use resp_reader::Request;
 use shard_part::{Setting, When};
 
 /// A SET with no option.
-pub(crate) const PLAIN: Setting = Setting {
+const PLAIN: Setting = Setting {
     when: When::Always,
     asks: false,
 };

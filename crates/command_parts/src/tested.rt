@@ -1,17 +1,19 @@
 // The tests that a request passes or fails, in their order.
-ghost use Rattle.std.specs.Prelude.{◌≡◌, ◌<◌, ◌≤◌, length, nat_le, take, drop};
+ghost use Rattle.std.specs.Prelude.{◌≡◌, ◌<◌, ◌≤◌, length, nat_le, take, drop, true};
 ghost use Rattle.std.specs.List.{list_all};
 ghost use Rattle.flake_model.specs.Command.{command_of};
 ghost use Rattle.flake_model.specs.Range.{signed_of};
-ghost use Rattle.command_parts.specs.Asked.{asked_by, Passes, range_asked};
+ghost use Rattle.command_parts.specs.Table.{asked_by, least, optioned, key_count, argument_fits, placed, range_op};
+ghost use Rattle.command_parts.specs.Table.{HasWords};
 ghost use Rattle.command_parts.specs.Meaning.{command_by, FitsWords};
 
-use crate::asked::Asked;
-use crate::name::Name;
+use crate::Op;
+use crate::options::set_options;
+use crate::table::{Row, named_row};
 use flake_base::ErrorKind;
 use range_pick::read_signed;
 use resp_reader::Request;
-use shard_part::Setting;
+use shard_part::{PartOp, VALUE_LIMIT};
 
 /// The most keys of a command.
 const MOST_KEYS: usize = 64;
@@ -19,70 +21,100 @@ const MOST_KEYS: usize = 64;
 /// The most bytes of a key.
 const KEY_LIMIT: usize = 512;
 
+/// The most bytes of PING's argument.
+const MESSAGE_LIMIT: usize = 16_384;
+
 /// What a request asks for, or the error of the first test that it fails.
-pub(crate) fn asked(request: &Request) -> Asked
+pub(crate) fn asked(request: &Request) -> Op
     ensures command { command_by result request.now ≡ command_of request.now }
     ensures words { FitsWords result request.now }
 {
-    match Name::of(request) {
-        Some(name) => asked_by_name(name, request),
-        None => Asked::Fault(ErrorKind::UnknownCommand),
+    match named_row(request) {
+        Some(row) => asked_by_row(row, request),
+        None => Op::Fault(ErrorKind::UnknownCommand),
     }
 }
 
 // The tests behind that of the name.
-fn asked_by_name(name: Name, request: &Request) -> Asked
-    requires { 0 < length request.now }
-    ensures command { command_by result request.now ≡ asked_by name request.now }
+fn asked_by_row(row: Row, request: &Request) -> Op
+    requires some { 0 < length request.now }
+    requires words { HasWords row request.now }
+    ensures command { command_by result request.now ≡ asked_by row request.now }
     ensures words { FitsWords result request.now }
 {
-    let count = request.len();
-    if !name.fits(count) {
-        return Asked::Fault(ErrorKind::WrongCount);
+    if !row.fits {
+        return Op::Fault(ErrorKind::WrongCount);
     }
-    let Some(setting) = name.options(request) else {
-        return Asked::Fault(ErrorKind::Syntax);
+    let Some(op) = with_options(row.op, request) else {
+        return Op::Fault(ErrorKind::Syntax);
     };
-    let keys = name.key_count(count);
+    let keys = key_count(row.op, request.len());
     if keys > MOST_KEYS {
-        return Asked::Fault(ErrorKind::TooManyKeys);
+        return Op::Fault(ErrorKind::TooManyKeys);
     }
     if !keys_fit(request, keys) {
-        return Asked::Fault(ErrorKind::KeyTooLong);
+        return Op::Fault(ErrorKind::KeyTooLong);
     }
-    if !name.argument_fits(request) {
-        return Asked::Fault(ErrorKind::ValueTooLong);
+    if !argument_fits(row.op, request) {
+        return Op::Fault(ErrorKind::ValueTooLong);
     }
-    asked_at_last(name, setting, request)
+    with_places(op, request)
 }
 
-// What a request that passed the tests before asks for: the last test is that GETRANGE's places are numbers.
-fn asked_at_last(name: Name, setting: Setting, request: &Request) -> Asked
-    requires some { 0 < length request.now }
-    requires passed { Passes name setting request.now }
-    ensures command { command_by result request.now ≡ asked_by name request.now }
-    ensures words { FitsWords result request.now }
+// What is asked for, with SET's options, if the words that may only be options are ones.
+fn with_options(op: Op, request: &Request) -> Option<Op>
+    ensures { result ≡ optioned op request.now }
 {
-    match name {
-        Name::Ping if request.len() == 1 => Asked::Ping,
-        Name::Ping => Asked::PingWith,
-        Name::Get => Asked::Get,
-        Name::Set => Asked::Set(setting),
-        Name::MGet => Asked::MGet,
-        Name::Del => Asked::Del,
-        Name::Exists => Asked::Exists,
-        Name::Append => Asked::Append,
-        Name::StrLen => Asked::StrLen,
-        Name::GetRange => range_asked(request.word(2), request.word(3)),
+    match op {
+        Op::One(PartOp::Set) => {
+            let setting = set_options(request)?;
+            Some(Op::One(setting.part_op()))
+        }
+        _ => Some(op),
     }
 }
 
-fn range_asked(first: &[u8], last: &[u8]) -> Asked
-    ensures { result ≡ range_asked (signed_of first.now) (signed_of last.now) }
+// The number of keys, which are the words behind the name.
+fn key_count(op: Op, count: usize) -> usize
+    requires { 0 < count }
+    ensures { result ≡ key_count op count }
+{
+    match op {
+        Op::One(_) => 1,
+        Op::MGet | Op::Del | Op::Exists => count - 1,
+        Op::Ping | Op::PingWith | Op::Fault(_) => 0,
+    }
+}
+
+// Whether the word that may be long is as short as it has to be.
+fn argument_fits(op: Op, request: &Request) -> bool
+    requires { least op ≤ length request.now }
+    ensures { result ≡ argument_fits op request.now }
+{
+    match op {
+        Op::One(op) => !op.takes_value() || request.word(2).len() <= VALUE_LIMIT,
+        Op::Ping | Op::PingWith => request.len() < 2 || request.word(1).len() <= MESSAGE_LIMIT,
+        _ => true,
+    }
+}
+
+// What is asked for, with GETRANGE's places: the last test is that they are numbers.
+fn with_places(op: Op, request: &Request) -> Op
+    requires { least op ≤ length request.now }
+    ensures { result ≡ placed op request.now }
+{
+    match op {
+        Op::One(PartOp::GetRange { .. }) => range_op(request.word(2), request.word(3)),
+        _ => op,
+    }
+}
+
+fn range_op(first: &[u8], last: &[u8]) -> Op
+    ensures { result ≡ range_op (signed_of first.now) (signed_of last.now) }
 {
     match (read_signed(first), read_signed(last)) {
-        (Ok(start), Ok(end)) => Asked::GetRange { start, end },
-        _ => Asked::Fault(ErrorKind::NotInteger),
+        (Ok(start), Ok(end)) => Op::One(PartOp::GetRange { start, end }),
+        _ => Op::Fault(ErrorKind::NotInteger),
     }
 }
 

@@ -1,30 +1,32 @@
 -- What a pump comes to, step by step.
-use Rattle.std.proofs.Common.{◌≡◌, ◌≢◌, ◌⊎◌, ℕ, ◌+◌, ◌-◌, ◌<◌, ◌≤◌, inl, inr, Bool, List, [], ◌∷◌, ◌++◌, Option, Some}
-use Rattle.std.proofs.Common.{None, MatchOption, length, map, take, drop, arith, refl, ap, sym, ◌∙◌, subst}
+use Rattle.std.proofs.Common.{◌≡◌, ◌≢◌, ℕ, ◌+◌, ◌-◌, ◌<◌, ◌≤◌, inl, inr, Bool, List, [], ◌∷◌, ◌++◌, Option, Some}
+use Rattle.std.proofs.Common.{None, MatchOption, length, map, arith, refl, ap, sym, ◌∙◌, subst}
 use Rattle.std.proofs.Common.{append_assoc, append-nil}
-use Rattle.std.proofs.lemmas.List.{map-append, length-append, length-map, length-take, take-append-drop}
+use Rattle.std.proofs.lemmas.List.{map-append, length-append, length-map, length-take}
 use Rattle.flake_base.specs.Causes.{Rose}
 use Rattle.flake_base.specs.declared.session.End.{End}
 use Rattle.flake_base.specs.declared.session.End.TheVariants.{Clean, Protocol, Truncated, TooLong, ReadFault, Memory}
 use Rattle.flake_base.specs.declared.session.End.TheVariants.{Left}
-use Rattle.flake_model.specs.Resp.{Words, judged_bytes, IsClean, IsTruncated, Parses, stream}
+use Rattle.flake_model.specs.Resp.{Words, judged_bytes, Parses, stream}
 use Rattle.flake_model.specs.Command.{Command, fault, command_of}
-use Rattle.flake_model.specs.Journal.{next_parts}
 use Rattle.flake_model.specs.Input.{protocol_error, commands_in}
-use Rattle.flake_model.specs.Session.{IsSession}
+use Rattle.flake_model.specs.Session.{IsSession, IsReadInTurn, most_read}
 use Rattle.flake_base.specs.declared.session.SessionEnd.{SessionEnd}
+use Rattle.flake_model.proofs.InTurn.{read_at_once, piece_in_turn, more_replies}
 use Rattle.flake_model.proofs.OneParse.{goes_on}
 use Rattle.flake_model.proofs.SomeParse.{some_parse}
-use Rattle.flake_model.proofs.Streams.{requests_fit}
 use Rattle.resp_reader.specs.declared.error.ReadError.{ReadError}
 use Rattle.resp_reader.specs.declared.error.ReadError.TheVariants.{BadCount, ExpectedBulk, BadLength, Inline}
 use Rattle.resp_reader.specs.declared.error.ReadError.TheVariants as errors
 use Rattle.resp_reader.specs.Reader.{Progress, ReadsRequests, IsReadTo, IsErrorTaken as IsJudged, error_end}
 use Rattle.resp_reader.proofs.Fed.{read_ends}
-use Rattle.command_pump.specs.Pump.{Origin, origin_of, AreRead, AreFirst, IsEnded, IsAtStage, IsPump, AnswersEnd}
+use Rattle.command_pump.specs.Pump.{Origin, origin_of, AreRead, AreFirst, IsEnded, IsAtStage, IsPump}
+use Rattle.command_pump.specs.Pump.{SeeksNext, AnswersEnd}
 use Rattle.command_pump.specs.Pump.{PumpState, HasEnded, FaultsSo, ended_at, session_at, bytes_taken, stage_after}
+use Rattle.command_pump.specs.declared.pump.Broken.{Broken}
 use Rattle.command_pump.specs.declared.pump.Stage.{Stage}
 use Rattle.command_pump.specs.declared.pump.Stage.TheVariants.{Reading, Refused, Ended}
+use Rattle.command_pump.specs.Broken.{kind_of}
 
 opened : (bytes : List ℕ) (requests : List Words) (reader : Progress) → reader.closed ≡ None
     → ReadsRequests bytes requests reader → IsReadTo bytes (requests ++ reader.requests) reader.place reader.front
@@ -75,6 +77,19 @@ pub same_origin : (name old_name : List ℕ) (whole old_whole : Option (List ℕ
     → origin_of name whole ≡ origin_of old_name old_whole
 same_origin name old_name whole old_whole names wholes = λ i. record { name = names i; whole = wholes i }
 
+-- a source that gave nothing yet
+pub at_start : (origin : Origin) (bytes : List ℕ) (ended : Bool) (faults : ℕ) (reader : Progress) → bytes ≡ []
+    → ReadsRequests [] [] reader → reader.closed ≡ None
+    → IsPump origin faults [] (pump_at origin bytes ended faults reader Reading 0)
+at_start origin bytes ended faults reader none reads still = record {
+  requests = [];
+  taken_is = ap length (sym none);
+  origin_is = refl;
+  faults_are = refl;
+  at = (subst (λ b. ReadsRequests b [] reader) (sym none) reads, still, refl);
+  in_turn = read_at_once bytes 0 (omega (arith, ap length none));
+}
+
 -- the pump as it is while it reads
 record WhileReading (input : Origin) (before : ℕ) (given : List Command) (pump : PumpState) : Type 0 where
   requests : List Words
@@ -84,9 +99,10 @@ record WhileReading (input : Origin) (before : ℕ) (given : List Command) (pump
   reads : ReadsRequests pump.given requests pump.reader
   closed : pump.reader.closed ≡ None
   given_is : given ≡ map command_of requests
+  in_turn : IsReadInTurn pump.given (length given)
 
 while_reading : (input : Origin) (before : ℕ) (given : List Command) (pump : PumpState) → pump.stage ≡ Reading
-    → IsPump input before given pump → WhileReading input before given pump
+    → SeeksNext input before given pump → WhileReading input before given pump
 while_reading input before given pump is p =
     let at = subst (λ s. IsAtStage s pump.ended pump.given p.requests given pump.reader) is p.at in
     record {
@@ -97,14 +113,38 @@ while_reading input before given pump is p =
       reads = at.0;
       closed = at.1;
       given_is = at.2;
+      in_turn = p.in_turn;
     }
+
+-- a piece was read, and no whole request was left
+pub record IsPieceMore (pump : PumpState) (bytes : List ℕ) (n : ℕ) (piece : List ℕ) : Type 0 where
+  pub none : pump.reader.requests ≡ []
+  pub grew : bytes ≡ pump.given ++ piece
+  pub count : length piece ≡ n
+  pub few : length piece ≤ most_read
+
+-- so all requests of the bytes before it were given
+piece_more : (input : Origin) (before : ℕ) (given : List Command) (pump : PumpState) (bytes : List ℕ) (n : ℕ)
+    (piece : List ℕ) → IsPieceMore pump bytes n piece → WhileReading input before given pump
+    → IsReadInTurn bytes (length given)
+piece_more input before given pump bytes n piece came r =
+    let all = r.requests ++ pump.reader.requests in
+    let read = open_are_read pump.given r.requests pump.reader r.closed r.reads in
+    let many : length all ≤ length given = omega (
+      arith,
+      ap length r.given_is,
+      length-map r.requests command_of,
+      length-append r.requests pump.reader.requests,
+      ap length came.none,
+    ) in
+    piece_in_turn pump.given piece bytes all read.shown (length given) came.grew came.few read.parsed many
 
 -- a read fault
 pub at_fault : (input : Origin) (before : ℕ) (given : List Command) (pump : PumpState) (origin : Origin)
     (bytes : List ℕ) (ended : Bool) (faults : ℕ) → pump.stage ≡ Reading → pump.reader.requests ≡ []
     → origin ≡ pump.origin
-    → bytes ≡ pump.given → Rose pump.faults faults → IsPump input before given pump
-    → IsPump input before given (pump_at origin bytes ended faults pump.reader (Ended ReadFault) pump.taken)
+    → bytes ≡ pump.given → Rose pump.faults faults → SeeksNext input before given pump
+    → SeeksNext input before given (pump_at origin bytes ended faults pump.reader (Ended ReadFault) pump.taken)
 at_fault input before given pump origin bytes ended faults is none from same rose p =
     let r = while_reading input before given pump is p in
     let read = open_are_read pump.given r.requests pump.reader r.closed r.reads in
@@ -114,28 +154,30 @@ at_fault input before given pump origin bytes ended faults is none from same ros
       origin_is = from ∙ r.origin_is;
       faults_are = subst (λ n. Rose n faults) r.faults_are rose;
       at = (subst (λ b. AreRead b (r.requests ++ pump.reader.requests)) (sym same) read, none, r.given_is);
+      in_turn = subst (λ b. IsReadInTurn b (length given)) (sym same) r.in_turn;
     }
 
 -- a piece that was taken
 pub at_piece : (input : Origin) (before : ℕ) (given : List Command) (pump : PumpState) (origin : Origin)
     (bytes : List ℕ) (ended : Bool) (faults n : ℕ) (reader : Progress) (piece : List ℕ) → pump.stage ≡ Reading
-    → faults ≡ pump.faults → origin ≡ pump.origin → bytes ≡ pump.given ++ piece → length piece ≡ n
+    → faults ≡ pump.faults → origin ≡ pump.origin → IsPieceMore pump bytes n piece
     → reader.closed ≡ None
     → ((bytes : List ℕ) (given : List Words) → ReadsRequests bytes given pump.reader
-    → ReadsRequests (bytes ++ piece) given reader) → IsPump input before given pump
-    → IsPump input before given (pump_at origin bytes ended faults reader Reading (pump.taken + n))
-at_piece input before given pump origin bytes ended faults n reader piece is same from grew count still fed p =
+    → ReadsRequests (bytes ++ piece) given reader) → SeeksNext input before given pump
+    → SeeksNext input before given (pump_at origin bytes ended faults reader Reading (pump.taken + n))
+at_piece input before given pump origin bytes ended faults n reader piece is same from came still fed p =
     let r = while_reading input before given pump is p in
     record {
       requests = r.requests;
-      taken_is = omega (arith, r.taken_is, length-append pump.given piece, count, ap length grew);
+      taken_is = omega (arith, r.taken_is, length-append pump.given piece, came.count, ap length came.grew);
       origin_is = from ∙ r.origin_is;
       faults_are = same ∙ r.faults_are;
       at = (
-        subst (λ b. ReadsRequests b r.requests reader) (sym grew) (fed pump.given r.requests r.reads),
+        subst (λ b. ReadsRequests b r.requests reader) (sym came.grew) (fed pump.given r.requests r.reads),
         still,
         r.given_is,
       );
+      in_turn = piece_more input before given pump bytes n piece came r;
     }
 
 -- what a piece more means, of which the reader holds nothing
@@ -148,23 +190,24 @@ first_of bytes piece requests read =
 -- want of memory in the reader, which is as it was
 at_memory : (input : Origin) (before : ℕ) (given : List Command) (pump : PumpState) (origin : Origin) (bytes : List ℕ)
     (ended : Bool) (faults n : ℕ) (reader : Progress) (piece : List ℕ) → pump.stage ≡ Reading
-    → faults ≡ pump.faults → origin ≡ pump.origin → bytes ≡ pump.given ++ piece → length piece ≡ n
-    → reader ≡ pump.reader → IsPump input before given pump
-    → IsPump input before given (pump_at origin bytes ended faults reader (Ended Memory) (pump.taken + n))
-at_memory input before given pump origin bytes ended faults n reader piece is quiet from grew count same p =
+    → faults ≡ pump.faults → origin ≡ pump.origin → IsPieceMore pump bytes n piece
+    → reader ≡ pump.reader → SeeksNext input before given pump
+    → SeeksNext input before given (pump_at origin bytes ended faults reader (Ended Memory) (pump.taken + n))
+at_memory input before given pump origin bytes ended faults n reader piece is quiet from came same p =
     let r = while_reading input before given pump is p in
     record {
       requests = r.requests;
-      taken_is = omega (arith, r.taken_is, length-append pump.given piece, count, ap length grew);
+      taken_is = omega (arith, r.taken_is, length-append pump.given piece, came.count, ap length came.grew);
       origin_is = from ∙ r.origin_is;
       faults_are = quiet ∙ r.faults_are;
       at = (
-        subst (λ b. AreFirst b (r.requests ++ reader.requests)) (sym grew)
+        subst (λ b. AreFirst b (r.requests ++ reader.requests)) (sym came.grew)
             (first_of pump.given piece (r.requests ++ reader.requests)
             (subst (λ (n : Progress). AreRead pump.given (r.requests ++ n.requests)) (sym same)
             (open_are_read pump.given r.requests pump.reader r.closed r.reads))),
         r.given_is,
       );
+      in_turn = piece_more input before given pump bytes n piece came r;
     }
 
 stops_so : (error : ReadError) (ended : Bool) (bytes : List ℕ) (requests : List Words) (given : List Command)
@@ -181,63 +224,65 @@ stops_so errors.Memory ended bytes requests given reader before parsed is = absu
 -- a piece that the reader refused
 at_error : (input : Origin) (before : ℕ) (given : List Command) (pump : PumpState) (origin : Origin) (bytes : List ℕ)
     (ended : Bool) (faults n : ℕ) (reader : Progress) (error : ReadError) (piece : List ℕ) → pump.stage ≡ Reading
-    → faults ≡ pump.faults → origin ≡ pump.origin → bytes ≡ pump.given ++ piece → length piece ≡ n
+    → faults ≡ pump.faults → origin ≡ pump.origin → IsPieceMore pump bytes n piece
     → reader.closed ≡ Some error
     → ((bytes : List ℕ) (given : List Words) → ReadsRequests bytes given pump.reader
-    → ReadsRequests (bytes ++ piece) given reader) → IsPump input before given pump
-    → IsPump input before given (pump_at origin bytes ended faults reader (stage_after error) (pump.taken + n))
-at_error input before given pump origin bytes ended faults n reader error piece is same from grew count closed fed p =
+    → ReadsRequests (bytes ++ piece) given reader) → SeeksNext input before given pump
+    → SeeksNext input before given (pump_at origin bytes ended faults reader (stage_after error) (pump.taken + n))
+at_error input before given pump origin bytes ended faults n reader error piece is same from came closed fed p =
     let r = while_reading input before given pump is p in
-    let reads = subst (λ b. ReadsRequests b r.requests reader) (sym grew) (fed pump.given r.requests r.reads) in
+    let reads = subst (λ b. ReadsRequests b r.requests reader) (sym came.grew) (fed pump.given r.requests r.reads) in
     let so = stops_so error ended bytes r.requests given reader before
     (closed_by bytes r.requests reader error closed reads) r.given_is in
     record {
       requests = r.requests;
-      taken_is = omega (arith, r.taken_is, length-append pump.given piece, count, ap length grew);
+      taken_is = omega (arith, r.taken_is, length-append pump.given piece, came.count, ap length came.grew);
       origin_is = from ∙ r.origin_is;
       faults_are = subst (λ m. FaultsSo (stage_after error) before m) (sym (same ∙ r.faults_are)) so.0;
       at = so.1;
+      in_turn = piece_more input before given pump bytes n piece came r;
     }
 
 -- an error of any kind
 pub at_stop : (input : Origin) (before : ℕ) (given : List Command) (pump : PumpState) (origin : Origin) (bytes : List ℕ)
     (ended : Bool) (faults n : ℕ) (reader : Progress) (error : ReadError) (piece : List ℕ) → pump.stage ≡ Reading
-    → faults ≡ pump.faults → origin ≡ pump.origin → bytes ≡ pump.given ++ piece → length piece ≡ n
+    → faults ≡ pump.faults → origin ≡ pump.origin → IsPieceMore pump bytes n piece
     → (error ≢ errors.Memory → reader.closed ≡ Some error)
     → (error ≢ errors.Memory → (bytes : List ℕ) (given : List Words) → ReadsRequests bytes given pump.reader
     → ReadsRequests (bytes ++ piece) given reader) → (error ≡ errors.Memory → reader ≡ pump.reader)
-    → IsPump input before given pump → IsPump input before given
+    → SeeksNext input before given pump → SeeksNext input before given
     (pump_at origin bytes ended faults reader (stage_after error) (pump.taken + n))
-at_stop input before given pump origin bytes ended faults n reader (BadCount place) piece is quiet from grew count
+at_stop input before given pump origin bytes ended faults n reader (BadCount place) piece is quiet from came
     closed fed same p =
-    at_error input before given pump origin bytes ended faults n reader (BadCount place) piece is quiet from grew count
+    at_error input before given pump origin bytes ended faults n reader (BadCount place) piece is quiet from came
     (closed (λ e. cc e)) (fed (λ e. cc e)) p
-at_stop input before given pump origin bytes ended faults n reader (ExpectedBulk place) piece is quiet from grew count
+at_stop input before given pump origin bytes ended faults n reader (ExpectedBulk place) piece is quiet from came
     closed fed same p =
-    at_error input before given pump origin bytes ended faults n reader (ExpectedBulk place) piece is quiet from grew
-    count (closed (λ e. cc e)) (fed (λ e. cc e)) p
-at_stop input before given pump origin bytes ended faults n reader (BadLength place) piece is quiet from grew count
-    closed fed same p =
-    at_error input before given pump origin bytes ended faults n reader (BadLength place) piece is quiet from grew count
+    at_error input before given pump origin bytes ended faults n reader (ExpectedBulk place) piece is quiet from came
     (closed (λ e. cc e)) (fed (λ e. cc e)) p
-at_stop input before given pump origin bytes ended faults n reader (Inline place) piece is quiet from grew count closed
+at_stop input before given pump origin bytes ended faults n reader (BadLength place) piece is quiet from came
+    closed fed same p =
+    at_error input before given pump origin bytes ended faults n reader (BadLength place) piece is quiet from came
+    (closed (λ e. cc e)) (fed (λ e. cc e)) p
+at_stop input before given pump origin bytes ended faults n reader (Inline place) piece is quiet from came closed
     fed same p =
-    at_error input before given pump origin bytes ended faults n reader (Inline place) piece is quiet from grew count
+    at_error input before given pump origin bytes ended faults n reader (Inline place) piece is quiet from came
     (closed (λ e. cc e)) (fed (λ e. cc e)) p
-at_stop input before given pump origin bytes ended faults n reader (errors.TooLong taken) piece is quiet from grew count
+at_stop input before given pump origin bytes ended faults n reader (errors.TooLong taken) piece is quiet from came
     closed fed same p =
-    at_error input before given pump origin bytes ended faults n reader (errors.TooLong taken) piece is quiet from grew
-    count (closed (λ e. cc e)) (fed (λ e. cc e)) p
-at_stop input before given pump origin bytes ended faults n reader errors.Memory piece is quiet from grew count closed
+    at_error input before given pump origin bytes ended faults n reader (errors.TooLong taken) piece is quiet from came
+    (closed (λ e. cc e)) (fed (λ e. cc e)) p
+at_stop input before given pump origin bytes ended faults n reader errors.Memory piece is quiet from came closed
     fed same p =
-    at_memory input before given pump origin bytes ended faults n reader piece is quiet from grew count (same refl) p
+    at_memory input before given pump origin bytes ended faults n reader piece is quiet from came
+    (same refl) p
 
 -- how many reads a pump can still make
 abbrev pub reads_left : PumpState → ℕ
 reads_left pump = left_at pump.stage pump.taken where
   left_at : Stage → ℕ → ℕ
   left_at Reading taken = judged_bytes + 1 - taken
-  left_at (Refused kind place) taken = 0
+  left_at (Refused broken place) taken = 0
   left_at (Ended end) taken = 0
 
 -- a request that was given is no longer held
@@ -289,8 +334,9 @@ took Reading ended bytes requests given reader new request is closed fed at = (
   closed ∙ at.1,
   given_more given requests request at.2,
 )
-took (Refused kind place) ended bytes requests given reader new request is closed fed at = (
-  subst (λ r. Parses bytes r (Protocol kind place)) (one_more requests reader.requests new.requests request is) at.0,
+took (Refused broken place) ended bytes requests given reader new request is closed fed at = (
+  subst (λ r. Parses bytes r (Protocol (kind_of broken) place))
+      (one_more requests reader.requests new.requests request is) at.0,
   given_more given requests request at.1,
 )
 took (Ended end) ended bytes requests given reader new request is closed fed at =
@@ -301,7 +347,7 @@ no_fault : (stage : Stage) (ended : Bool) (bytes : List ℕ) (requests : List Wo
     (reader new : Progress) (request : Words) (before now : ℕ) → reader.requests ≡ request ∷ new.requests
     → IsAtStage stage ended bytes requests given reader → FaultsSo stage before now → now ≡ before
 no_fault Reading ended bytes requests given reader new request before now is at faults = faults
-no_fault (Refused kind place) ended bytes requests given reader new request before now is at faults = faults
+no_fault (Refused broken place) ended bytes requests given reader new request before now is at faults = faults
 no_fault (Ended Clean) ended bytes requests given reader new request before now is at faults = faults
 no_fault (Ended (Protocol kind place)) ended bytes requests given reader new request before now is at faults = faults
 no_fault (Ended (Truncated place)) ended bytes requests given reader new request before now is at faults = faults
@@ -312,14 +358,32 @@ no_fault (Ended Memory) ended bytes requests given reader new request before now
 no_fault (Ended Left) ended bytes requests given reader new request before now is at faults = faults
 
 pub quiet_request : (input : Origin) (before : ℕ) (given : List Command) (pump : PumpState) (reader : Progress)
-    (request : Words) → pump.reader.requests ≡ request ∷ reader.requests → IsPump input before given pump
+    (request : Words) → pump.reader.requests ≡ request ∷ reader.requests → SeeksNext input before given pump
     → pump.faults ≡ before
 quiet_request input before given pump reader request is p = no_fault pump.stage pump.ended pump.given p.requests given
     pump.reader reader request before pump.faults is p.at p.faults_are
 
-pub quiet_refusal : (input : Origin) (before : ℕ) (given : List Command) (pump : PumpState) (kind place : ℕ)
-    → pump.stage ≡ Refused kind place → IsPump input before given pump → pump.faults ≡ before
-quiet_refusal input before given pump kind place is p = subst (λ s. FaultsSo s before pump.faults) is p.faults_are
+pub quiet_refusal : (input : Origin) (before : ℕ) (given : List Command) (pump : PumpState) (broken : Broken)
+    (place : ℕ) → pump.stage ≡ Refused broken place → SeeksNext input before given pump → pump.faults ≡ before
+quiet_refusal input before given pump broken place is p = subst (λ s. FaultsSo s before pump.faults) is p.faults_are
+
+-- all pieces were read before this command was given
+behind_one : (given : List Command) (command : Command) (bytes : List ℕ) → IsReadInTurn bytes (length given)
+    → IsReadInTurn bytes (length (given ++ command ∷ []) - 1)
+behind_one given command bytes turn = more_replies bytes (length given) (length (given ++ command ∷ []) - 1)
+    (omega (arith, length-append given (command ∷ []))) turn
+
+-- what is so between calls is so when the next command is sought
+pub seeks : (input : Origin) (before : ℕ) (given : List Command) (pump : PumpState) → IsPump input before given pump
+    → SeeksNext input before given pump
+seeks input before given pump p = record {
+  requests = p.requests;
+  taken_is = p.taken_is;
+  origin_is = p.origin_is;
+  faults_are = p.faults_are;
+  at = p.at;
+  in_turn = more_replies pump.given (length given - 1) (length given) (omega arith) p.in_turn;
+}
 
 -- a request that the reader had
 pub at_request : (input : Origin) (before : ℕ) (given : List Command) (pump : PumpState) (reader : Progress)
@@ -327,7 +391,7 @@ pub at_request : (input : Origin) (before : ℕ) (given : List Command) (pump : 
     → reader.closed ≡ pump.reader.closed
     → ((bytes : List ℕ) (given : List Words) → ReadsRequests bytes given pump.reader
     → ReadsRequests bytes (given ++ request ∷ []) reader) → command ≡ command_of request
-    → IsPump input before given pump → IsPump input before (given ++ command ∷ [])
+    → SeeksNext input before given pump → IsPump input before (given ++ command ∷ [])
     (pump_at pump.origin pump.given pump.ended pump.faults reader pump.stage pump.taken)
 at_request input before given pump reader request command is closed fed is_command p = record {
   requests = p.requests ++ request ∷ [];
@@ -337,16 +401,21 @@ at_request input before given pump reader request command is closed fed is_comma
   at = subst (λ c. IsAtStage pump.stage pump.ended pump.given (p.requests ++ request ∷ []) (given ++ c ∷ []) reader)
       (sym is_command)
       (took pump.stage pump.ended pump.given p.requests given pump.reader reader request is closed fed p.at);
+  in_turn = behind_one given command pump.given p.in_turn;
 }
 
 -- the command of an error
-pub at_refusal : (input : Origin) (before : ℕ) (given : List Command) (pump : PumpState) (kind place : ℕ)
-    (command : Command) (reader : Progress) → pump.stage ≡ Refused kind place → pump.reader.requests ≡ []
-    → reader.requests ≡ [] → command ≡ fault (protocol_error kind) → IsPump input before given pump
+pub at_refusal : (input : Origin) (before : ℕ) (given : List Command) (pump : PumpState) (broken : Broken)
+    (kind place : ℕ) (command : Command) (reader : Progress) → kind ≡ kind_of broken
+    → pump.stage ≡ Refused broken place → pump.reader.requests ≡ []
+    → reader.requests ≡ [] → command ≡ fault (protocol_error (kind_of broken)) → SeeksNext input before given pump
     → IsPump input before (given ++ command ∷ [])
     (pump_at pump.origin pump.given pump.ended pump.faults reader (Ended (Protocol kind place)) pump.taken)
-at_refusal input before given pump kind place command reader is none still is_command p =
+at_refusal input before given pump broken kind place command reader kind_is is none still is_command p =
     let at = subst (λ s. IsAtStage s pump.ended pump.given p.requests given pump.reader) is p.at in
+    let error : command ≡ fault (protocol_error kind) = is_command ∙ ap (λ k. fault (protocol_error k)) (sym kind_is) in
+    let parsed : Parses pump.given (p.requests ++ pump.reader.requests) (Protocol kind place) =
+    subst (λ k. Parses pump.given (p.requests ++ pump.reader.requests) (Protocol k place)) (sym kind_is) at.0 in
     record {
       requests = p.requests;
       taken_is = p.taken_is;
@@ -354,10 +423,11 @@ at_refusal input before given pump kind place command reader is none still is_co
       faults_are = subst (λ s. FaultsSo s before pump.faults) is p.faults_are;
       at = (
         subst (λ r. Parses pump.given r (Protocol kind place)) (ap (λ m. p.requests ++ m) none
-            ∙ append-nil p.requests) at.0,
+            ∙ append-nil p.requests) parsed,
         still,
-        ap (λ g. g ++ command ∷ []) at.1 ∙ ap (λ c. map command_of p.requests ++ c ∷ []) is_command,
+        ap (λ g. g ++ command ∷ []) at.1 ∙ ap (λ c. map command_of p.requests ++ c ∷ []) error,
       );
+      in_turn = behind_one given command pump.given p.in_turn;
     }
 
 -- the place of an error is among the bytes that are judged
@@ -373,7 +443,7 @@ error_place bytes requests kind place faulty =
     )
 
 -- the first requests of an input make its first commands
-commands_first : (all requests rest : List Words) (shown : End) → all ≡ requests ++ rest → (more : List Command)
+pub commands_first : (all requests rest : List Words) (shown : End) → all ≡ requests ++ rest → (more : List Command)
     × (commands_in all shown ≡ map command_of requests ++ more)
 commands_first all requests rest Clean is =
     (map command_of rest, ap (map command_of) is ∙ map-append command_of requests rest)
@@ -409,10 +479,10 @@ none_held P requests held none p = subst P (ap (λ m. requests ++ m) none ∙ ap
 -- the session, by its end
 session_of : (end : End) (bytes : List ℕ) (ended : Bool) (requests : List Words) (given : List Command)
     (reader : Progress) (taken : ℕ) → taken ≡ length bytes → reader.requests ≡ []
-    → IsEnded end ended bytes requests given reader
+    → IsEnded end ended bytes requests given reader → IsReadInTurn bytes (length given)
     → (more : List Command) × ((failed : Bool) → IsSession
     (session_at bytes ended (given ++ more) (ended_at end (bytes_taken end taken) (length given) failed) 0))
-session_of Clean bytes ended requests given reader taken count none at =
+session_of Clean bytes ended requests given reader taken count none at turn =
     alone bytes ended given _ (λ failed. record {
       requests = requests;
       shown = Clean;
@@ -423,8 +493,9 @@ session_of Clean bytes ended requests given reader taken count none at =
       taken_is = count;
       replied = refl;
       begun_is = refl;
+      in_turn = turn;
     })
-session_of (Truncated place) bytes ended requests given reader taken count none at =
+session_of (Truncated place) bytes ended requests given reader taken count none at turn =
     alone bytes ended given _ (λ failed. record {
       requests = requests;
       shown = Truncated place;
@@ -435,8 +506,9 @@ session_of (Truncated place) bytes ended requests given reader taken count none 
       taken_is = count;
       replied = refl;
       begun_is = refl;
+      in_turn = turn;
     })
-session_of (Protocol kind place) bytes ended requests given reader taken count none at =
+session_of (Protocol kind place) bytes ended requests given reader taken count none at turn =
     alone bytes ended given _ (λ failed. record {
       requests = requests;
       shown = Protocol kind place;
@@ -447,8 +519,9 @@ session_of (Protocol kind place) bytes ended requests given reader taken count n
       taken_is = omega (arith, error_place bytes requests kind place at.0);
       replied = refl;
       begun_is = refl;
+      in_turn = turn;
     })
-session_of TooLong bytes ended requests given reader taken count none at =
+session_of TooLong bytes ended requests given reader taken count none at turn =
     alone bytes ended given _ (λ failed. record {
       requests = requests;
       shown = TooLong;
@@ -459,8 +532,9 @@ session_of TooLong bytes ended requests given reader taken count none at =
       taken_is = refl;
       replied = refl;
       begun_is = refl;
+      in_turn = turn;
     })
-session_of ReadFault bytes ended requests given reader taken count none at =
+session_of ReadFault bytes ended requests given reader taken count none at turn =
     let read = none_held (AreRead bytes) requests reader.requests none at.0 in
     alone bytes ended given _ (λ failed. record {
       requests = requests;
@@ -472,8 +546,9 @@ session_of ReadFault bytes ended requests given reader taken count none at =
       taken_is = count;
       replied = refl;
       begun_is = refl;
+      in_turn = turn;
     })
-session_of Memory bytes ended requests given reader taken count none at =
+session_of Memory bytes ended requests given reader taken count none at turn =
     let first = none_held (AreFirst bytes) requests reader.requests none at.0 in
     let more = commands_first first.all requests first.rest first.shown first.all_are in (
       more.0,
@@ -494,9 +569,10 @@ session_of Memory bytes ended requests given reader taken count none at =
               requests first.rest,
         );
         begun_is = inl refl;
+        in_turn = turn;
       },
     )
-session_of Left bytes ended requests given reader taken count none at = absurd at
+session_of Left bytes ended requests given reader taken count none at turn = absurd at
 
 -- all commands were given
 to_the_end : (end : End) (ended : Bool) (bytes : List ℕ) (requests : List Words) (given : List Command)
@@ -505,11 +581,12 @@ to_the_end end ended bytes requests given reader at is = subst (λ e. IsEnded e 
 
 pub at_last : (input : Origin) (before : ℕ) (given : List Command) (pump : PumpState) (end : End) (taken : ℕ)
     (reader : Progress) → pump.stage ≡ Ended end → pump.reader.requests ≡ [] → taken ≡ bytes_taken end pump.taken
-    → IsPump input before given pump → HasEnded input before given end
+    → SeeksNext input before given pump → HasEnded input before given end
     (pump_at pump.origin pump.given pump.ended pump.faults reader pump.stage taken)
 at_last input before given pump end taken reader is none by p =
     let at = subst (λ s. IsAtStage s pump.ended pump.given p.requests given pump.reader) is p.at in
-    let session = session_of end pump.given pump.ended p.requests given pump.reader pump.taken p.taken_is none at in
+    let session = session_of end pump.given pump.ended p.requests given pump.reader pump.taken p.taken_is none at
+    p.in_turn in
     record {
       origin_is = p.origin_is;
       faults_are = subst (λ s. FaultsSo s before pump.faults) is p.faults_are;
@@ -547,196 +624,3 @@ same_again end other pump reader taken over at same by =
     let is : other ≡ end = cc (at, over.stage) in
     let stays : taken ≡ pump.taken = by ∙ ap (λ e. bytes_taken e pump.taken) is ∙ sym over.taken in
     λ i. pump_at pump.origin pump.given pump.ended pump.faults (same i) pump.stage (stays i)
-
--- what the bytes that came mean, and that the commands which were given are the first of it
-pub record Meant (bytes : List ℕ) (given : List Command) (taken : ℕ) : Type 0 where
-  pub requests : List Words
-  pub shown : End
-  pub more : List Command
-  pub taken_is : taken ≡ length bytes
-  pub parsed : Parses bytes requests shown
-  pub commands_are : commands_in requests shown ≡ given ++ more
-
--- the commands that were given, and those of the requests that are held
-all_of : (given : List Command) (requests pending : List Words) → given ≡ map command_of requests
-    → map command_of (requests ++ pending) ≡ given ++ map command_of pending
-all_of given requests pending is = map-append command_of requests pending ∙ ap (λ g. g ++ map command_of pending)
-    (sym is)
-
--- what bytes mean of which these commands are the first
-record IsMeant (bytes : List ℕ) (given : List Command) : Type 0 where
-  requests : List Words
-  shown : End
-  more : List Command
-  parsed : Parses bytes requests shown
-  commands_are : commands_in requests shown ≡ given ++ more
-
-meant_read : (given : List Command) (bytes : List ℕ) (requests pending : List Words)
-    → AreRead bytes (requests ++ pending) → given ≡ map command_of requests → IsMeant bytes given
-meant_read given bytes requests pending read is = record {
-  requests = requests ++ pending;
-  shown = read.shown;
-  more = map command_of pending;
-  parsed = read.parsed;
-  commands_are = read.no_error (requests ++ pending) ∙ all_of given requests pending is;
-}
-
-meant_at : (stage : Stage) (ended : Bool) (bytes : List ℕ) (requests : List Words) (given : List Command)
-    (reader : Progress) → IsAtStage stage ended bytes requests given reader → IsMeant bytes given
-meant_at Reading ended bytes requests given reader at =
-    meant_read given bytes requests reader.requests (open_are_read bytes requests reader at.1 at.0) at.2
-meant_at (Refused kind place) ended bytes requests given reader at = record {
-  requests = requests ++ reader.requests;
-  shown = Protocol kind place;
-  more = map command_of reader.requests ++ fault (protocol_error kind) ∷ [];
-  parsed = at.0;
-  commands_are = ap (λ c. c ++ fault (protocol_error kind) ∷ []) (all_of given requests reader.requests at.1)
-      ∙ append_assoc given (map command_of reader.requests) (fault (protocol_error kind) ∷ []);
-}
-meant_at (Ended Clean) ended bytes requests given reader at = record {
-  requests = requests ++ reader.requests;
-  shown = Clean;
-  more = map command_of reader.requests;
-  parsed = at.1;
-  commands_are = all_of given requests reader.requests at.2;
-}
-meant_at (Ended (Protocol kind place)) ended bytes requests given reader at = record {
-  requests = requests;
-  shown = Protocol kind place;
-  more = [];
-  parsed = at.0;
-  commands_are = sym at.2 ∙ sym (append-nil given);
-}
-meant_at (Ended (Truncated place)) ended bytes requests given reader at = record {
-  requests = requests ++ reader.requests;
-  shown = Truncated place;
-  more = map command_of reader.requests;
-  parsed = at.1;
-  commands_are = all_of given requests reader.requests at.2;
-}
-meant_at (Ended TooLong) ended bytes requests given reader at = record {
-  requests = requests ++ reader.requests;
-  shown = TooLong;
-  more = map command_of reader.requests;
-  parsed = at.0;
-  commands_are = all_of given requests reader.requests at.1;
-}
-meant_at (Ended ReadFault) ended bytes requests given reader at =
-    meant_read given bytes requests reader.requests at.0 at.2
-meant_at (Ended Memory) ended bytes requests given reader at =
-    let first = at.0 in
-    let all_are : first.all ≡ requests ++ (reader.requests ++ first.rest) = first.all_are
-    ∙ append_assoc requests reader.requests first.rest in
-    let more = commands_first first.all requests (reader.requests ++ first.rest) first.shown all_are in
-    record {
-      requests = first.all;
-      shown = first.shown;
-      more = more.0;
-      parsed = first.parsed;
-      commands_are = more.1 ∙ ap (λ g. g ++ more.0) (sym at.1);
-    }
-meant_at (Ended Left) ended bytes requests given reader at = absurd at
-
-pub meant : (input : Origin) (before : ℕ) (given : List Command) (pump : PumpState) → IsPump input before given pump
-    → Meant pump.given given pump.taken
-meant input before given pump p =
-    let m = meant_at pump.stage pump.ended pump.given p.requests given pump.reader p.at in
-    record {
-      requests = m.requests;
-      shown = m.shown;
-      more = m.more;
-      taken_is = p.taken_is;
-      parsed = m.parsed;
-      commands_are = m.commands_are;
-    }
-
--- an input has at most as many requests as bytes that are judged
-clean_fits : (bytes : List ℕ) (requests : List Words) → IsClean bytes requests → length requests ≤ length bytes
-clean_fits bytes requests clean =
-    omega (arith, ap length clean.requests_are, requests_fit clean.elements, ap length clean.bytes_are)
-
-truncated_fits : (bytes : List ℕ) (requests : List Words) (place : ℕ) → IsTruncated bytes requests place
-    → length requests ≤ length bytes
-truncated_fits bytes requests place cut =
-    omega (
-      arith,
-      ap length cut.requests_are,
-      requests_fit cut.elements,
-      ap length cut.bytes_are,
-      length-append
-          (stream cut.elements) cut.front,
-    )
-
-so_many : (bytes : List ℕ) (requests : List Words) (shown : End) → Parses bytes requests shown
-    → length requests ≤ judged_bytes
-so_many bytes requests Clean parsed = omega (arith, parsed.0, clean_fits bytes requests parsed.1)
-so_many bytes requests (Truncated place) parsed = omega (arith, parsed.0, truncated_fits bytes requests place parsed.1)
-so_many bytes requests (Protocol kind place) faulty =
-    omega (
-      arith,
-      ap length faulty.requests_are,
-      requests_fit faulty.elements,
-      ap length faulty.bytes_are,
-      length-append (stream faulty.elements ++ faulty.front) (faulty.byte ∷ faulty.more),
-      length-append (stream faulty.elements) faulty.front,
-      length-take judged_bytes bytes,
-    )
-so_many bytes requests TooLong (long, inl clean) =
-    omega (arith, clean_fits (take judged_bytes bytes) requests clean, length-take judged_bytes bytes)
-so_many bytes requests TooLong (long, inr cut) =
-    omega (arith, truncated_fits (take judged_bytes bytes) requests cut.0 cut.1, length-take judged_bytes bytes)
-so_many bytes requests ReadFault parsed = absurd parsed
-so_many bytes requests Memory parsed = absurd parsed
-so_many bytes requests Left parsed = absurd parsed
-
-one_error_more : (requests : List Words) (shown : End) → length (commands_in requests shown) ≤ length requests + 1
-one_error_more requests Clean = omega (arith, length-map requests command_of)
-one_error_more requests (Protocol kind place) =
-    omega (
-      arith,
-      length-map requests command_of,
-      length-append (map command_of requests)
-          (fault (protocol_error kind) ∷ []),
-    )
-one_error_more requests (Truncated place) = omega (arith, length-map requests command_of)
-one_error_more requests TooLong = omega (arith, length-map requests command_of)
-one_error_more requests ReadFault = omega (arith, length-map requests command_of)
-one_error_more requests Memory = omega (arith, length-map requests command_of)
-one_error_more requests Left = omega (arith, length-map requests command_of)
-
-pub bounded : (input : Origin) (before : ℕ) (given : List Command) (pump : PumpState) → IsPump input before given pump
-    → length given ≤ judged_bytes + 1
-bounded input before given pump p =
-    let m = meant input before given pump p in
-    omega (
-      arith,
-      ap length m.commands_are,
-      length-append given m.more,
-      one_error_more m.requests m.shown,
-      so_many pump.given m.requests m.shown m.parsed,
-    )
-
--- a session that memory stopped behind so many replies, in a call that was given
-pub stopped_at : (bytes : List ℕ) (ended : Bool) (given : List Command) (taken replies begun : ℕ) (failed : Bool)
-    → (m : Meant bytes given taken) → replies < length given
-    → (begun ≡ 0) ⊎ (begun < length (next_parts replies (given ++ m.more)))
-    → IsSession (session_at bytes ended (given ++ m.more) (ended_at Memory taken replies failed) begun)
-stopped_at bytes ended given taken replies begun failed m some is_begun =
-    record {
-      requests = m.requests;
-      shown = m.shown;
-      parsed = m.parsed;
-      commands_are = sym m.commands_are;
-      shown_is = tt;
-      read_out = tt;
-      taken_is = m.taken_is;
-      replied = omega (
-        arith,
-        some,
-        ap length m.commands_are,
-        length-append given m.more,
-        one_error_more m.requests
-            m.shown,
-      );
-      begun_is = is_begun;
-    }

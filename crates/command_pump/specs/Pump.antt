@@ -9,12 +9,14 @@ use Rattle.flake_model.specs.Resp.{Words, Parses, judged_bytes}
 use Rattle.flake_model.specs.Command.{Command, fault, command_of}
 use Rattle.flake_base.specs.declared.session.SessionEnd.{SessionEnd}
 use Rattle.flake_model.specs.Input.{protocol_error, commands_in}
-use Rattle.flake_model.specs.Session.{Session, IsSession, HasNoError}
+use Rattle.flake_model.specs.Session.{Session, IsSession, IsReadInTurn, HasNoError}
 use Rattle.resp_reader.specs.declared.error.ReadError.{ReadError}
 use Rattle.resp_reader.specs.declared.error.ReadError.TheVariants as errors
 use Rattle.resp_reader.specs.Reader.{Progress, ReadsRequests, fed_to}
+use Rattle.command_pump.specs.declared.pump.Broken.TheVariants.{Count, Mark, Length, Start}
 use Rattle.command_pump.specs.declared.pump.Stage.{Stage}
 use Rattle.command_pump.specs.declared.pump.Stage.TheVariants.{Reading, Refused, Ended}
+use Rattle.command_pump.specs.Broken.{kind_of}
 
 -- where bytes come from: the name, and what is held under it, where that is told
 pub record Origin : Type 0 where
@@ -41,10 +43,10 @@ pub record TakesPieces (reader : Progress) (taken : ℕ) : Type 0 where
   pub judged : taken ≤ judged_bytes
 
 abbrev pub stage_after : ReadError → Stage
-stage_after (errors.BadCount place) = Refused 1 place
-stage_after (errors.ExpectedBulk place) = Refused 2 place
-stage_after (errors.BadLength place) = Refused 3 place
-stage_after (errors.Inline place) = Refused 4 place
+stage_after (errors.BadCount place) = Refused Count place
+stage_after (errors.ExpectedBulk place) = Refused Mark place
+stage_after (errors.BadLength place) = Refused Length place
+stage_after (errors.Inline place) = Refused Start place
 stage_after (errors.TooLong taken) = Ended TooLong
 stage_after errors.Memory = Ended Memory
 
@@ -70,7 +72,7 @@ EndFaults Left before now = now ≡ before
 
 abbrev pub FaultsSo : Stage → ℕ → ℕ → Type 0
 FaultsSo Reading before now = now ≡ before
-FaultsSo (Refused kind place) before now = now ≡ before
+FaultsSo (Refused broken place) before now = now ≡ before
 FaultsSo (Ended end) before now = EndFaults end before now
 
 -- whole requests, and perhaps the front of one
@@ -108,18 +110,28 @@ IsEnded Left ended bytes requests given reader = ⊥
 abbrev pub IsAtStage : Stage → Bool → List ℕ → List Words → List Command → Progress → Type 0
 IsAtStage Reading ended bytes requests given reader =
     ReadsRequests bytes requests reader × (reader.closed ≡ None) × (given ≡ map command_of requests)
-IsAtStage (Refused kind place) ended bytes requests given reader =
-    Parses bytes (requests ++ reader.requests) (Protocol kind place) × (given ≡ map command_of requests)
+IsAtStage (Refused broken place) ended bytes requests given reader =
+    Parses bytes (requests ++ reader.requests) (Protocol (kind_of broken) place) × (given ≡ map command_of requests)
 IsAtStage (Ended end) ended bytes requests given reader = IsEnded end ended bytes requests given reader
 
--- Of a source with this origin, and from a count of faults on, these commands were given.
-pub record IsPump (input : Origin) (before : ℕ) (given : List Command) (pump : PumpState) : Type 0 where
+-- Of a source with this origin, and from a count of faults on, these commands were given; its last piece was read when
+-- it had given at most so many.
+pub record HasGiven (input : Origin) (before : ℕ) (given : List Command) (most : ℕ) (pump : PumpState) : Type 0 where
   pub requests : List Words
   -- all that the source gave was taken
   pub taken_is : pump.taken ≡ length pump.given
   pub origin_is : pump.origin ≡ input
   pub faults_are : FaultsSo pump.stage before pump.faults
   pub at : IsAtStage pump.stage pump.ended pump.given requests given pump.reader
+  pub in_turn : IsReadInTurn pump.given most
+
+-- between its calls: the last piece was read before the last command was given
+abbrev pub IsPump : Origin → ℕ → List Command → PumpState → Type 0
+IsPump input before given pump = HasGiven input before given (length given - 1) pump
+
+-- while it seeks the next command: or behind that one
+abbrev pub SeeksNext : Origin → ℕ → List Command → PumpState → Type 0
+SeeksNext input before given pump = HasGiven input before given (length given) pump
 
 -- An end was answered: it is answered again, and nothing changes.
 pub record AnswersEnd (end : End) (pump : PumpState) : Type 0 where

@@ -4,7 +4,8 @@ ghost use Rattle.flake_model.specs.Command.{Command as Meaning};
 ghost use Rattle.flake_model.specs.Resp.{Words, Parses};
 ghost use Rattle.flake_model.specs.Input.{protocol_error};
 ghost use Rattle.resp_reader.specs.Reader.{ReadsRequests};
-ghost use Rattle.command_pump.specs.Pump.{Origin, IsPump, HasEnded, AnswersEnd, bytes_taken, stage_after};
+ghost use Rattle.command_pump.specs.Pump.{Origin, IsPump, SeeksNext, HasEnded, AnswersEnd, bytes_taken, stage_after};
+ghost use Rattle.command_pump.specs.Broken.{kind_of};
 
 use command_parts::Command;
 use flake_base::{End, ErrorKind, Failed, Source};
@@ -16,13 +17,52 @@ use std::mem::replace;
 /// The most bytes of one read.
 const PIECE: usize = 4096;
 
+/// Where a byte stands that no request has there.
+#[derive(Clone, Copy, Debug, PartialEq, Eq)]
+pub enum Broken {
+    /// In a count line.
+    Count,
+    /// For the mark of a word.
+    Mark,
+    /// In a length line, or in the line end of a word.
+    Length,
+    /// First of a request.
+    Start,
+}
+
+impl Broken {
+    // The number by which an end names it.
+    fn kind(self) -> u8
+        ensures { result ≡ kind_of self }
+    {
+        match self {
+            Broken::Count => 1,
+            Broken::Mark => 2,
+            Broken::Length => 3,
+            Broken::Start => 4,
+        }
+    }
+
+    // The error that answers it.
+    fn error(self) -> ErrorKind
+        ensures { result ≡ protocol_error (kind_of self) }
+    {
+        match self {
+            Broken::Count => ErrorKind::ProtocolCount,
+            Broken::Mark => ErrorKind::ProtocolBulk,
+            Broken::Length => ErrorKind::ProtocolLength,
+            Broken::Start => ErrorKind::ProtocolInline,
+        }
+    }
+}
+
 /// How far a pump has come.
 #[derive(Clone, Copy, Debug, PartialEq, Eq)]
 pub enum Stage {
     /// More bytes may come.
     Reading,
     /// The input has an error, whose command isn't given yet.
-    Refused { kind: u8, place: u64 },
+    Refused { broken: Broken, place: u64 },
     /// All that is left is in the reader.
     Ended(End),
 }
@@ -58,16 +98,11 @@ impl<S: Source> Model for Pump<S> {
     ghost invariant = { λ p. p.stage ≡ Stage.Reading → TakesPieces p.reader p.taken };
 }
 
-// The error that answers a byte which no request has there.
-fn error_of(kind: u8) -> ErrorKind
-    ensures { result ≡ protocol_error kind }
+// A pump whose reader found a byte that no request has there.
+fn refused(broken: Broken, place: u64) -> Stage
+    ensures { result ≡ Stage.Refused broken place }
 {
-    match kind {
-        1 => ErrorKind::ProtocolCount,
-        2 => ErrorKind::ProtocolBulk,
-        3 => ErrorKind::ProtocolLength,
-        _ => ErrorKind::ProtocolInline,
-    }
+    Stage::Refused { broken, place }
 }
 
 // What becomes of a pump whose reader doesn't take a piece.
@@ -75,10 +110,10 @@ fn stopped(error: ReadError) -> Stage
     ensures { result ≡ stage_after error }
 {
     match error {
-        ReadError::BadCount { place } => Stage::Refused { kind: 1, place },
-        ReadError::ExpectedBulk { place } => Stage::Refused { kind: 2, place },
-        ReadError::BadLength { place } => Stage::Refused { kind: 3, place },
-        ReadError::Inline { place } => Stage::Refused { kind: 4, place },
+        ReadError::BadCount { place } => refused(Broken::Count, place),
+        ReadError::ExpectedBulk { place } => refused(Broken::Mark, place),
+        ReadError::BadLength { place } => refused(Broken::Length, place),
+        ReadError::Inline { place } => refused(Broken::Start, place),
         ReadError::TooLong { .. } => Stage::Ended(End::TooLong),
         ReadError::Memory => Stage::Ended(End::Memory),
     }
@@ -145,9 +180,10 @@ impl<S: Source> Pump<S> {
             }
             match self.stage {
                 Stage::Reading => self.read(),
-                Stage::Refused { kind, place } => {
+                Stage::Refused { broken, place } => {
+                    let kind = broken.kind();
                     self.stage = Stage::Ended(End::Protocol { kind, place });
-                    return Ok(Command::protocol(error_of(kind)));
+                    return Ok(Command::protocol(broken.error()));
                 }
                 Stage::Ended(end) => {
                     self.taken = taken_at(end, self.taken);
@@ -162,7 +198,7 @@ impl<S: Source> Pump<S> {
         requires reading { self.old.stage ≡ Stage.Reading }
         requires none { self.old.reader.requests ≡ [] }
         ensures kept { (input : Origin) (before : ℕ) (given : List Meaning)
-            → IsPump input before given self.old → IsPump input before given self.new }
+            → SeeksNext input before given self.old → SeeksNext input before given self.new }
         ensures further { self.new.stage ≡ Stage.Reading → self.old.taken < self.new.taken }
     {
         let Ok(count) = self.source.read(&mut self.room) else {

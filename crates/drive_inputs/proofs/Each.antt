@@ -196,7 +196,7 @@ module _ {W : Type 0} (put_may : W → Bor (List ℕ) → (W × Bool) → Type 0
         deeds = own_deeds last.mine;
       } in
       let driven : ℕ × ℕ × ℕ → Type 0 = λ q.
-      (ran : SessionHasRun z shards q.0 last.pump.given last.pump.ended last.end last.mine last.seat was.texts)
+      (ran : SessionHasRun z q.2 shards q.0 last.pump.given last.pump.ended last.end last.mine last.seat was.texts)
       × IsRightSession (terms q ran.run.commands) (events_of number lines)
       × WireGrew sends last.end.failed was.whole (texts_of (terms q ran.run.commands)) was.start last.wire in
       let own = subst driven (λ i. (fit.number_is i, fit.ring_is i, fit.threshold_is i)) (was.ran, was.told, was.grew)

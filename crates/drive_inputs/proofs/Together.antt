@@ -33,7 +33,7 @@ use Rattle.pinned_pool.specs.Ends.{End}
 use Rattle.pinned_pool.specs.declared.view.View.{View}
 use Rattle.command_pump.specs.Pump.{Origin, origin_of}
 use Rattle.order_book.specs.Pages.{SessionList}
-use Rattle.order_book.specs.declared.rule.Sizes as book_sizes
+use Rattle.order_book.specs.declared.rule.BookSizes as book_sizes
 use Rattle.schedule_text.specs.declared.line.Line.{Line}
 use Rattle.serve_model.specs.Seats.{HasAll, IsSpare}
 use Rattle.session_pass.specs.Views.{SessionView}
@@ -180,7 +180,7 @@ module _ {W D A : Type 0} (put_may : W → Bor (List ℕ) → (W × Bool) → Ty
       all_there (own ++ past) olds
       (map-append Some own past ∙ ap (λ (l : List (Option W)). l ++ map Some past) firsts_are ∙ is)
 
-  pub drove_inputs : (books : book_sizes.Sizes) (y : pool_sizes.Sizes) (ring threshold : ℕ)
+  pub drove_inputs : (books : book_sizes.BookSizes) (y : pool_sizes.Sizes) (ring threshold : ℕ)
       (givens : List (List ℕ)) (endeds : List Bool) (ends : List SessionEnd) (lists : List SessionList)
       (journal : List (List Entry)) (closed : End) (spare main : View) (past olds news : List W) → Drove
       → shards ≡ books.shards → z ≡ y → AreFit z ring threshold 0 (map (λ (d : D). (view d).session) drivings)

@@ -25,7 +25,7 @@ module _ {W : Type 0} (put_may : W → Bor (List ℕ) → (W × Bool) → Type 0
   pub record DroveInputs (z : Sizes) (ring threshold : ℕ) (schedule : List Line) (failed : Bool)
       (givens : List (List ℕ)) (endeds : List Bool) (ends : List SessionEnd) (journal : List (List Entry))
       (closed : End) (olds news : List W) (old new : HostTold) : Type 0 where
-    pub ran : WasRun z givens endeds ends journal closed
+    pub ran : WasRun z threshold givens endeds ends journal closed
     pub sends : AllSent put_may flush_may (wire_texts ran.served.sessions journal) olds news
     pub lines : List EventLine
     pub said : PrintsText false failed (flat_map transcript_line lines) old new

@@ -10,7 +10,7 @@ use Rattle.flake_model.specs.Input.{commands_in, protocol_error}
 use Rattle.flake_model.specs.Resp.{Words, stream, IsClean, IsTruncated, Parses, judged_bytes}
 use Rattle.flake_model.proofs.Streams.{requests_fit}
 use Rattle.command_pump.specs.Pump.{Origin, PumpState, HasEnded}
-use Rattle.command_pump.proofs.Pumped.{bounded}
+use Rattle.command_pump.proofs.Meant.{bounded}
 use Rattle.drive_script.specs.Asked.{IsAsked}
 
 clean_fits : (bytes : List ℕ) (requests : List Words) → IsClean bytes requests → length requests ≤ length bytes

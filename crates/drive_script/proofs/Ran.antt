@@ -1,7 +1,7 @@
 -- What a driven session hands up.
-use Rattle.std.proofs.Common.{◌≡◌, ℕ, zero, suc, ◌+◌, ◌<◌, ◌≤◌, ◌⊎◌, inl, inr, Bool, true, false, List, [], ◌∷◌, ◌++◌}
-use Rattle.std.proofs.Common.{Option, None, Some, length, take, slice_get, refl, ap, sym, ◌∙◌, subst, arith, append-nil}
-use Rattle.std.proofs.Common.{append_assoc, length-append, unwrap_or}
+use Rattle.std.proofs.Common.{◌≡◌, ℕ, zero, suc, ◌+◌, ◌-◌, ◌<◌, ◌≤◌, ◌⊎◌, inl, inr, Bool, true, false, List, [], ◌∷◌}
+use Rattle.std.proofs.Common.{◌++◌, Option, None, Some, length, take, slice_get, refl, ap, sym, ◌∙◌, subst, arith}
+use Rattle.std.proofs.Common.{append-nil, append_assoc, length-append, unwrap_or}
 use Rattle.std.specs.Borrow.{Bor}
 use Rattle.std.proofs.Math.Seq.{take-length}
 use Rattle.std.proofs.lemmas.List.{length-map}
@@ -11,36 +11,37 @@ use Rattle.any_wire.proofs.Sending.{sends-on, sends-same}
 use Rattle.pin_core.specs.Holding.{Holding}
 use Rattle.pin_core.specs.declared.class.Class.{Class}
 use Rattle.pin_core.specs.declared.sizes.Sizes.{Sizes}
+use Rattle.pinned_pool.specs.Views.{nobody}
 use Rattle.pinned_pool.specs.declared.view.View.{View}
-use Rattle.pinned_pool.proofs.SoughtLaws.{sought_still}
 use Rattle.flake_base.specs.declared.session.End.{End}
 use Rattle.flake_base.specs.declared.session.End.TheVariants.{Left}
 use Rattle.flake_base.specs.declared.session.SessionEnd.{SessionEnd}
 use Rattle.flake_model.specs.Command.{Command, parts}
 use Rattle.flake_model.specs.Journal.{next_parts}
 use Rattle.flake_model.specs.Session.{IsSession}
+use Rattle.flake_model.proofs.InTurn.{more_replies}
 use Rattle.command_pump.specs.Pump.{Origin, PumpState, EndFaults, ended_at, session_at}
-use Rattle.command_pump.proofs.Pumped.{Meant, meant, stopped_at}
+use Rattle.command_pump.proofs.Meant.{Meant, meant, stopped_at}
 use Rattle.order_book.specs.Closed.{own_deeds}
 use Rattle.order_book.specs.Pages.{SessionList}
 use Rattle.reply_planner.specs.Owned.{bare_all, fresh_all}
 use Rattle.reply_planner.specs.Parcels.{Sent, texts_in}
-use Rattle.call_model.specs.Outcomes.{Outcomes, missed_in}
+use Rattle.call_model.specs.Outcomes.{Outcomes}
 use Rattle.any_wire.specs.Texts.{AreWhole, WireGrew, joined}
 use Rattle.drive_script.specs.Matches.{HasMore}
 use Rattle.drive_script.proofs.Lists.{get_front}
-use Rattle.serve_model.specs.Demand.{commands_row}
+use Rattle.serve_model.specs.Demand.{stage_row, commands_row, session_row}
 use Rattle.serve_model.specs.Going as model
 use Rattle.serve_model.specs.Handed.{SessionHasRun}
-use Rattle.serve_model.specs.Runs.{Run, session_of, missed_by}
-use Rattle.serve_model.proofs.Going.{going_ends, with_stage}
+use Rattle.serve_model.specs.Runs.{Run, session_of}
+use Rattle.serve_model.proofs.Going.{going_ends, run_moved}
 use Rattle.session_pass.specs.Kept.{holds_paid}
 use Rattle.session_pass.specs.Views.{SessionView}
 use Rattle.session_serve.specs.Wires.{SendsOut}
 use Rattle.session_serve.specs.Working.{IsFresh, IsSame, IsLeft, run_of}
 use Rattle.transcript_model.specs.Lines.{LineEvent}
 use Rattle.transcript_model.specs.Sessions.{texts_of}
-use Rattle.drive_script.specs.Asked.{IsAsked}
+use Rattle.drive_script.specs.Asked.{IsAsked, IsKeptBack}
 use Rattle.drive_script.specs.Driving.{Driving, fixed_at, IsUnderWay}
 use Rattle.drive_script.specs.Lanes.{sends_by}
 use Rattle.drive_script.specs.Left.{terms_at, GathersAll}
@@ -50,11 +51,23 @@ use Rattle.drive_script.proofs.ByPuts.{puts_are_sending}
 use Rattle.drive_script.proofs.Closing.{told_left, sent_left}
 use Rattle.drive_script.proofs.OneMore.{one_wire}
 
+-- at most one command that was given waits
+one_waits : (kept : Option Command) (given : List Command) (posted : ℕ) → IsKeptBack kept given posted
+    → length given ≤ posted + 1
+one_waits None given posted back = omega (arith, back)
+one_waits (Some command) given posted back =
+    omega (
+      arith,
+      ap (λ (list : List Command). length list) back.1,
+      length-append back.0 (command ∷ []),
+      back.2,
+    )
+
 -- a session that was left behind so many replies
 left_at : (bytes : List ℕ) (ended : Bool) (given : List Command) (taken replies : ℕ) (failed : Bool)
-    → (m : Meant bytes given taken) → replies ≤ length given
+    → (m : Meant bytes given taken) → replies ≤ length given → length given ≤ replies + 1
     → IsSession (session_at bytes ended (given ++ m.more) (ended_at Left taken replies failed) 0)
-left_at bytes ended given taken replies failed m few = record {
+left_at bytes ended given taken replies failed m few one = record {
   requests = m.requests;
   shown = m.shown;
   parsed = m.parsed;
@@ -64,6 +77,7 @@ left_at bytes ended given taken replies failed m few = record {
   taken_is = m.taken_is;
   replied = omega (arith, few, length-append given m.more);
   begun_is = refl;
+  in_turn = more_replies bytes (length given - 1) replies (omega (arith, one)) m.in_turn;
 }
 
 -- no call changes where its commands come from
@@ -90,7 +104,7 @@ module _ (z : Sizes) (shards : ℕ) (first session : SessionView) (unread pump :
     (end : SessionEnd) (seat : View) (mine : SessionList) where
   -- the session ran, on these commands and perhaps more
   pub record RanBy (how : End) : Type 0 where
-    pub ran : SessionHasRun z shards first.pass.list.number pump.given pump.ended end mine seat
+    pub ran : SessionHasRun z first.pass.threshold shards first.pass.list.number pump.given pump.ended end mine seat
         (texts_in session.posted)
     pub more : HasMore given ran.run.commands
     pub reads : EndFaults how unread.faults pump.faults
@@ -115,17 +129,17 @@ module _ (z : Sizes) (shards : ℕ) (first session : SessionView) (unread pump :
       abbrev the_run : Run
       the_run = run_of commands calls behind session.pass.list.looks how pump.taken (length session.posted) failed
 
-      ran_by : model.CallsNoMore z shards first.pass.list.number the_run (texts_in session.posted)
+      ran_by : model.CallsNoMore z first.pass.threshold shards first.pass.list.number the_run (texts_in session.posted)
           (holds_paid session.posted) session.pass.list.told first.pass.seat after
           → IsSession (session_of pump.given pump.ended the_run) → HasMore given commands
           → EndFaults how unread.faults pump.faults → RanBy how
       ran_by ended is_session more reads =
           let n = first.pass.list.number in
-          let missed = missed_by calls + missed_in behind in
+          let t = first.pass.threshold in
           let pins = holds_paid session.posted in
-          let opened : model.CallsNoMore z shards n the_run (texts_in session.posted) pins session.pass.list.told
+          let opened : model.CallsNoMore z t shards n the_run (texts_in session.posted) pins session.pass.list.told
           first.opened after =
-          subst (λ (v : View). model.CallsNoMore z shards n the_run (texts_in session.posted) pins
+          subst (λ (v : View). model.CallsNoMore z t shards n the_run (texts_in session.posted) pins
           session.pass.list.told v after) (sym fresh.opened) ended in
           record {
             ran = record {
@@ -140,9 +154,9 @@ module _ (z : Sizes) (shards : ℕ) (first session : SessionView) (unread pump :
               });
               seat_is = record {
                 holds = holds_none same;
-                sought = with_stage z the_run first.opened seat fresh.claimed
-                    (sought_still z (λ (class : Class). commands_row class commands) missed first.opened after seat
-                    opened.sought (left.claims ∙ claims) (left.looks ∙ seen));
+                sought = run_moved z stage_row (λ (class : Class). commands_row class commands)
+                    (λ (class : Class). session_row class commands) the_run nobody first.opened after seat
+                    fresh.claimed opened.sought (λ class. omega arith) (left.claims ∙ claims) (left.looks ∙ seen);
                 returned = omega (arith, opened.pinned, left.returns);
               };
               texts_are = opened.texts_are;
@@ -153,18 +167,19 @@ module _ (z : Sizes) (shards : ℕ) (first session : SessionView) (unread pump :
 
     -- what was given, and more that wasn't called
     between_ended : (b : IsBetween z shards first given session) (more : List Command) (how : End)
-        → model.CallsNoMore z shards first.pass.list.number
+        → model.CallsNoMore z first.pass.threshold shards first.pass.list.number
         (run_of (given ++ more) b.calls [] session.pass.list.looks how pump.taken (length session.posted) failed)
         (texts_in session.posted) (holds_paid session.posted) session.pass.list.told first.pass.seat session.pass.seat
     between_ended b more how =
         let n = first.pass.list.number in
+        let t = first.pass.threshold in
         let split : b.called ++ (b.rest ++ more) ≡ given ++ more = sym (append_assoc b.called b.rest more)
         ∙ ap (λ (list : List Command). list ++ more) (sym b.given_is) in
-        subst (λ (cs : List Command). model.CallsNoMore z shards n
+        subst (λ (cs : List Command). model.CallsNoMore z t shards n
         (run_of cs b.calls [] session.pass.list.looks how pump.taken (length session.posted) failed)
         (texts_in session.posted) (holds_paid session.posted) session.pass.list.told first.pass.seat
         session.pass.seat) split
-        (going_ends z shards n b.called (b.rest ++ more) b.calls (texts_in session.posted) (holds_paid session.posted)
+        (going_ends z t shards n b.called (b.rest ++ more) b.calls (texts_in session.posted) (holds_paid session.posted)
         session.pass.list.told first.pass.seat session.pass.seat session.pass.list.looks
         (ended_at how pump.taken (length session.posted) failed) b.going b.count)
 
@@ -185,7 +200,8 @@ module _ (z : Sizes) (shards : ℕ) (first session : SessionView) (unread pump :
     ran_so kept None end_is asked (inl b) =
         let m = meant unread.origin unread.faults given pump asked.pump_is in
         ran_by Left session.pass.seat refl refl b.same end_is (given ++ m.more) b.calls [] (between_ended b m.more Left)
-        (left_at pump.given pump.ended given pump.taken (length session.posted) failed m (few_called b))
+        (left_at pump.given pump.ended given pump.taken (length session.posted) failed m (few_called b)
+        (one_waits kept given (length session.posted) asked.kept_back))
         (front_more given m.more) asked.unfailed
     ran_so kept None end_is asked (inr w) = absurd (cc (w.0))
     ran_so kept (Some how) end_is (inl ended) (inl b) =
@@ -216,6 +232,7 @@ module _ (z : Sizes) (shards : ℕ) (first session : SessionView) (unread pump :
     ran_so kept (Some how) end_is (inr stopped) (inr w) =
         let b = w.1 in
         let n = first.pass.list.number in
+        let t = first.pass.threshold in
         let looks = session.pass.list.looks in
         let posted = length session.posted in
         let m = meant unread.origin unread.faults given pump stopped.1 in
@@ -224,7 +241,7 @@ module _ (z : Sizes) (shards : ℕ) (first session : SessionView) (unread pump :
         let next : next_parts posted (given ++ m.more) ≡ parts b.command = (λ i. next_parts (b.count i) (split i))
         ∙ next_is b.called b.command m.more in
         ran_by how b.after b.claims b.seen b.same end_is (given ++ m.more) b.calls b.behind
-        (subst (λ (cs : List Command). model.CallsNoMore z shards n
+        (subst (λ (cs : List Command). model.CallsNoMore z t shards n
         (run_of cs b.calls b.behind looks how pump.taken posted failed) (texts_in session.posted)
         (holds_paid session.posted) session.pass.list.told first.pass.seat b.after) (sym split)
         (b.ended m.more looks (ended_at how pump.taken posted failed) b.count stopped.0))

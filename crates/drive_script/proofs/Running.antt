@@ -49,6 +49,7 @@ called_front given called rest front command is (inr same) long = same_front cal
 pub record Stays (old new : SessionView) : Type 0 where
   pub list : new.pass.list ≡ old.pass.list
   pub stage : new.pass.stage ≡ old.pass.stage
+  pub threshold : new.pass.threshold ≡ old.pass.threshold
   pub opened : new.opened ≡ old.opened
   pub claims : new.pass.seat.claims ≡ old.pass.seat.claims
   pub seen : new.pass.seat.looks ≡ old.pass.seat.looks
@@ -58,6 +59,7 @@ pub stays_all : (old new : SessionView) → KeepsAll old new → Stays old new
 stays_all old new k = record {
   list = k.list;
   stage = k.rest.stage;
+  threshold = k.rest.threshold;
   opened = k.rest.opened;
   claims = k.claims;
   seen = k.looks;
@@ -68,6 +70,7 @@ pub stays_told : (old new : SessionView) (told : ℕ) → new ≡ record old { t
 stays_told old new told is = record {
   list = ap (λ (s : SessionView). s.pass.list) is;
   stage = ap (λ (s : SessionView). s.pass.stage) is;
+  threshold = ap (λ (s : SessionView). s.pass.threshold) is;
   opened = ap (λ (s : SessionView). s.opened) is;
   claims = ap (λ (s : SessionView). s.pass.seat.claims) is;
   seen = ap (λ (s : SessionView). s.pass.seat.looks) is;
@@ -78,6 +81,7 @@ stays_missed : (old new : SessionView) (misses : List ℕ) → new ≡ record ol
 stays_missed old new misses is = record {
   list = ap (λ (s : SessionView). s.pass.list) is;
   stage = ap (λ (s : SessionView). s.pass.stage) is;
+  threshold = ap (λ (s : SessionView). s.pass.threshold) is;
   opened = ap (λ (s : SessionView). s.opened) is;
   claims = ap (λ (s : SessionView). s.pass.seat.claims) is;
   seen = ap (λ (s : SessionView). s.pass.seat.looks) is;
@@ -88,6 +92,7 @@ stays_on : (old mid new : SessionView) → Stays old mid → Stays mid new → S
 stays_on old mid new one more = record {
   list = more.list ∙ one.list;
   stage = more.stage ∙ one.stage;
+  threshold = more.threshold ∙ one.threshold;
   opened = more.opened ∙ one.opened;
   claims = more.claims ∙ one.claims;
   seen = more.seen ∙ one.seen;
@@ -99,6 +104,7 @@ same_stays first old new s same = record {
   number = ap (λ (l : SessionList). l.number) s.list ∙ same.number;
   looks = ap (λ (l : SessionList). l.looks) s.list ∙ same.looks;
   stage = s.stage ∙ same.stage;
+  threshold = s.threshold ∙ same.threshold;
   opened = s.opened ∙ same.opened;
 }
 
@@ -107,6 +113,7 @@ same_rests first old new k same = record {
   number = k.number ∙ same.number;
   looks = k.looks ∙ same.looks;
   stage = k.stage ∙ same.stage;
+  threshold = k.threshold ∙ same.threshold;
   opened = k.opened ∙ same.opened;
 }
 
@@ -115,17 +122,18 @@ module _ (z : Sizes) (shards : ℕ) (first : SessionView) where
       → IsBetween z shards first given new
   between_stays given old new s b =
       let n = first.pass.list.number in
+      let t = first.pass.threshold in
       record {
         called = b.called;
         rest = b.rest;
         given_is = b.given_is;
         calls = b.calls;
         count = ap (λ (list : List Sent). length list) s.posted ∙ b.count;
-        going = subst (λ (ps : List Sent). model.IsGoing z shards n b.called b.calls (texts_in ps)
+        going = subst (λ (ps : List Sent). model.IsGoing z t shards n b.called b.calls (texts_in ps)
             (holds_paid ps) new.pass.list.told first.pass.seat new.pass.seat) (sym s.posted)
-            (subst (λ (l : SessionList). model.IsGoing z shards n b.called b.calls (texts_in old.posted)
+            (subst (λ (l : SessionList). model.IsGoing z t shards n b.called b.calls (texts_in old.posted)
             (holds_paid old.posted) l.told first.pass.seat new.pass.seat) (sym s.list)
-            (going_rests z shards n b.called b.calls (texts_in old.posted) (holds_paid old.posted) old.pass.list.told
+            (going_rests z t shards n b.called b.calls (texts_in old.posted) (holds_paid old.posted) old.pass.list.told
             first.pass.seat old.pass.seat new.pass.seat s.claims s.seen b.going));
         same = same_stays first old new s b.same;
       }
@@ -134,6 +142,7 @@ module _ (z : Sizes) (shards : ℕ) (first : SessionView) where
       → IsBroken z shards first given new
   broken_stays given old new s b =
       let n = first.pass.list.number in
+      let t = first.pass.threshold in
       record {
         called = b.called;
         command = b.command;
@@ -146,7 +155,7 @@ module _ (z : Sizes) (shards : ℕ) (first : SessionView) where
         claims = s.claims ∙ b.claims;
         seen = s.seen ∙ b.seen;
         ended = λ more looks end replies how.
-            subst (λ (ps : List Sent). model.CallsNoMore z shards n
+            subst (λ (ps : List Sent). model.CallsNoMore z t shards n
             (record {
               commands = b.called ++ b.command ∷ more;
               calls = b.calls;
@@ -154,7 +163,7 @@ module _ (z : Sizes) (shards : ℕ) (first : SessionView) where
               looks = looks;
               end = end;
             }) (texts_in ps) (holds_paid ps) new.pass.list.told first.pass.seat b.after) (sym s.posted)
-            (subst (λ (l : SessionList). model.CallsNoMore z shards n
+            (subst (λ (l : SessionList). model.CallsNoMore z t shards n
             (record {
               commands = b.called ++ b.command ∷ more;
               calls = b.calls;
@@ -199,17 +208,21 @@ module _ (z : Sizes) (shards : ℕ) (first : SessionView) where
         → IsBetween z shards first (next.front ++ command ∷ []) new
     between_posted new call freed sent stored posts =
         let n = first.pass.list.number in
+        let t = first.pass.threshold in
         let reply = posts.parcel in
         let seat = first.pass.seat in
         let all = b.called ++ command ∷ [] in
         let done = b.calls ++ posts.outcomes ∷ [] in
-        let executed : IsExecuted z shards n (length b.called) command posts.outcomes reply.text reply.paid
+        let executed : IsExecuted z t shards n (length b.called) command posts.outcomes reply.text reply.paid
         old.pass.list.told new.pass.list.told old.pass.seat new.pass.seat =
-        subst (λ (k : ℕ). IsExecuted z shards k (length b.called) command posts.outcomes reply.text reply.paid
+        subst (λ (k : ℕ). IsExecuted z t shards k (length b.called) command posts.outcomes reply.text reply.paid
         old.pass.list.told new.pass.list.told old.pass.seat new.pass.seat) b.same.number
-        (subst (λ (k : ℕ). IsExecuted z shards old.pass.list.number k command posts.outcomes reply.text reply.paid
-        old.pass.list.told new.pass.list.told old.pass.seat new.pass.seat) b.count posts.executed) in
-        let going = going_on z shards n b.called b.calls (texts_in old.posted) reply.text
+        (subst (λ (k : ℕ). IsExecuted z t shards old.pass.list.number k command posts.outcomes reply.text reply.paid
+        old.pass.list.told new.pass.list.told old.pass.seat new.pass.seat) b.count
+        (subst (λ (k : ℕ). IsExecuted z k shards old.pass.list.number (length old.posted) command posts.outcomes
+        reply.text reply.paid old.pass.list.told new.pass.list.told old.pass.seat new.pass.seat) b.same.threshold
+        posts.executed)) in
+        let going = going_on z t shards n b.called b.calls (texts_in old.posted) reply.text
         (holds_paid old.posted) reply.paid command posts.outcomes old.pass.list.told new.pass.list.told seat
         old.pass.seat
         new.pass.seat b.going executed in
@@ -230,11 +243,11 @@ module _ (z : Sizes) (shards : ℕ) (first : SessionView) where
                 (reply ∷ []),
             length-append b.called (command ∷ []),
           );
-          going = subst (λ (ps : List Sent). model.IsGoing z shards n all done (texts_in ps)
+          going = subst (λ (ps : List Sent). model.IsGoing z t shards n all done (texts_in ps)
               (holds_paid ps) new.pass.list.told seat new.pass.seat) (sym posts.posted)
-              (subst (λ (t : List (List ℕ)). model.IsGoing z shards n all done t (holds_paid (old.posted ++ reply ∷ []))
-              new.pass.list.told seat new.pass.seat) (sym texts)
-              (subst (λ (k : ℕ). model.IsGoing z shards n all done (texts_in old.posted ++ reply.text ∷ []) k
+              (subst (λ (l : List (List ℕ)). model.IsGoing z t shards n all done l
+              (holds_paid (old.posted ++ reply ∷ [])) new.pass.list.told seat new.pass.seat) (sym texts)
+              (subst (λ (k : ℕ). model.IsGoing z t shards n all done (texts_in old.posted ++ reply.text ∷ []) k
               new.pass.list.told seat new.pass.seat) (sym paid) going));
           same = same_rests first old new posts.rest b.same;
         }
@@ -257,6 +270,7 @@ module _ (z : Sizes) (shards : ℕ) (first : SessionView) where
         → IsBroken z shards first (next.front ++ command ∷ []) new
     broken_short new r =
         let n = first.pass.list.number in
+        let t = first.pass.threshold in
         let seat = first.pass.seat in
         let cut : IsCutShort z shards n (length b.called) command r.outcomes old.pass.list.told new.pass.list.told
         old.pass.seat new.pass.seat =
@@ -276,7 +290,7 @@ module _ (z : Sizes) (shards : ℕ) (first : SessionView) where
           claims = refl;
           seen = refl;
           ended = λ more looks end replies how.
-              subst (λ (ps : List Sent). model.CallsNoMore z shards n
+              subst (λ (ps : List Sent). model.CallsNoMore z t shards n
               (record {
                 commands = b.called ++ command ∷ more;
                 calls = b.calls;
@@ -284,7 +298,7 @@ module _ (z : Sizes) (shards : ℕ) (first : SessionView) where
                 looks = looks;
                 end = end;
               }) (texts_in ps) (holds_paid ps) new.pass.list.told seat new.pass.seat) (sym r.posted)
-              (going_breaks z shards n b.called more b.calls (texts_in old.posted) (holds_paid old.posted) command
+              (going_breaks z t shards n b.called more b.calls (texts_in old.posted) (holds_paid old.posted) command
               r.outcomes old.pass.list.told new.pass.list.told seat old.pass.seat new.pass.seat looks end b.going
               cut replies how);
           same = same_rests first old new r.rest b.same;

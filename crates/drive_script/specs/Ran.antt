@@ -45,7 +45,8 @@ module _
       (seat : View)
       (left : PumpState) (new : W) : Type 0 where
     pub texts : List (List ℕ)
-    pub ran : SessionHasRun z shards first.session.pass.list.number left.given left.ended end mine seat texts
+    pub ran : SessionHasRun z first.session.pass.threshold shards first.session.pass.list.number left.given
+        left.ended end mine seat texts
     pub origin : left.origin ≡ first.pump.origin
     pub whole : ℕ
     pub told : IsRightSession (terms_at (fixed_at z first.session) ran.run.commands end whole (own_deeds mine)) events

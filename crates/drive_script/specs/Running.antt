@@ -22,8 +22,8 @@ pub record IsBetween (z : Sizes) (shards : ℕ) (first : SessionView) (given : L
   pub given_is : given ≡ called ++ rest
   pub calls : List Outcomes
   pub count : length session.posted ≡ length called
-  pub going : model.IsGoing z shards first.pass.list.number called calls (texts_in session.posted)
-      (holds_paid session.posted) session.pass.list.told first.pass.seat session.pass.seat
+  pub going : model.IsGoing z first.pass.threshold shards first.pass.list.number called calls
+      (texts_in session.posted) (holds_paid session.posted) session.pass.list.told first.pass.seat session.pass.seat
   pub same : IsSame first session
 
 -- Memory was wanting in the call of the last command that was given; those before have their replies.
@@ -41,7 +41,7 @@ pub record IsBroken (z : Sizes) (shards : ℕ) (first : SessionView) (given : Li
   pub claims : session.pass.seat.claims ≡ after.claims
   pub seen : session.pass.seat.looks ≡ after.looks
   pub ended : (more : List Command) (looks : List (ℕ × List Deed)) (end : SessionEnd) → end.replies ≡ length called
-      → end.end ≡ Memory → model.CallsNoMore z shards first.pass.list.number
+      → end.end ≡ Memory → model.CallsNoMore z first.pass.threshold shards first.pass.list.number
       (record { commands = called ++ command ∷ more; calls = calls; behind = behind; looks = looks; end = end })
       (texts_in session.posted) (holds_paid session.posted) session.pass.list.told first.pass.seat after
   pub same : IsSame first session

@@ -17,7 +17,7 @@ use Rattle.flake_model.specs.Session.{Session}
 use Rattle.flake_model.specs.Store.{Store, after}
 use Rattle.order_book.specs.Closed.{AreClosed}
 use Rattle.order_book.specs.Pages.{ShardList, SessionList}
-use Rattle.order_book.specs.declared.rule.Sizes as book_sizes
+use Rattle.order_book.specs.declared.rule.BookSizes as book_sizes
 use Rattle.schedule_text.specs.declared.line.Line.{Line}
 use Rattle.serve_model.specs.Handed.{SessionRun, session_in, runs_in, IsLastSeat}
 use Rattle.serve_model.specs.Lists.{AreLists}
@@ -54,7 +54,7 @@ all_left shows [] = refl
 all_left shows (steps ∷ histories) =
     (λ i. left_by_replay shows finite.empty finite.empty steps i ∷ all_left shows histories i)
 
-module _ {W : Type 0} (sends : Sending W) (books : book_sizes.Sizes) (z : pool_sizes.Sizes) (ring threshold : ℕ)
+module _ {W : Type 0} (sends : Sending W) (books : book_sizes.BookSizes) (z : pool_sizes.Sizes) (ring threshold : ℕ)
     (schedule : List Line) (lines : List EventLine) (each : List (OneDriven W)) (past : List W)
     (shards : List ShardList)
     (lists : List SessionList) (journal : List (List Entry)) (main store last : View) (closed : End)
@@ -138,8 +138,8 @@ module _ {W : Type 0} (sends : Sending W) (books : book_sizes.Sizes) (z : pool_s
   pub have : HaveDriven sends z ring threshold schedule lines each past journal closed
   have =
       let served = ran.served sends z books.shards ring threshold lines each are.all in
-      let whole = was_run books z shards own_lists journal store _ _ ends _ book as_many were.parts served last
-      (are.spare ∷ []) last_seat in
+      let whole = was_run books z threshold shards own_lists journal store _ _ ends _ book as_many were.parts served
+      last (are.spare ∷ []) last_seat in
       let right : IsJudged (pool_end z last) whole.0.served.sessions =
       subst (IsJudged (pool_end z last)) (sym whole.1.sessions_are) (judged (pool_end z last)) in
       subst (HaveDriven sends z ring threshold schedule lines each past journal) (sym were.closed_is) (record {

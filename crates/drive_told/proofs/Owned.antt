@@ -16,7 +16,7 @@ use Rattle.order_book.specs.Pages.{Ranked, Page, deed_session, shard_deeds, Shar
 use Rattle.order_book.specs.Pages.{shown_session}
 use Rattle.order_book.specs.Rule.{deeds_of_session, deeds_in_shard}
 use Rattle.order_book.specs.Closed.{AreMeant, journal_of, own_deeds}
-use Rattle.order_book.specs.declared.rule.Sizes.{Sizes}
+use Rattle.order_book.specs.declared.rule.BookSizes.{BookSizes}
 use Rattle.order_book.proofs.Among.{each-among, among-append, among-filter, among-filtered, among-map, among-mapped}
 use Rattle.order_book.proofs.Numbers.{all_present}
 use Rattle.order_book.proofs.Ordered.{in_session, session_page_of}
@@ -124,7 +124,7 @@ part_of sessions entry operation is =
       part = call.gives;
     }
 
-module _ (books : Sizes) (all : List SessionRun) (shards : List ShardList) (lists : List SessionList)
+module _ (books : BookSizes) (all : List SessionRun) (shards : List ShardList) (lists : List SessionList)
     (are : AreLists books (runs_in all) shards lists) where
   abbrev ps : List Page
   ps = are.closed.shard_pages

@@ -34,15 +34,11 @@ none_of f never (key ∷ keys) = (never key, none_of f never keys)
 many_read : (command : Command) → 2 ≤ length (parts command) → AllByRecursion IsNoWrite (parts command)
 many_read asked.ping many = tt
 many_read (asked.ping_with bytes) many = tt
-many_read (asked.get key) many = ((λ never. never), tt)
-many_read (asked.set when answers key bytes) many = absurd (let no : ⊥ = omega (arith, many) in no)
 many_read (asked.mget keys) many = none_of part.get (λ key never. never) keys
 many_read (asked.del keys) many = none_of part.del (λ key never. never) keys
 many_read (asked.exists keys) many = none_of part.exists (λ key never. never) keys
-many_read (asked.append key bytes) many = absurd (let no : ⊥ = omega (arith, many) in no)
-many_read (asked.str_len key) many = ((λ never. never), tt)
-many_read (asked.get_range key start end) many = ((λ never. never), tt)
 many_read (asked.fault kind) many = tt
+many_read command many = absurd (let no : ⊥ = omega (arith, many) in no)
 
 many_next : (found : Option Command) → 2 ≤ length (flat_map parts (option_to_list found))
     → AllByRecursion IsNoWrite (flat_map parts (option_to_list found))

@@ -72,7 +72,7 @@ module _ {W : Type 0} (sends : Sending W) (z : Sizes) (shards ring threshold : �
   lists_are session (one ∷ each) all = (λ i. all.0.ran.list_is i ∷ lists_are (session + 1) each all.1 i)
 
   pub seats_are : (session : ℕ) (each : List (OneDriven W)) (all : Drove session each)
-      → AreSpentSeats z (runs_in (runs_from session each all)) (map (λ (one : OneDriven W). one.seat) each)
+      → AreSpentSeats z threshold (runs_in (runs_from session each all)) (map (λ (one : OneDriven W). one.seat) each)
   seats_are session [] all = tt
   seats_are session (one ∷ each) all = (all.0.ran.seat_is, seats_are (session + 1) each all.1)
 
@@ -100,9 +100,9 @@ module _ {W : Type 0} (sends : Sending W) (z : Sizes) (shards ring threshold : �
 
   -- they were served
   abbrev pub served : (each : List (OneDriven W)) → Drove 0 each
-      → AreServed z shards (map (λ (one : OneDriven W). one.given) each) (map (λ (one : OneDriven W). one.ended) each)
-      (map (λ (one : OneDriven W). one.end) each) (map (λ (one : OneDriven W). one.list) each)
-      (map (λ (one : OneDriven W). one.seat) each)
+      → AreServed z threshold shards (map (λ (one : OneDriven W). one.given) each)
+      (map (λ (one : OneDriven W). one.ended) each) (map (λ (one : OneDriven W). one.end) each)
+      (map (λ (one : OneDriven W). one.list) each) (map (λ (one : OneDriven W). one.seat) each)
   served each all = record {
     all = runs_from 0 each all;
     givens_are = givens_are 0 each all;

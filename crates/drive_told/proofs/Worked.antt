@@ -24,6 +24,7 @@ use Rattle.flake_model.specs.Resp.{Parses, array}
 use Rattle.flake_model.specs.Session.{IsSession}
 use Rattle.flake_model.specs.Store as part
 use Rattle.flake_model.specs.Store.{answer_on}
+use Rattle.flake_model.proofs.InTurn.{read_at_once}
 use Rattle.order_book.specs.Closed.{AreClosed, journal_of}
 use Rattle.order_book.specs.Pages.{ShardList, shown_session}
 use Rattle.call_model.specs.Stock.{AreParts, IsStock, fragments_left}
@@ -33,6 +34,7 @@ use Rattle.serve_model.specs.Handed.{SessionHasRun}
 use Rattle.serve_model.specs.Runs.{session_of, list_of}
 use Rattle.serve_model.specs.Seats.{IsSpentSeat}
 use Rattle.serve_model.specs.Worked.{setting, getting, key_a, bytes, set_input, get_input}
+use Rattle.serve_model.proofs.Going.{no_misses}
 use Rattle.any_wire.specs.Texts.{WireGrew}
 use Rattle.transcript_model.specs.Sessions.{IsRightSession, events_of, texts_of}
 use Rattle.transcript_model.specs.Standing.{at_first}
@@ -242,6 +244,7 @@ set_session = record {
   taken_is = refl;
   replied = lit≤ tt;
   begun_is = refl;
+  in_turn = read_at_once _ _ (lit≤ tt);
 }
 
 get_session : IsSession (session_of get_input true get_run)
@@ -255,6 +258,7 @@ get_session = record {
   taken_is = refl;
   replied = lit≤ tt;
   begun_is = refl;
+  in_turn = read_at_once _ _ (lit≤ tt);
 }
 
 set_claimed : (class : Class)
@@ -267,31 +271,37 @@ get_claimed : (class : Class)
 get_claimed Small = lit≤ tt
 get_claimed Large = lit≤ tt
 
-set_seat : IsSpentSeat pool set_run (view [] 1 set_claims [] 0 [])
+set_seat : IsSpentSeat pool 1 set_run (view [] 1 set_claims [] 0 [])
 set_seat = record {
   holds = refl;
   sought = record {
-    missed = λ class. 0;
-    missed_are = refl;
-    claims = set_claimed;
-    looks = λ b below. omega arith;
+    sought = record {
+      missed = λ class. 0;
+      missed_are = refl;
+      claims = set_claimed;
+      looks = λ b below. omega arith;
+    };
+    whole = no_misses;
   };
   returned = omega arith;
 }
 
-get_seat : IsSpentSeat pool get_run (view [] 1 get_claims [] 0 [])
+get_seat : IsSpentSeat pool 1 get_run (view [] 1 get_claims [] 1 [])
 get_seat = record {
   holds = refl;
   sought = record {
-    missed = λ class. 0;
-    missed_are = refl;
-    claims = get_claimed;
-    looks = λ b below. omega arith;
+    sought = record {
+      missed = λ class. 0;
+      missed_are = refl;
+      claims = get_claimed;
+      looks = λ b below. omega arith;
+    };
+    whole = no_misses;
   };
   returned = omega arith;
 }
 
-set_ran : SessionHasRun pool 1 0 set_input true set_run.end (list_of 1 0 set_run)
+set_ran : SessionHasRun pool 1 1 0 set_input true set_run.end (list_of 1 0 set_run)
     (view [] 1 set_claims [] 0 [])
     (codes "+OK\r\n" ∷ [])
 unfolding digits
@@ -305,8 +315,8 @@ set_ran = record {
   texts_are = refl;
 }
 
-get_ran : SessionHasRun pool 1 1 get_input true get_run.end (list_of 1 1 get_run)
-    (view [] 1 get_claims [] 0 [])
+get_ran : SessionHasRun pool 1 1 1 get_input true get_run.end (list_of 1 1 get_run)
+    (view [] 1 get_claims [] 1 [])
     (codes "$1\r\nx\r\n" ∷ [])
 unfolding digits
 get_ran = record {
@@ -351,10 +361,10 @@ get_stage = record {
 }
 
 abbrev set_one : OneDriven (List ℕ)
-set_one = one_of 0 set_input set_run set_claims (codes "+OK\r\n")
+set_one = one_of 0 set_input set_run set_claims 0 (codes "+OK\r\n")
 
 abbrev get_one : OneDriven (List ℕ)
-get_one = one_of 1 get_input get_run get_claims (codes "$1\r\nx\r\n")
+get_one = one_of 1 get_input get_run get_claims 1 (codes "$1\r\nx\r\n")
 
 abbrev set_terms : Terms
 set_terms = terms_by Grew pool 1 1160 1 0 (setting ∷ []) set_one

@@ -9,12 +9,12 @@ use Rattle.pinned_pool.specs.Views.{IsLoose}
 use Rattle.pinned_pool.specs.declared.view.View.{View}
 use Rattle.order_book.specs.Closed.{AreClosed}
 use Rattle.order_book.specs.Pages.{ShardList, SessionList}
-use Rattle.order_book.specs.declared.rule.Sizes as book_sizes
+use Rattle.order_book.specs.declared.rule.BookSizes as book_sizes
 use Rattle.call_model.specs.Stock.{AreParts}
 
 -- A store was taken apart, the book was closed with the lists of all sessions, and then the pool with the store's seat
 -- in the last one.
-pub record WereClosed (books : book_sizes.Sizes) (z : pool_sizes.Sizes) (shards : List ShardList)
+pub record WereClosed (books : book_sizes.BookSizes) (z : pool_sizes.Sizes) (shards : List ShardList)
     (lists : List SessionList) (journal : List (List Entry)) (main store last : View) (closed : End) : Type 0 where
   pub parts : AreParts z books.shards shards journal store
   pub book : AreClosed books shards lists

@@ -46,7 +46,7 @@ module _ {W : Type 0} (sends : Sending W) (z : Sizes) (shards ring threshold : â
 
   -- The session ran, what was said of it is right by its own list, and its wire was sent the texts of its replies.
   pub record IsDriven (session : â„•) (events : List LineEvent) (one : OneDriven W) : Type 0 where
-    pub ran : SessionHasRun z shards session one.given one.ended one.end one.list one.seat one.texts
+    pub ran : SessionHasRun z threshold shards session one.given one.ended one.end one.list one.seat one.texts
     pub stage_is : IsStageShown z one.stage
     pub told : IsRightSession (terms_by session ran.run.commands one) events
     pub grew : WireGrew sends one.end.failed one.whole (texts_of (terms_by session ran.run.commands one)) one.old

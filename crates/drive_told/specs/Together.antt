@@ -11,7 +11,7 @@ use Rattle.flake_model.specs.Command.{Command}
 use Rattle.flake_model.specs.Deed.{Deed}
 use Rattle.flake_model.specs.Run.{all_commands, wire_texts}
 use Rattle.order_book.specs.Pages.{ShardList, SessionList}
-use Rattle.order_book.specs.declared.rule.Sizes as book_sizes
+use Rattle.order_book.specs.declared.rule.BookSizes as book_sizes
 use Rattle.schedule_text.specs.declared.line.Line.{Line}
 use Rattle.serve_model.specs.Replies.{all_replies}
 use Rattle.serve_model.specs.Shown.{WasRun}
@@ -42,8 +42,8 @@ module _ {W : Type 0} (sends : Sending W) where
   -- by the sessions' own deeds, which are those of the shards' histories.
   pub record HaveDriven (z : pool_sizes.Sizes) (ring threshold : ℕ) (schedule : List Line) (lines : List EventLine)
       (each : List (OneDriven W)) (past : List W) (journal : List (List Entry)) (closed : End) : Type 0 where
-    pub ran : WasRun z (map (λ (one : OneDriven W). one.given) each) (map (λ (one : OneDriven W). one.ended) each)
-        (map (λ (one : OneDriven W). one.end) each) journal closed
+    pub ran : WasRun z threshold (map (λ (one : OneDriven W). one.given) each)
+        (map (λ (one : OneDriven W). one.ended) each) (map (λ (one : OneDriven W). one.end) each) journal closed
     pub texts_are : wire_texts ran.served.sessions journal
         ≡ map (λ (one : OneDriven W). (one.end.failed, flat_map (λ text. text) one.texts)) each
     pub replies_are : all_replies ran.served.sessions journal
@@ -60,7 +60,7 @@ module _ {W : Type 0} (sends : Sending W) where
 
   -- driven sessions and what was closed give that; wires past theirs are as they were
   abbrev pub DrivenTogether : Type 0
-  DrivenTogether = (books : book_sizes.Sizes) (z : pool_sizes.Sizes) (ring threshold : ℕ) (schedule : List Line)
+  DrivenTogether = (books : book_sizes.BookSizes) (z : pool_sizes.Sizes) (ring threshold : ℕ) (schedule : List Line)
       (lines : List EventLine) (each : List (OneDriven W)) (past : List W) (shards : List ShardList)
       (lists : List SessionList) (journal : List (List Entry)) (main store last : View) (closed : End)
       → map line_of lines ≡ schedule → AreDriven sends z books.shards ring threshold lines each lists main

@@ -14,7 +14,7 @@ use Rattle.pinned_pool.specs.Views.{view}
 use Rattle.pinned_pool.specs.declared.view.View.{View}
 use Rattle.order_book.specs.Closed.{journal_of}
 use Rattle.order_book.specs.Pages.{Ranked, Page, page, ShardList, SessionList, shown_shard}
-use Rattle.order_book.specs.declared.rule.Sizes as book_sizes
+use Rattle.order_book.specs.declared.rule.BookSizes as book_sizes
 use Rattle.call_model.specs.Outcomes.{PartOutcome, entry_at, deed_of}
 use Rattle.reply_layout.specs.Layout.{segment}
 use Rattle.schedule_text.specs.declared.line.Line.{Line}
@@ -31,7 +31,7 @@ use Rattle.drive_told.specs.Together.{HaveDriven}
 abbrev pub pool : pool_sizes.Sizes
 pool = record { small = 257; large = 0; credits = 4 }
 
-abbrev pub books : book_sizes.Sizes
+abbrev pub books : book_sizes.BookSizes
 books = record { shards = 1; sessions = 2 }
 
 -- where the buffer lies behind both stages
@@ -67,13 +67,13 @@ set_claims = range_with_len 0 128 ++ 256 ∷ []
 abbrev pub get_claims : List ℕ
 get_claims = range_with_len 128 128
 
-abbrev pub one_of : ℕ → List ℕ → Run → List ℕ → List ℕ → OneDriven (List ℕ)
-one_of session input run claims text = record {
+abbrev pub one_of : ℕ → List ℕ → Run → List ℕ → ℕ → List ℕ → OneDriven (List ℕ)
+one_of session input run claims returns text = record {
   given = input;
   ended = true;
   end = run.end;
   list = list_of 1 session run;
-  seat = view [] 1 claims [] 0 [];
+  seat = view [] 1 claims [] returns [];
   texts = text ∷ [];
   stage = stage_from (128 * session);
   whole = 1;
@@ -83,8 +83,8 @@ one_of session input run claims text = record {
 
 abbrev pub both : List (OneDriven (List ℕ))
 both =
-    one_of 0 set_input set_run set_claims (codes "+OK\r\n")
-    ∷ one_of 1 get_input get_run get_claims (codes "$1\r\nx\r\n")
+    one_of 0 set_input set_run set_claims 0 (codes "+OK\r\n")
+    ∷ one_of 1 get_input get_run get_claims 1 (codes "$1\r\nx\r\n")
     ∷ []
 
 -- the book: both deeds in the shard, in the order of their ranks
@@ -119,7 +119,7 @@ abbrev pub store : View
 store = view (record { buffer = 256; front = 120 ∷ []; exclusive = false; pinned = false } ∷ []) 1 [] [] 0 []
 
 abbrev pub main : View
-main = view [] 3 (set_claims ++ get_claims) [] 0 []
+main = view [] 3 (set_claims ++ get_claims) [] 1 []
 
 abbrev pub last : View
 last = joined_views main store

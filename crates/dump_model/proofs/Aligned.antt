@@ -12,7 +12,7 @@ use Rattle.flake_model.specs.Deed.{Deed, entries_of, final_store}
 use Rattle.order_book.specs.Pages.{ShardList, SessionList}
 use Rattle.order_book.specs.Closed.{AreClosed, AreMeant, AreShared, AreSeen, BeginsAt, IsShared, journal_of, deeds_by}
 use Rattle.order_book.specs.Closed.{session_deeds_in}
-use Rattle.order_book.specs.declared.rule.Sizes.{Sizes}
+use Rattle.order_book.specs.declared.rule.BookSizes.{BookSizes}
 use Rattle.dump_model.specs.Dump.{pairs_in, pairs_text, pairs_dumped, at_point, folded, dumped}
 use Rattle.dump_model.specs.Seen.{ShardSeen, list_seen, pairs_seen, list_with, AreBelow, AreFrom, SeenMakesDump}
 use Rattle.dump_model.proofs.Fronts.{folds, take_front, drop_front, length-entries, below, behind}
@@ -154,9 +154,9 @@ module _ (commands : List (List Command)) (before : ℕ) (last : SessionList) (t
       cut shards seen aligned.1 shared.1 own.1 place history is
 
 pub dump_of_seen :
-    ((z : Sizes) (shards : List ShardList) (sessions : List SessionList) → AreClosed z shards sessions
+    ((z : BookSizes) (shards : List ShardList) (sessions : List SessionList) → AreClosed z shards sessions
     → AreShared shards sessions)
-    → ((z : Sizes) (shards : List ShardList) (sessions : List SessionList) → AreClosed z shards sessions
+    → ((z : BookSizes) (shards : List ShardList) (sessions : List SessionList) → AreClosed z shards sessions
     → AreSeen shards sessions) → SeenMakesDump
 dump_of_seen share see commands z shards last others before points text closed numbers meant has =
     let looked = (see z shards (last ∷ others) closed).0 in

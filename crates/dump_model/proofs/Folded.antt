@@ -7,13 +7,14 @@ use Rattle.std.specs.Ordering.{nat_cmp, eq_by_cmp}
 use Rattle.std.specs.Cmp.Lexicographic.{slice_cmp, bytes_decides, texts_ties}
 use Rattle.std.specs.FinMap as finite
 use Rattle.flake_base.specs.declared.journal.Entry.{Entry}
-use Rattle.flake_model.specs.Store.{Store, Operation, get, set, append, del, exists, str_len, get_range}
+use Rattle.flake_model.specs.Store.{Store, Operation, set, append}
 use Rattle.flake_model.specs.Store.{bytes_of, has_room, stores, Change, keeps, puts, removes, change_on}
 use Rattle.flake_base.specs.Limits.{value_limit}
 use Rattle.flake_model.specs.Store.{change_by, changed, after, key_of}
 use Rattle.flake_model.specs.Journal.{shard_of, operation_at, step_of, store_after}
 use Rattle.dump_model.specs.Dump.{Pair, ParsedInput, commands_parsed, at_point, IsHome}
-use Rattle.dump_model.proofs.Allowed.{IsAllowed, entry_allowed}
+use Rattle.flake_model.proofs.Requests.{IsAllowed}
+use Rattle.dump_model.proofs.Allowed.{entry_allowed}
 
 -- a key of the shard, and a value, of lengths that a SET may have
 pub record IsGood (shards shard : ℕ) (key value : List ℕ) : Type 0 where
@@ -31,7 +32,6 @@ IsGoodStore shards shard store =
 -- what is put is short
 put_short : (old : Option (List ℕ)) (operation : Operation) (bytes : List ℕ) → IsAllowed operation
     → change_on old operation ≡ puts bytes → length bytes ≤ value_limit
-put_short old (get key) bytes allowed is = absurd (let no : keeps ≡ puts bytes = is in cc)
 put_short old (set when asks key new) bytes allowed is = by_when (stores when old) refl where
   by_when : (t : Bool) → stores when old ≡ t → length bytes ≤ value_limit
   by_when true e = let same : puts new ≡ puts bytes = rw e at is in let eq : new ≡ bytes = cc in
@@ -45,10 +45,7 @@ put_short old (append key new) bytes allowed is = by_room (has_room old new) ref
       let few : length (bytes_of old ++ new) ≤ value_limit = grind arith in
       subst (λ (b : List ℕ). length b ≤ value_limit) eq few
   by_room false e = absurd (let no : keeps ≡ puts bytes = rw e at is in cc)
-put_short old (del key) bytes allowed is = absurd (let no : removes ≡ puts bytes = is in cc)
-put_short old (exists key) bytes allowed is = absurd (let no : keeps ≡ puts bytes = is in cc)
-put_short old (str_len key) bytes allowed is = absurd (let no : keeps ≡ puts bytes = is in cc)
-put_short old (get_range key start last) bytes allowed is = absurd (let no : keeps ≡ puts bytes = is in cc)
+put_short old operation bytes allowed is = absurd (cc (is))
 
 -- keys that tie are equal
 pub tied_same : (q k : List ℕ) → eq_by_cmp (slice_cmp nat_cmp) q k ≡ true → q ≡ k

@@ -7,7 +7,7 @@ use Rattle.flake_model.specs.Command.{Command}
 use Rattle.flake_model.specs.Deed.{Deed, final_store}
 use Rattle.order_book.specs.Pages.{ShardList, SessionList}
 use Rattle.order_book.specs.Closed.{AreClosed, AreMeant, journal_of, deeds_by, session_deeds_in}
-use Rattle.order_book.specs.declared.rule.Sizes.{Sizes}
+use Rattle.order_book.specs.declared.rule.BookSizes.{BookSizes}
 use Rattle.dump_model.specs.Dump.{Pair, pairs_in, pairs_text, dumped}
 
 -- a shard's list as it was seen
@@ -67,7 +67,7 @@ pub record IsDumpOf (commands : List (List Command)) (journal : List (List Entry
       → AreFrom session before (drop (slice_index points shard) history)
 
 abbrev pub SeenMakesDump : Type 0
-SeenMakesDump = (commands : List (List Command)) (z : Sizes) (shards : List ShardList) (last : SessionList)
+SeenMakesDump = (commands : List (List Command)) (z : BookSizes) (shards : List ShardList) (last : SessionList)
     (others : List SessionList) (before : ℕ) (points text : List ℕ)
     → AreClosed z shards (last ∷ others)
     → map (λ (shard : ShardList). shard.number) shards ≡ range_with_len 0 z.shards

@@ -17,10 +17,11 @@ use Rattle.flake_model.specs.Store.{always}
 use Rattle.flake_model.specs.Command.{Command, set}
 use Rattle.flake_model.specs.Input.{commands_in}
 use Rattle.flake_model.specs.Session.{Session, is_stopped, HasNoError, EndsAs, IsReadOut, IsReplied, taken_of}
-use Rattle.flake_model.specs.Session.{IsSession}
+use Rattle.flake_model.specs.Session.{IsSession, most_read}
 use Rattle.flake_model.specs.Run.{WasServed, all_commands, served_steps, missing_writes}
-use Rattle.flake_model.specs.Refused.{refused_end, nothing_done, one_set, bad_length}
+use Rattle.flake_model.specs.Refused.{refused_end, nothing_done, one_set, bad_length, three_pings}
 use Rattle.flake_model.proofs.Faults.{error_stays, long_stays}
+use Rattle.flake_model.proofs.InTurn.{in_front}
 use Rattle.flake_model.proofs.OneParse.{one_parse}
 use Rattle.flake_model.proofs.Vectors.{vectors_parse}
 
@@ -210,3 +211,25 @@ pub all_entered : (sessions : List Session) (journal : List (List Entry)) → mi
 all_entered sessions journal none =
     all_out (λ step. is_none (answer_at step.0 (answers_of (all_commands sessions) journal))) (served_steps 0 sessions)
     none
+
+pings_parsed : Parses three_pings ((codes "PING" ∷ []) ∷ (codes "PING" ∷ []) ∷ (codes "PING" ∷ []) ∷ []) Clean
+unfolding digits
+pings_parsed = (
+  lit≤ tt,
+  record {
+    elements = array (codes "PING" ∷ []) ∷ array (codes "PING" ∷ []) ∷ array (codes "PING" ∷ []) ∷ [];
+    allowed = ((lit≤ tt, (lit≤ tt, tt)), ((lit≤ tt, (lit≤ tt, tt)), ((lit≤ tt, (lit≤ tt, tt)), tt)));
+    bytes_are = refl;
+    requests_are = refl;
+  },
+)
+
+-- three requests in front of more than a piece, of which one was answered
+pub no_read_ahead : (end : End) (rest : List ℕ) (taken : ℕ) (at_end : Bool) (journal : List (List Entry))
+    → most_read ≤ length rest
+    → WasServed ((three_pings ++ rest) ∷ []) (at_end ∷ []) (refused_end end taken 1 ∷ []) journal → ⊥
+no_read_ahead end rest taken at_end journal long served =
+    let one = only (three_pings ++ rest) at_end (refused_end end taken 1) journal served in
+    let answered : 3 ≤ one.session.end.replies =
+    in_front three_pings rest _ Clean one.session pings_parsed long one.given_is one.is in
+    omega (arith, answered, ap (λ (e : SessionEnd). e.replies) one.end_is)

@@ -7,6 +7,7 @@ use Rattle.flake_base.specs.declared.session.End.TheVariants.{Clean, Protocol, T
 use Rattle.flake_model.specs.Resp.{Parses, array}
 use Rattle.flake_model.specs.Session.{IsSession}
 use Rattle.flake_model.specs.Sessions.{set_and_get, ping_and_front, get_two, worked_sessions}
+use Rattle.flake_model.proofs.InTurn.{read_at_once}
 use Rattle.flake_model.proofs.Vectors.{vectors_parse}
 
 two_parsed : Parses get_two ((codes "MGET" ∷ codes "a" ∷ codes "b" ∷ []) ∷ []) Clean
@@ -33,6 +34,7 @@ sessions_are = (
     taken_is = refl;
     replied = refl;
     begun_is = refl;
+    in_turn = read_at_once _ _ (lit≤ tt);
   },
   (
     record {
@@ -45,6 +47,7 @@ sessions_are = (
       taken_is = refl;
       replied = refl;
       begun_is = refl;
+      in_turn = read_at_once _ _ (lit≤ tt);
     },
     (
       record {
@@ -57,6 +60,7 @@ sessions_are = (
         taken_is = refl;
         replied = refl;
         begun_is = refl;
+        in_turn = read_at_once _ _ (lit≤ tt);
       },
       (
         record {
@@ -69,6 +73,7 @@ sessions_are = (
           taken_is = refl;
           replied = refl;
           begun_is = refl;
+          in_turn = read_at_once _ _ (lit≤ tt);
         },
         (
           record {
@@ -81,6 +86,7 @@ sessions_are = (
             taken_is = refl;
             replied = lit≤ tt;
             begun_is = inr (lit< tt);
+            in_turn = read_at_once _ _ (lit≤ tt);
           },
           (
             record {
@@ -93,6 +99,7 @@ sessions_are = (
               taken_is = refl;
               replied = lit≤ tt;
               begun_is = inl refl;
+              in_turn = read_at_once _ _ (lit≤ tt);
             },
             (
               record {
@@ -105,6 +112,7 @@ sessions_are = (
                 taken_is = refl;
                 replied = lit≤ tt;
                 begun_is = refl;
+                in_turn = read_at_once _ _ (lit≤ tt);
               },
               tt,
             ),

@@ -21,6 +21,10 @@ one_set = codes "*3\r\n$3\r\nSET\r\n$1\r\na\r\n$1\r\n1\r\n"
 abbrev pub bad_length : List ℕ
 bad_length = codes "*1\r\n$01\r\n"
 
+-- PING, three times
+abbrev pub three_pings : List ℕ
+three_pings = codes "*1\r\n$4\r\nPING\r\n*1\r\n$4\r\nPING\r\n*1\r\n$4\r\nPING\r\n"
+
 -- by the session 0 in its call of this number
 abbrev pub one_deed : ℕ → Operation → Answer → List ℕ → Deed
 one_deed call operation answer stored =

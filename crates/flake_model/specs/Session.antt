@@ -1,5 +1,5 @@
 -- One session of a run: its input, its commands, and how it ended.
-use Rattle.std.specs.Prelude.{◌≡◌, ℕ, ◌+◌, ◌<◌, ◌≤◌, ◌⊎◌, Bool, true, false, List, length}
+use Rattle.std.specs.Prelude.{◌≡◌, ℕ, ◌+◌, ◌<◌, ◌≤◌, ◌⊎◌, Bool, true, false, List, ◌++◌, length}
 use Rattle.flake_base.specs.declared.session.End.{End}
 use Rattle.flake_base.specs.declared.session.End.TheVariants.{Clean, Protocol, Truncated, TooLong, ReadFault, Memory}
 use Rattle.flake_base.specs.declared.session.End.TheVariants.{Left}
@@ -62,6 +62,19 @@ abbrev pub IsBegun : End → ℕ → ℕ → Type 0
 IsBegun Memory begun parts = (begun ≡ 0) ⊎ (begun < parts)
 IsBegun end begun parts = begun ≡ 0
 
+-- a read gives at most so many bytes
+abbrev pub most_read : ℕ
+most_read = 4096
+
+-- No read is ahead of the replies: each whole request in front of the piece that was read last has one. Where nothing
+-- was read, both are empty.
+pub record IsReadInTurn (given : List ℕ) (replies : ℕ) : Type 0 where
+  pub before : List ℕ
+  pub piece : List ℕ
+  pub given_is : given ≡ before ++ piece
+  pub short : length piece ≤ most_read
+  pub answered : (requests : List Words) (shown : End) → Parses before requests shown → length requests ≤ replies
+
 -- What a session has done with what its source gave.
 pub record IsSession (session : Session) : Type 0 where
   -- what the given bytes mean
@@ -75,3 +88,4 @@ pub record IsSession (session : Session) : Type 0 where
   pub taken_is : session.end.taken ≡ taken_of session.end.end (length session.given)
   pub replied : IsReplied session.end.end session.end.replies (length requests) (length session.commands)
   pub begun_is : IsBegun session.end.end session.begun (length (next_parts session.end.replies session.commands))
+  pub in_turn : IsReadInTurn session.given session.end.replies

@@ -70,7 +70,8 @@ module _ {W : Type 0} (tells : W → WireTold) (sizes : RunSizes) (names : List 
       pool_is = h.pool_is;
       shows = run.run.counted;
       held = h.held;
-      none_missing = enough (pool_sizes (length h.rest) sizes) run.run.run.sessions done.journal closed run.run.counted;
+      none_missing = enough (pool_sizes (length h.rest) sizes) sizes.threshold run.run.run.sessions done.journal closed
+          run.run.counted;
       flushed = run.run.flushed;
       faults = run.run.faults;
       others = run.run.others;
@@ -105,8 +106,8 @@ module _ {W : Type 0} (tells : W → WireTold) (sizes : RunSizes) (names : List 
         host mid now run.said h.said
 
     sessions : length done.ends ≡ length h.rest
-    sessions = ends_count (pool_sizes (length h.rest) sizes) (givens_of h.rest) (endeds_of h.rest) done.ends
-        done.journal closed wires after tells run.run ∙ as_many
+    sessions = ends_count (pool_sizes (length h.rest) sizes) sizes.threshold (givens_of h.rest) (endeds_of h.rest)
+        done.ends done.journal closed wires after tells run.run ∙ as_many
 
   -- nothing was driven, and that was said
   pub came_refused : (finding : Finding) (before : RunOutcome) (sources : List (Opened SourceTold)) (first : SourceTold)

@@ -23,11 +23,12 @@ module _ {W : Type 0} (put_may : W → Bor (List ℕ) → (W × Bool) → Type 0
       → DroveInputs put_may flush_may z ring threshold schedule failed givens endeds ends journal closed olds news old
       new → IsDrivenRun z ring threshold schedule failed givens endeds ends journal closed olds news told old new
   driven_to z ring threshold schedule failed givens endeds ends journal closed olds news old new d = record {
-    run = run_told put_may flush_may told says z givens endeds ends journal closed olds news d.ran d.sends;
+    run = run_told put_may flush_may told says z threshold givens endeds ends journal closed olds news d.ran d.sends;
     lines = d.lines;
     transcript = subst (λ ss. IsTranscript (driven_run z ring threshold (all_commands ss) ends journal closed)
         (map told olds) (map told news) schedule d.lines)
-        (sym (run_sessions put_may flush_may told says z givens endeds ends journal closed olds news d.ran d.sends))
+        (sym (run_sessions put_may flush_may told says z threshold givens endeds ends journal closed olds news d.ran
+        d.sends))
         (transcript_told put_may flush_may told says z ring threshold schedule failed givens endeds ends journal closed
         olds news old new d);
     said = d.said;

@@ -64,7 +64,8 @@ pub record Ran {W : Type 0} (tells : W → WireTold) (job : Job) (host now : Hos
   pub pool : PoolEnd
   pub pool_is : done.pool ≡ Some pool
   pub held : (done.held.small ≡ pool.small) × (done.held.large ≡ pool.large)
-  pub run : IsDumpingRun (pool_sizes (length job.names) job.sizes) (givens_of (sources_of done.sources))
+  pub run : IsDumpingRun (pool_sizes (length job.names) job.sizes) job.sizes.threshold
+      (givens_of (sources_of done.sources))
       (endeds_of (sources_of done.sources)) done.ends done.journal pool job.sizes.dump
       job.sizes.mtu done.dump wires after tells
   pub shards : length done.journal ≡ job.sizes.shards

@@ -24,11 +24,11 @@ none_missed zero have need exceeded fits = refl
 none_missed (suc missed) have need exceeded fits =
     absurd (let more = exceeded (omega arith) in omega (arith, more, fits))
 
-pub enough : (z : Sizes) (sessions : List Session) (journal : List (List Entry)) (pool : PoolEnd)
-    → IsCounted z sessions journal pool
+pub enough : (z : Sizes) (threshold : ℕ) (sessions : List Session) (journal : List (List Entry)) (pool : PoolEnd)
+    → IsCounted z threshold sessions journal pool
     → ((class : Class) → demand_of class (all_commands sessions) ≤ count_of z class) → missing_writes sessions journal
     ≡ 0
-enough z sessions journal pool counted fits =
+enough z threshold sessions journal pool counted fits =
     let small = none_missed (counted.missed Small) _ _ (counted.exceeded Small) (fits Small) in
     let large = none_missed (counted.missed Large) _ _ (counted.exceeded Large) (fits Large) in
     omega (arith, counted.missed_are, small, large)
@@ -47,8 +47,8 @@ ran_served tells task job host now wires after done t r =
       pool_is = r.pool_is;
       shows = r.run.counted;
       held = r.held;
-      none_missing = enough (pool_sizes (length job.names) job.sizes) r.run.run.sessions done.journal r.pool
-          r.run.counted;
+      none_missing = enough (pool_sizes (length job.names) job.sizes) job.sizes.threshold r.run.run.sessions
+          done.journal r.pool r.run.counted;
       flushed = r.run.flushed;
       faults = r.run.faults;
       others = r.run.others;

@@ -111,14 +111,15 @@ module _ {W : Type 0} (put_may : W → Bor (List ℕ) → (W × Bool) → Type 0
       → IsGeneratedRun task givens endeds ends shown journal pool olds news told
   generated_to task givens endeds ends shown journal pool olds news ran =
       let z = pool_sizes task.sessions (generated_sizes task) in
-      let run = served_to put_may flush_may told says z givens endeds ends shown journal pool olds news ran.ran in
+      let t = (generated_sizes task).threshold in
+      let run = served_to put_may flush_may told says z t givens endeds ends shown journal pool olds news ran.ran in
       let was = ran.ran.ran.served in
       let as_many : length ends ≡ length (all_replies was.sessions journal) = sym (ap length was.ends_are)
       ∙ length-map was.sessions (λ (session : Session). session.end)
       ∙ sym (as_many_replies (all_commands was.sessions) journal 0 was.sessions) in
       let exact = all_told (all_replies was.sessions journal) shown olds news ran.ran.wholes
       (subst (λ n. drop n news ≡ drop n olds) as_many run.others) in
-      let same : run.run.sessions ≡ ran.ran.ran.served.sessions = served_sessions put_may flush_may told says z
+      let same : run.run.sessions ≡ ran.ran.ran.served.sessions = served_sessions put_may flush_may told says z t
       givens endeds ends shown journal pool olds news ran.ran in
       record {
         gave = ran.gave;
@@ -147,7 +148,8 @@ pub generated_count : {W : Type 0} (task : GenTask) (givens : List (List ℕ)) (
     (told : W → WireTold)
     → IsGeneratedRun task givens endeds ends shown journal pool olds news told → length ends ≡ task.sessions
 generated_count task givens endeds ends shown journal pool olds news told r =
-    ends_count (pool_sizes task.sessions (generated_sizes task)) givens endeds ends journal pool olds news told r.run
+    ends_count (pool_sizes task.sessions (generated_sizes task)) (generated_sizes task).threshold givens endeds ends
+    journal pool olds news told r.run
     ∙ as_many_fronts (inputs_of task) givens endeds r.gave ∙ length-map-range_with_len _ 0 task.sessions
 
 -- the highest status of such ends

@@ -105,12 +105,12 @@ module _ {W : Type 0} (put_may : W → Bor (List ℕ) → (W × Bool) → Type 0
       ((flushed.0, kept_from text.0 _ _ _ flushed.1), all_put texts olds news sent.1)
 
   -- of wires whose puts and flushes tell what they do
-  pub run_told : (z : Sizes) (givens : List (List ℕ)) (endeds : List Bool) (ends : List SessionEnd)
+  pub run_told : (z : Sizes) (threshold : ℕ) (givens : List (List ℕ)) (endeds : List Bool) (ends : List SessionEnd)
       (journal : List (List Entry)) (pool : End) (olds news : List W)
-      → (ran : WasRun z givens endeds ends journal pool)
+      → (ran : WasRun z threshold givens endeds ends journal pool)
       → AllSent put_may flush_may (wire_texts ran.served.sessions journal) olds news
-      → IsServedRun z givens endeds ends journal pool olds news told
-  run_told z givens endeds ends journal pool olds news ran sends =
+      → IsServedRun z threshold givens endeds ends journal pool olds news told
+  run_told z threshold givens endeds ends journal pool olds news ran sends =
       let was = ran.served in
       let texts = wire_texts was.sessions journal in
       let each : EachWire (WasPut told) texts olds news = all_put texts olds news sends in
@@ -138,39 +138,41 @@ module _ {W : Type 0} (put_may : W → Bor (List ℕ) → (W × Bool) → Type 0
       }
 
   -- its sessions are those that ran
-  pub run_sessions : (z : Sizes) (givens : List (List ℕ)) (endeds : List Bool) (ends : List SessionEnd)
+  pub run_sessions : (z : Sizes) (threshold : ℕ) (givens : List (List ℕ)) (endeds : List Bool) (ends : List SessionEnd)
       (journal : List (List Entry)) (pool : End) (olds news : List W)
-      → (ran : WasRun z givens endeds ends journal pool)
+      → (ran : WasRun z threshold givens endeds ends journal pool)
       → (sends : AllSent put_may flush_may (wire_texts ran.served.sessions journal) olds news)
-      → (run_told z givens endeds ends journal pool olds news ran sends).run.sessions ≡ ran.served.sessions
+      → (run_told z threshold givens endeds ends journal pool olds news ran sends).run.sessions ≡ ran.served.sessions
   unfolding run_told
-  run_sessions z givens endeds ends journal pool olds news ran sends = refl
+  run_sessions z threshold givens endeds ends journal pool olds news ran sends = refl
 
-  pub served_to : (z : Sizes) (givens : List (List ℕ)) (endeds : List Bool) (ends : List SessionEnd) (counts : List ℕ)
-      (journal : List (List Entry)) (pool : End) (olds news : List W)
-      → RanAll None put_may flush_may z givens endeds ends counts journal pool None no_dump olds news
-      → IsServedRun z givens endeds ends journal pool olds news told
-  served_to z givens endeds ends counts journal pool olds news ran =
-      run_told z givens endeds ends journal pool olds news ran.ran
+  pub served_to : (z : Sizes) (threshold : ℕ) (givens : List (List ℕ)) (endeds : List Bool)
+      (ends : List SessionEnd) (counts : List ℕ) (journal : List (List Entry)) (pool : End) (olds news : List W)
+      → RanAll None put_may flush_may z threshold givens endeds ends counts journal pool None no_dump olds news
+      → IsServedRun z threshold givens endeds ends journal pool olds news told
+  served_to z threshold givens endeds ends counts journal pool olds news ran =
+      run_told z threshold givens endeds ends journal pool olds news ran.ran
       (subst (λ texts. AllSent put_may flush_may texts olds news)
       (append-nil (wire_texts ran.ran.served.sessions journal)) ran.sends)
 
-  pub served_sessions : (z : Sizes) (givens : List (List ℕ)) (endeds : List Bool) (ends : List SessionEnd)
-      (counts : List ℕ) (journal : List (List Entry)) (pool : End) (olds news : List W)
-      → (ran : RanAll None put_may flush_may z givens endeds ends counts journal pool None no_dump olds news)
-      → (served_to z givens endeds ends counts journal pool olds news ran).run.sessions ≡ ran.ran.served.sessions
+  pub served_sessions : (z : Sizes) (threshold : ℕ) (givens : List (List ℕ)) (endeds : List Bool)
+      (ends : List SessionEnd) (counts : List ℕ) (journal : List (List Entry)) (pool : End) (olds news : List W)
+      → (ran : RanAll None put_may flush_may z threshold givens endeds ends counts journal pool None no_dump olds news)
+      → (served_to z threshold givens endeds ends counts journal pool olds news ran).run.sessions
+      ≡ ran.ran.served.sessions
   unfolding served_to
-  served_sessions z givens endeds ends counts journal pool olds news ran =
-      run_sessions z givens endeds ends journal pool olds news ran.ran
+  served_sessions z threshold givens endeds ends counts journal pool olds news ran =
+      run_sessions z threshold givens endeds ends journal pool olds news ran.ran
       (subst (λ texts. AllSent put_may flush_may texts olds news)
       (append-nil (wire_texts ran.ran.served.sessions journal)) ran.sends)
 
   -- with what a dump was sent behind them
-  pub dumping_to : (mtu : Option ℕ) (z : Sizes) (givens : List (List ℕ)) (endeds : List Bool) (ends : List SessionEnd)
-      (counts : List ℕ) (journal : List (List Entry)) (pool : End) (asked : Option ℕ) (dump : DumpTold)
-      (olds news : List W) → RanAll mtu put_may flush_may z givens endeds ends counts journal pool asked dump olds news
-      → IsDumpingRun z givens endeds ends journal pool asked mtu dump olds news told
-  dumping_to mtu z givens endeds ends counts journal pool asked dump olds news ran =
+  pub dumping_to : (mtu : Option ℕ) (z : Sizes) (threshold : ℕ) (givens : List (List ℕ)) (endeds : List Bool)
+      (ends : List SessionEnd) (counts : List ℕ) (journal : List (List Entry)) (pool : End) (asked : Option ℕ)
+      (dump : DumpTold) (olds news : List W)
+      → RanAll mtu put_may flush_may z threshold givens endeds ends counts journal pool asked dump olds news
+      → IsDumpingRun z threshold givens endeds ends journal pool asked mtu dump olds news told
+  dumping_to mtu z threshold givens endeds ends counts journal pool asked dump olds news ran =
       let was = ran.ran.served in
       let first = sent_on_wires mtu was.sessions journal in
       let behind = dump_texts (all_commands was.sessions) journal dump in
@@ -214,7 +216,7 @@ ends_served givens endeds ends journal run =
     ∙ ap length run.given_is in
     sym end ∙ given
 
-pub ends_count : {W : Type 0} (z : Sizes) (givens : List (List ℕ)) (endeds : List Bool) (ends : List SessionEnd)
-    (journal : List (List Entry)) (pool : End) (olds news : List W) (told : W → WireTold)
-    → IsServedRun z givens endeds ends journal pool olds news told → length ends ≡ length givens
-ends_count z givens endeds ends journal pool olds news told r = ends_served givens endeds ends journal r.run
+pub ends_count : {W : Type 0} (z : Sizes) (threshold : ℕ) (givens : List (List ℕ)) (endeds : List Bool)
+    (ends : List SessionEnd) (journal : List (List Entry)) (pool : End) (olds news : List W) (told : W → WireTold)
+    → IsServedRun z threshold givens endeds ends journal pool olds news told → length ends ≡ length givens
+ends_count z threshold givens endeds ends journal pool olds news told r = ends_served givens endeds ends journal r.run

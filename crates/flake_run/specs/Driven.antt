@@ -34,7 +34,7 @@ use Rattle.flake_run.specs.declared.outcome.Detail.TheVariants.{Nothing}
 pub record IsDrivenRun {W : Type 0} (z : pool.Sizes) (ring threshold : ℕ) (schedule : List Line) (failed : Bool)
     (givens : List (List ℕ)) (endeds : List Bool) (ends : List SessionEnd) (journal : List (List Entry)) (closed : End)
     (olds news : List W) (told : W → WireTold) (old new : HostTold) : Type 0 where
-  pub run : IsServedRun z givens endeds ends journal closed olds news told
+  pub run : IsServedRun z threshold givens endeds ends journal closed olds news told
   pub lines : List EventLine
   pub transcript : IsTranscript (driven_run z ring threshold (all_commands run.run.sessions) ends journal closed)
       (map told olds) (map told news) schedule lines
@@ -70,10 +70,11 @@ pub record WasDriven {W : Type 0} (sizes : RunSizes) (before after : Outside W) 
   -- where it failed
   pub wires : WiresGrew (wire_texts run.sessions done.journal) (put_on before) (put_on after)
   -- what the closed pool shows by the journal: a buffer is held for each fragment of a final value, as many were
-  -- claimed as the commands may claim at most, and a write without an entry found no free buffer
+  -- claimed as the commands may claim at most, a write without an entry found no free buffer, and each piece of an
+  -- answer that has the threshold's bytes was pinned
   pub pool : End
   pub pool_is : done.pool ≡ Some pool
-  pub shows : IsCounted (pool_sizes (length rest) sizes) run.sessions done.journal pool
+  pub shows : IsCounted (pool_sizes (length rest) sizes) sizes.threshold run.sessions done.journal pool
   pub held : (done.held.small ≡ pool.small) × (done.held.large ≡ pool.large)
   -- and every write has its entry, where the pool has as many buffers of each class as the commands may claim
   pub none_missing : ((class : Class)

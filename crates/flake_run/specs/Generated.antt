@@ -63,7 +63,8 @@ pub record IsGeneratedRun {W : Type 0} (task : GenTask) (givens : List (List ℕ
     (ends : List SessionEnd) (shown : List ℕ) (journal : List (List Entry)) (pool : End) (olds news : List W)
     (told : W → WireTold) : Type 0 where
   pub gave : AreFronts (inputs_of task) givens endeds
-  pub run : IsServedRun (pool_sizes task.sessions (generated_sizes task)) givens endeds ends journal pool olds news told
+  pub run : IsServedRun (pool_sizes task.sessions (generated_sizes task)) (generated_sizes task).threshold givens
+      endeds ends journal pool olds news told
   pub ways : AllByRecursion (λ end. (end.end ≡ Clean) ⊎ (end.end ≡ Memory)) ends
   pub commands : HadMemory ends → all_commands run.run.sessions ≡ commands_in_all task
   pub none_missing : HadMemory ends → missing_writes run.run.sessions journal ≡ 0
@@ -85,7 +86,8 @@ pub record ServedRequests {W : Type 0} (task : GenTask) (before after : Outside 
   -- what the closed pool shows by the journal: it had as many buffers as the commands may claim
   pub pool : End
   pub pool_is : done.pool ≡ Some pool
-  pub shows : IsCounted (pool_sizes task.sessions (generated_sizes task)) run.sessions done.journal pool
+  pub shows : IsCounted (pool_sizes task.sessions (generated_sizes task)) (generated_sizes task).threshold run.sessions
+      done.journal pool
   pub held : (done.held.small ≡ pool.small) × (done.held.large ≡ pool.large)
   -- each session ended clean, but for want of memory
   pub ways : AllByRecursion (λ end. (end.end ≡ Clean) ⊎ (end.end ≡ Memory)) done.ends

@@ -14,7 +14,7 @@ use Rattle.flake_run.specs.Opening.{AreOfFiles}
 use Rattle.serve_inputs.specs.Dumped.{IsDumpTold, dump_texts}
 use Rattle.serve_inputs.specs.Wires.{sent_on_wires}
 use Rattle.flake_run.specs.Dumping.{puts_failed}
-use Rattle.flake_run.specs.Task.{RunTask, dump_of, mtu_of, names_of, pool_of, shards_of}
+use Rattle.flake_run.specs.Task.{RunTask, dump_of, mtu_of, names_of, pool_of, shards_of, threshold_of}
 use Rattle.flake_run.specs.Outside.{Outside, put_on, kept_by, wire_faults}
 use Rattle.flake_run.specs.Outcome.{RunOutcome, ways, files_of, sources_of, givens_of, endeds_of}
 
@@ -32,10 +32,11 @@ pub record Served {W : Type 0} (task : RunTask) (before after : Outside W) (done
   pub wires : WiresGrew (sent_on_wires (mtu_of task) run.sessions done.journal
       ++ dump_texts (all_commands run.sessions) done.journal done.dump) (put_on before) (put_on after)
   -- what the closed pool shows by the journal: a buffer is held for each fragment of a final value, as many were
-  -- claimed as the commands may claim at most, and a write without an entry found no free buffer
+  -- claimed as the commands may claim at most, a write without an entry found no free buffer, and each piece of an
+  -- answer that has the threshold's bytes was pinned
   pub pool : End
   pub pool_is : done.pool ≡ Some pool
-  pub shows : IsCounted (pool_of task) run.sessions done.journal pool
+  pub shows : IsCounted (pool_of task) (threshold_of task) run.sessions done.journal pool
   pub held : (done.held.small ≡ pool.small) × (done.held.large ≡ pool.large)
   -- and every write has its entry, where the pool has as many buffers of each class as the commands may claim
   pub none_missing : ((class : Class) → demand_of class (all_commands run.sessions) ≤ count_of (pool_of task) class)

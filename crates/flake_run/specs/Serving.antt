@@ -14,12 +14,13 @@ use Rattle.flake_run.specs.Dumping.{puts_failed}
 
 -- Sources were served, which gave these bytes: their sessions' parts make the journal, the closed pool is that of their
 -- commands, and each wire was sent its session's replies.
-pub record IsServedRun {W : Type 0} (z : Sizes) (givens : List (List ℕ)) (endeds : List Bool) (ends : List SessionEnd)
-    (journal : List (List Entry)) (pool : End) (olds news : List W) (told : W → WireTold) : Type 0 where
+pub record IsServedRun {W : Type 0} (z : Sizes) (threshold : ℕ) (givens : List (List ℕ)) (endeds : List Bool)
+    (ends : List SessionEnd) (journal : List (List Entry)) (pool : End) (olds news : List W)
+    (told : W → WireTold) : Type 0 where
   pub run : WasServed givens endeds ends journal
   pub wires : WiresGrew (wire_texts run.sessions journal) (map (λ wire. (told wire).put) olds)
       (map (λ wire. (told wire).put) news)
-  pub counted : IsCounted z run.sessions journal pool
+  pub counted : IsCounted z threshold run.sessions journal pool
   pub faults : FaultsAre (map (λ end. end.failed) ends)
       (map (λ wire. faults_told (told wire)) olds) (map (λ wire. faults_told (told wire)) news)
   pub flushed : KeptAre (map (λ end. end.failed) ends)
@@ -28,14 +29,14 @@ pub record IsServedRun {W : Type 0} (z : Sizes) (givens : List (List ℕ)) (ende
 
 -- The same where replies may go as frames and a dump may be asked for, before this call of the first session: what it
 -- was sent went to the wire behind the sessions' wires.
-pub record IsDumpingRun {W : Type 0} (z : Sizes) (givens : List (List ℕ)) (endeds : List Bool) (ends : List SessionEnd)
-    (journal : List (List Entry)) (pool : End) (asked mtu : Option ℕ) (dump : DumpTold) (olds news : List W)
-    (told : W → WireTold) : Type 0 where
+pub record IsDumpingRun {W : Type 0} (z : Sizes) (threshold : ℕ) (givens : List (List ℕ)) (endeds : List Bool)
+    (ends : List SessionEnd) (journal : List (List Entry)) (pool : End) (asked mtu : Option ℕ) (dump : DumpTold)
+    (olds news : List W) (told : W → WireTold) : Type 0 where
   pub run : WasServed givens endeds ends journal
   pub dumped : IsDumpTold asked (all_commands run.sessions) journal dump
   pub wires : WiresGrew (sent_on_wires mtu run.sessions journal ++ dump_texts (all_commands run.sessions) journal dump)
       (map (λ wire. (told wire).put) olds) (map (λ wire. (told wire).put) news)
-  pub counted : IsCounted z run.sessions journal pool
+  pub counted : IsCounted z threshold run.sessions journal pool
   pub faults : FaultsAre (puts_failed ends dump)
       (map (λ wire. faults_told (told wire)) olds) (map (λ wire. faults_told (told wire)) news)
   pub flushed : KeptAre (puts_failed ends dump)

@@ -82,6 +82,10 @@ pool_of task =
     option_map_or (λ (job : Job). pool_sizes (length job.names) job.sizes) task
     (record { small = 0; large = 0; credits = 0 })
 
+-- from how many bytes on a piece of an answer isn't copied
+abbrev pub threshold_of : RunTask → ℕ
+threshold_of task = option_map_or (λ (job : Job). job.sizes.threshold) task 0
+
 abbrev pub shards_of : RunTask → ℕ
 shards_of task = option_map_or (λ (job : Job). job.sizes.shards) task 0
 

@@ -53,7 +53,7 @@ pub fn serve_sources<R: Threads + Wait + Sync, S: Source + Send + Drop, G: Gate>
     requires wires { length sources.items + dump_wires sizes.now.dump ≤ length wires.items }
     requires unread { All (λ s. S.given s ≡ []) sources.items }
     ensures run { IfOk result (λ r. IsDumpingRun (pool_sizes (length sources.items) sizes.now)
-        (map (λ s. S.given s) r.sources.items) (map (λ s. S.ended s) r.sources.items) r.ends.items
+        sizes.now.threshold (map (λ s. S.given s) r.sources.items) (map (λ s. S.ended s) r.sources.items) r.ends.items
         (histories r.journal.items) r.pool sizes.now.dump sizes.now.mtu (dump_told r.dump) wires.items r.wires.items
         (λ w. wire_told w)) }
     ensures names { IfOk result (λ r. map (λ s. S.name s) r.sources.items ≡ map (λ s. S.name s) sources.items) }

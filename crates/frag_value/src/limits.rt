@@ -1,8 +1,5 @@
 //! How long values and fragments are.
 
-/// The most bytes of a value.
-pub const VALUE_LIMIT: usize = 65_536;
-
 /// The most bytes of a fragment.
 pub const FRAG_BYTES: usize = 4096;
 

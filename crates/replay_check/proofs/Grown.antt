@@ -10,7 +10,7 @@ use Rattle.flake_base.specs.declared.journal.Entry.{Entry}
 use Rattle.flake_model.specs.Store.{Answer}
 use Rattle.flake_model.specs.Command.{Command}
 use Rattle.flake_model.specs.Journal.{Step, answer_at, session_steps}
-use Rattle.byte_store.specs.declared.store.PartAnswer.{PartAnswer}
+use Rattle.byte_store.specs.declared.store.ByteAnswer.{ByteAnswer}
 use Rattle.replay_check.specs.Inputs.{AreCommands, contents}
 use Rattle.replay_check.specs.Noted.{slots_meant, answers_by, AreNoted}
 use Rattle.replay_check.specs.Places.{step_place, told, ArePlaced}
@@ -61,8 +61,8 @@ no_answers : (steps : List Step) → map (λ (step : Step). answer_at step.0 [])
 no_answers [] = refl
 no_answers (step ∷ steps) = ap (λ rest. None ∷ rest) (no_answers steps)
 
-pub one_empty : (shards k : ℕ) (sessions : List Session) (session : Session) (slots : List (Vec (Option PartAnswer)))
-    (own : Vec (Option PartAnswer)) (count : ℕ) → slice_get sessions k ≡ Some session → ArePlaced shards sessions
+pub one_empty : (shards k : ℕ) (sessions : List Session) (session : Session) (slots : List (Vec (Option ByteAnswer)))
+    (own : Vec (Option ByteAnswer)) (count : ℕ) → slice_get sessions k ≡ Some session → ArePlaced shards sessions
     → count ≡ length session.places.items → slots_meant own.items ≡ replicate count None
     → AreNoted (told (take k sessions)) [] slots → AreNoted (told (take (k + 1) sessions)) [] (slots ++ own ∷ [])
 one_empty shards k sessions session slots own count is placed counted empty were =
@@ -89,7 +89,7 @@ one_empty shards k sessions session slots own count is placed counted empty were
           let many : count ≡ length parts = counted ∙ ap length (placed k session is)
           ∙ length-map (session_steps k 0 session.commands.items) (step_place shards)
           ∙ ap (λ n. length (session_steps n 0 session.commands.items)) (sym number_is) in
-          ap (λ (v : Vec (Option PartAnswer)). slots_meant v.items) last_slot.1 ∙ empty
+          ap (λ (v : Vec (Option ByteAnswer)). slots_meant v.items) last_slot.1 ∙ empty
           ∙ ap (λ n. replicate n None) many ∙ sym (no_answers parts) ∙ ap (λ c. answers_by [] number c)
           (sym last.1))
           (of_append slots own found number has))

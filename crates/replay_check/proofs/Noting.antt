@@ -15,14 +15,14 @@ use Rattle.flake_model.specs.Journal.{step_of, commands_of}
 use Rattle.flake_model.specs.Order.{IsBefore}
 use Rattle.flake_model.proofs.Entries.{is_itself}
 use Rattle.byte_store.specs.Store.{answer_meant}
-use Rattle.byte_store.specs.declared.store.PartAnswer.{PartAnswer}
+use Rattle.byte_store.specs.declared.store.ByteAnswer.{ByteAnswer}
 use Rattle.replay_check.specs.Inputs.{parts_of}
 use Rattle.replay_check.specs.Noted.{slot_meant, slots_meant, first_answer, noted, answers_by, AreNoted, HasPart}
 use Rattle.replay_check.proofs.Lists.{read_set}
 use Rattle.replay_check.proofs.Rising.{Later, AreRising, rising, not_before, not_behind, all_own, has_part, at_place}
 
 -- a slot that is written, or kept
-set_there : (slots : List (Option PartAnswer)) (k : ℕ) (found : PartAnswer) → k < length slots
+set_there : (slots : List (Option ByteAnswer)) (k : ℕ) (found : ByteAnswer) → k < length slots
     → is_some (get_or slots k None) ≡ false → slots_meant (set slots k (Some found)) ≡ noted k (answer_meant found)
     (slots_meant slots)
 set_there [] k found within is = absurd (omega arith)
@@ -31,7 +31,7 @@ set_there (Some first ∷ slots) zero found within is = absurd (cc (is))
 set_there (slot ∷ slots) (suc k) found within is = ap (λ rest. slot_meant slot ∷ rest)
     (set_there slots k found (omega arith) is)
 
-kept_there : (slots : List (Option PartAnswer)) (k : ℕ) (found : PartAnswer) → k < length slots
+kept_there : (slots : List (Option ByteAnswer)) (k : ℕ) (found : ByteAnswer) → k < length slots
     → is_some (get_or slots k None) ≡ true → slots_meant slots ≡ noted k (answer_meant found) (slots_meant slots)
 kept_there [] k found within is = absurd (omega arith)
 kept_there (None ∷ slots) zero found within is = absurd (cc (is))
@@ -39,17 +39,17 @@ kept_there (Some first ∷ slots) zero found within is = refl
 kept_there (slot ∷ slots) (suc k) found within is = ap (λ rest. slot_meant slot ∷ rest)
     (kept_there slots k found (omega arith) is)
 
-pub noted_set : (slots : List (Option PartAnswer)) (k : ℕ) (found : PartAnswer) (was : Option PartAnswer)
+pub noted_set : (slots : List (Option ByteAnswer)) (k : ℕ) (found : ByteAnswer) (was : Option ByteAnswer)
     → k < length slots → was ≡ get_or slots k was → is_some was ≡ false
     → slots_meant (set slots k (Some found)) ≡ noted k (answer_meant found) (slots_meant slots)
 noted_set slots k found was within at is = set_there slots k found within
-    (ap (λ (o : Option PartAnswer). is_some o) (sym (get_or_read slots k was within at None)) ∙ is)
+    (ap (λ (o : Option ByteAnswer). is_some o) (sym (get_or_read slots k was within at None)) ∙ is)
 
-pub noted_kept : (slots : List (Option PartAnswer)) (k : ℕ) (found : PartAnswer) (was : Option PartAnswer)
+pub noted_kept : (slots : List (Option ByteAnswer)) (k : ℕ) (found : ByteAnswer) (was : Option ByteAnswer)
     → k < length slots → was ≡ get_or slots k was → is_some was ≡ true
     → slots_meant slots ≡ noted k (answer_meant found) (slots_meant slots)
 noted_kept slots k found was within at is = kept_there slots k found within
-    (ap (λ (o : Option PartAnswer). is_some o) (sym (get_or_read slots k was within at None)) ∙ is)
+    (ap (λ (o : Option ByteAnswer). is_some o) (sym (get_or_read slots k was within at None)) ∙ is)
 
 -- the answer at an entry, with one answer more
 at_more : (entry other : Entry) (told : Answer) (answers : List (Entry × Answer)) → is_entry entry other ≡ false
@@ -116,7 +116,7 @@ other_session session (step ∷ steps) entry all other =
 
 -- all answers with one more
 pub one_more : (sessions : List (List Command)) (answers : List (Entry × Answer))
-    (slots : List (Vec (Option PartAnswer))) (old new : Vec (Option PartAnswer)) (entry : Entry) (k : ℕ)
+    (slots : List (Vec (Option ByteAnswer))) (old new : Vec (Option ByteAnswer)) (entry : Entry) (k : ℕ)
     (operation : Operation) (told : Answer)
     → AreNoted sessions answers slots → slice_get slots entry.session ≡ Some old
     → slice_get (parts_of sessions entry.session) k ≡ Some (entry, operation)
@@ -131,7 +131,7 @@ one_more sessions answers slots old new entry k operation told were had step_is 
       let step : slice_get (session_steps entry.session 0 commands) k ≡ Some (entry, operation) =
       subst (λ (found : Option (List Command)). slice_get (session_steps entry.session 0 (unwrap_or found [])) k
       ≡ Some (entry, operation)) commands_there step_is in
-      ap (λ (v : Vec (Option PartAnswer)). slots_meant v.items) here.1 ∙ written
+      ap (λ (v : Vec (Option ByteAnswer)). slots_meant v.items) here.1 ∙ written
       ∙ ap (noted k told) (were.each entry.session commands old commands_there had)
       ∙ sym (one_noted (session_steps entry.session 0 commands) k entry operation told answers
       (rising entry.session 0 commands) step)
@@ -157,7 +157,7 @@ store_more store (first ∷ steps) step = store_more (after store first.1) steps
 
 -- a session has a slot for each of its parts
 pub has_slot : (sessions : List (List Command)) (answers : List (Entry × Answer))
-    (slots : List (Vec (Option PartAnswer))) (session k : ℕ) (commands : List Command) (own : Vec (Option PartAnswer))
+    (slots : List (Vec (Option ByteAnswer))) (session k : ℕ) (commands : List Command) (own : Vec (Option ByteAnswer))
     (step : Step) → AreNoted sessions answers slots
     → slice_get sessions session ≡ Some commands → slice_get slots session ≡ Some own
     → slice_get (session_steps session 0 commands) k ≡ Some step → k < length own.items

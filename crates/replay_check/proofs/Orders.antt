@@ -4,7 +4,7 @@ use Rattle.std.proofs.Common.{[], ◌∷◌, ◌++◌, Some, None, arith, refl, 
 use Rattle.std.proofs.lemmas.Bool.{cases_Bool}
 use Rattle.std.specs.List.{AllByRecursion}
 use Rattle.flake_base.specs.declared.journal.Entry.{Entry}
-use Rattle.flake_model.specs.Store.{Operation, get, set, append, del, exists, str_len, get_range, IsWrite}
+use Rattle.flake_model.specs.Store.{Operation, set, append, IsWrite}
 use Rattle.flake_model.specs.Journal.{Step, is_entry, IsServed, none, next, left_out}
 use Rattle.flake_model.proofs.Entries.{entry_is, is_itself}
 use Rattle.replay_check.specs.Writes.{writes}
@@ -12,22 +12,14 @@ use Rattle.replay_check.specs.InOrder.{behind, steps_behind, AreWrites, IsNext}
 use Rattle.replay_check.proofs.Rising.{Later, AreRising, not_before}
 
 pub is_write : (operation : Operation) → writes operation ≡ true → IsWrite operation
-is_write (get key) is = absurd (cc (is))
 is_write (set when asks key bytes) is = tt
 is_write (append key bytes) is = tt
-is_write (del key) is = absurd (cc (is))
-is_write (exists key) is = absurd (cc (is))
-is_write (str_len key) is = absurd (cc (is))
-is_write (get_range key first last) is = absurd (cc (is))
+is_write operation is = absurd (cc (is))
 
 pub no_write : (operation : Operation) → writes operation ≡ false → IsWrite operation → ⊥
-no_write (get key) is write = write
 no_write (set when asks key bytes) is write = absurd (cc (is))
 no_write (append key bytes) is write = absurd (cc (is))
-no_write (del key) is write = write
-no_write (exists key) is write = write
-no_write (str_len key) is write = write
-no_write (get_range key first last) is write = write
+no_write operation is write = write
 
 -- the parts behind an entry's, by whether the first is the entry's
 pub behind_here : (entry : Entry) (step : Step) (steps : List Step) → is_entry step.0 entry ≡ true

@@ -10,7 +10,7 @@ use Rattle.flake_model.specs.Command.{Command, parts}
 use Rattle.flake_model.specs.Journal.{Step, operation_at, step_of, answers_from, answers_of, store_after, commands_of}
 use Rattle.byte_store.specs.Store.{HoldsStore}
 use Rattle.byte_store.specs.Table.{TableEntries}
-use Rattle.byte_store.specs.declared.store.PartAnswer.{PartAnswer}
+use Rattle.byte_store.specs.declared.store.ByteAnswer.{ByteAnswer}
 use Rattle.std.specs.Global.{Vec}
 use Rattle.replay_check.specs.InOrder.{AreWrites, IsNext, left_behind, IsInOrder, AreInOrder, IsFirstFault}
 use Rattle.replay_check.specs.Faults.{IsFaultIn, IsFaultOf}
@@ -82,7 +82,7 @@ module _ (sessions : List (List Command)) (history : List Entry) (place : ℕ) (
       ∙ store_more finite.empty (flat_map (step_of sessions) (take place history)) (entry, operation))) held
 
   -- the answers with its own
-  pub noted_more : (before : List (Entry × Answer)) (told : Answer) (slots : List (Vec (Option PartAnswer)))
+  pub noted_more : (before : List (Entry × Answer)) (told : Answer) (slots : List (Vec (Option ByteAnswer)))
       → told ≡ answer (store_after finite.empty (flat_map (step_of sessions) (take place history))) operation
       → AreNoted sessions ((before ++ answers_from finite.empty (flat_map (step_of sessions) (take place history)))
       ++ (entry, told) ∷ []) slots

@@ -8,7 +8,7 @@ use Rattle.flake_model.specs.Store.{Operation, Answer}
 use Rattle.flake_model.specs.Command.{Command, parts}
 use Rattle.flake_model.specs.Reply.{Reply, reply_of, reply_text}
 use Rattle.flake_model.specs.Journal.{Step, answer_at, call_steps, session_steps, replies_from}
-use Rattle.byte_store.specs.declared.store.PartAnswer.{PartAnswer}
+use Rattle.byte_store.specs.declared.store.ByteAnswer.{ByteAnswer}
 use Rattle.replay_check.specs.Noted.{slot_meant, slots_meant, answers_by}
 
 pub parts_count : (session call part : ℕ) (operations : List Operation)
@@ -29,7 +29,7 @@ steps_count session call (command ∷ commands) =
     )
 
 -- the answers to a call, and those to the calls behind it
-cut_at : (slots : List (Option PartAnswer)) (f : Step → Option Answer) (here rest : List Step) → slots_meant slots
+cut_at : (slots : List (Option ByteAnswer)) (f : Step → Option Answer) (here rest : List Step) → slots_meant slots
     ≡ map f (here ++ rest)
     → (slots_meant (take (length here) slots) ≡ map f here) × (slots_meant (drop (length here) slots) ≡ map f rest)
 cut_at [] f [] rest is = (refl, is)
@@ -43,7 +43,7 @@ cut_at (slot ∷ slots) f (step ∷ here) rest is =
 
 -- the next call
 pub one_call : (found : List (Entry × Answer)) (session k count : ℕ) (command : Command) (commands : List Command)
-    (rest : List (Option PartAnswer)) → count ≡ length (parts command)
+    (rest : List (Option ByteAnswer)) → count ≡ length (parts command)
     → slots_meant rest ≡ map (λ step. answer_at step.0 found) (session_steps session k (command ∷ commands))
     → (slots_meant (take count rest) ≡ map (λ step. answer_at step.0 found) (call_steps session k 0 (parts command)))
     × (slots_meant (drop count rest) ≡ map (λ step. answer_at step.0 found) (session_steps session (k + 1) commands))
@@ -55,7 +55,7 @@ one_call found session k count command commands rest count_is is =
 
 -- its text behind those before it
 pub one_text : (found : List (Entry × Answer)) (session k : ℕ) (command : Command) (commands : List Command)
-    (own : List (Option PartAnswer)) (old new whole : List ℕ) (reply : Reply)
+    (own : List (Option ByteAnswer)) (old new whole : List ℕ) (reply : Reply)
     → slots_meant own ≡ map (λ step. answer_at step.0 found) (call_steps session k 0 (parts command))
     → reply ≡ reply_of command (slots_meant own) → new ≡ old ++ reply_text reply
     → whole ≡ old ++ flat_map reply_text (replies_from found session k (command ∷ commands))
@@ -71,7 +71,7 @@ one_text found session k command commands own old new whole reply answered said 
 
 -- as many answers as parts
 pub fits_parts : (found : List (Entry × Answer)) (session : ℕ) (commands : List Command)
-    (slots : List (Option PartAnswer)) → slots_meant slots ≡ answers_by found session commands
+    (slots : List (Option ByteAnswer)) → slots_meant slots ≡ answers_by found session commands
     → length slots ≡ length (flat_map parts commands)
 fits_parts found session commands slots is =
     omega (

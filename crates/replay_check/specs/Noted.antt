@@ -8,14 +8,14 @@ use Rattle.flake_model.specs.Command.{Command, parts}
 use Rattle.flake_model.specs.Reply.{reply_text}
 use Rattle.flake_model.specs.Journal.{answer_at, session_steps, replies_from}
 use Rattle.byte_store.specs.Store.{answer_meant}
-use Rattle.byte_store.specs.declared.store.PartAnswer.{PartAnswer}
+use Rattle.byte_store.specs.declared.store.ByteAnswer.{ByteAnswer}
 
 -- the answer to a part, if it has an entry
-abbrev pub slot_meant : Option PartAnswer → Option Answer
+abbrev pub slot_meant : Option ByteAnswer → Option Answer
 slot_meant None = None
 slot_meant (Some answer) = Some (answer_meant answer)
 
-abbrev pub slots_meant : List (Option PartAnswer) → List (Option Answer)
+abbrev pub slots_meant : List (Option ByteAnswer) → List (Option Answer)
 slots_meant slots = map slot_meant slots
 
 -- the first answer stands
@@ -35,9 +35,9 @@ answers_by answers session commands = map (λ step. answer_at step.0 answers) (s
 
 -- each session has the answers to its parts
 pub record AreNoted (sessions : List (List Command)) (answers : List (Entry × Answer))
-    (slots : List (Vec (Option PartAnswer))) : Type 0 where
+    (slots : List (Vec (Option ByteAnswer))) : Type 0 where
   pub count : length slots ≡ length sessions
-  pub each : (session : ℕ) (commands : List Command) (own : Vec (Option PartAnswer))
+  pub each : (session : ℕ) (commands : List Command) (own : Vec (Option ByteAnswer))
       → slice_get sessions session ≡ Some commands → slice_get slots session ≡ Some own
       → slots_meant own.items ≡ answers_by answers session commands
 

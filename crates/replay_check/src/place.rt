@@ -31,8 +31,7 @@ fn is_write(op: PartOp) -> bool
         | PartOp::SetNxGet
         | PartOp::SetXxGet
         | PartOp::Append => true,
-        PartOp::Get | PartOp::Del | PartOp::Exists | PartOp::StrLen | PartOp::GetRange { .. } =>
-            false,
+        _ => false,
     }
 }
 

@@ -16,7 +16,7 @@ use crate::AnswerError;
 use crate::order::{ends_in_order, starts, take_part};
 use crate::session::Session;
 use crate::slots::{Slots, note};
-use byte_store::{PartAnswer, Store};
+use byte_store::{ByteAnswer, ByteStore};
 use flake_base::{Entry, Journal, Memory};
 use std::alloc::Global;
 
@@ -24,9 +24,9 @@ use std::alloc::Global;
 fn do_part(
     alloc: Global,
     session: &Session,
-    store: &mut Store,
+    store: &mut ByteStore,
     entry: Entry,
-) -> Result<PartAnswer, Memory>
+) -> Result<ByteAnswer, Memory>
     requires { (operation : Operation) × HasPart session.now.commands.items entry operation }
     ensures answer { (meaning : Meaning) (operation : Operation) → HoldsStore store.old meaning
         → HasPart session.now.commands.items entry operation
@@ -59,7 +59,7 @@ fn replay_shard(
     ensures fault { (shards : ℕ) → ArePlaced shards sessions.now
         → IfErr result (IsFaultIn (told sessions.now) shards shard history.now) }
 {
-    let mut store = Store::new(alloc);
+    let mut store = ByteStore::new(alloc);
     let mut cursors = starts(alloc, sessions)?;
     for (place, entry) in history.iter().enumerate() {
         let Some(part) = take_part(sessions, &mut cursors, shard, *entry) else {

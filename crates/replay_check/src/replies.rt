@@ -13,30 +13,30 @@ ghost use Rattle.replay_check.specs.Noted.{slot_meant, slots_meant, answers_by, 
 
 use crate::session::Session;
 use crate::slots::Slots;
-use byte_store::PartAnswer;
+use byte_store::ByteAnswer;
 use command_parts::{Command, Op};
 use flake_base::{Bytes, ErrorKind, Memory, Texts};
 use resp_text::{Items, Reply, put_text};
 use std::alloc::Global;
 
 // The reply that one part's answer makes; a part without one found no buffer.
-fn answer_reply(alloc: Global, answer: &Option<PartAnswer>) -> Result<Reply, Memory>
+fn answer_reply(alloc: Global, answer: &Option<ByteAnswer>) -> Result<Reply, Memory>
     ensures { IfOk result (λ reply. meaning reply ≡ reply_to (slot_meant answer.now)) }
 {
     let reply = match answer {
-        Some(PartAnswer::Bulk(bytes)) => Reply::Bulk(Bytes::from_slice(alloc, bytes.as_slice())?),
-        Some(PartAnswer::Null) => Reply::Null,
-        Some(PartAnswer::Done) => Reply::Ok,
-        Some(PartAnswer::Length(length)) => Reply::Int(*length),
-        Some(PartAnswer::Did(happened)) => Reply::Int(u64::from(*happened)),
-        Some(PartAnswer::TooLong) => Reply::Error(ErrorKind::ValueTooLong),
+        Some(ByteAnswer::Bulk(bytes)) => Reply::Bulk(Bytes::from_slice(alloc, bytes.as_slice())?),
+        Some(ByteAnswer::Null) => Reply::Null,
+        Some(ByteAnswer::Done) => Reply::Ok,
+        Some(ByteAnswer::Length(length)) => Reply::Int(*length),
+        Some(ByteAnswer::Did(happened)) => Reply::Int(u64::from(*happened)),
+        Some(ByteAnswer::TooLong) => Reply::Error(ErrorKind::ValueTooLong),
         None => Reply::Error(ErrorKind::NoBuffer),
     };
     Ok(reply)
 }
 
 // The reply that the only part's answer makes.
-fn only_reply(alloc: Global, answers: &[Option<PartAnswer>]) -> Result<Reply, Memory>
+fn only_reply(alloc: Global, answers: &[Option<ByteAnswer>]) -> Result<Reply, Memory>
     ensures { IfOk result (λ reply. meaning reply ≡ reply_to (only (slots_meant answers.now))) }
 {
     match answers {
@@ -46,17 +46,17 @@ fn only_reply(alloc: Global, answers: &[Option<PartAnswer>]) -> Result<Reply, Me
 }
 
 // A copy of a value that was found.
-fn item(alloc: Global, answer: &Option<PartAnswer>) -> Result<Option<Bytes>, Memory>
+fn item(alloc: Global, answer: &Option<ByteAnswer>) -> Result<Option<Bytes>, Memory>
     ensures { IfOk result (λ item. item_meaning item ≡ item_of (slot_meant answer.now)) }
 {
     match answer {
-        Some(PartAnswer::Bulk(bytes)) => Ok(Some(Bytes::from_slice(alloc, bytes.as_slice())?)),
+        Some(ByteAnswer::Bulk(bytes)) => Ok(Some(Bytes::from_slice(alloc, bytes.as_slice())?)),
         _ => Ok(None),
     }
 }
 
 // Copies of the values that were found.
-fn items(alloc: Global, answers: &[Option<PartAnswer>]) -> Result<Items, Memory>
+fn items(alloc: Global, answers: &[Option<ByteAnswer>]) -> Result<Items, Memory>
     ensures { IfOk result (λ items. map item_meaning items.items ≡ map item_of (slots_meant answers.now)) }
 {
     let mut items = Items::with_room(alloc, answers.len())?;
@@ -67,30 +67,30 @@ fn items(alloc: Global, answers: &[Option<PartAnswer>]) -> Result<Items, Memory>
 }
 
 // Whether the key was there.
-fn is_yes(answer: &Option<PartAnswer>) -> bool
+fn is_yes(answer: &Option<ByteAnswer>) -> bool
     ensures { result ≡ yes (slot_meant answer.now) }
 {
     match answer {
-        Some(PartAnswer::Did(happened)) => *happened,
+        Some(ByteAnswer::Did(happened)) => *happened,
         _ => false,
     }
 }
 
 // How many keys were there.
-fn yes_count(answers: &[Option<PartAnswer>]) -> usize
+fn yes_count(answers: &[Option<ByteAnswer>]) -> usize
     ensures { result ≡ count_by (λ answer. yes (slot_meant answer)) answers.now }
 {
     answers.iter().filter(|answer| is_yes(*answer)).count()
 }
 
 // The reply to a command, by the answers to its parts.
-fn reply(alloc: Global, command: &Command, answers: &[Option<PartAnswer>]) -> Result<Reply, Memory>
+fn reply(alloc: Global, command: &Command, answers: &[Option<ByteAnswer>]) -> Result<Reply, Memory>
     ensures { IfOk result (λ reply. meaning reply ≡ reply_of command.now (slots_meant answers.now)) }
 {
     match command.op() {
         Op::Ping => Ok(Reply::Pong),
         Op::PingWith => Ok(Reply::Bulk(Bytes::from_slice(alloc, command.argument())?)),
-        Op::Get | Op::Set | Op::Append | Op::StrLen | Op::GetRange => only_reply(alloc, answers),
+        Op::One(_) => only_reply(alloc, answers),
         Op::MGet => Ok(Reply::Array(items(alloc, answers)?)),
         Op::Del | Op::Exists => Ok(Reply::Int(yes_count(answers) as u64)),
         Op::Fault(kind) => Ok(Reply::Error(kind)),
@@ -101,7 +101,7 @@ fn reply(alloc: Global, command: &Command, answers: &[Option<PartAnswer>]) -> Re
 fn session_text(
     alloc: Global,
     commands: &[Command],
-    answers: &[Option<PartAnswer>],
+    answers: &[Option<ByteAnswer>],
 ) -> Result<Bytes, Memory>
     requires { length answers.now ≡ length (flat_map parts commands.now) }
     ensures { (found : List (ModelEntry × Answer)) (session : ℕ)

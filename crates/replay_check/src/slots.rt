@@ -5,12 +5,12 @@ ghost use Rattle.replay_check.specs.Noted.{slots_meant, noted, AreNoted};
 ghost use Rattle.replay_check.specs.Places.{told, ArePlaced};
 
 use crate::session::Session;
-use byte_store::PartAnswer;
+use byte_store::ByteAnswer;
 use flake_base::Memory;
 use std::alloc::Global;
 
 /// The answers to a session's parts, in order; a part without an entry has none.
-pub type Slots = Vec<Option<PartAnswer>>;
+pub type Slots = Vec<Option<ByteAnswer>>;
 
 // So many parts without an answer.
 fn no_answers(alloc: Global, count: usize) -> Result<Slots, Memory>
@@ -36,7 +36,7 @@ pub fn all_slots(alloc: Global, sessions: &[Session], shards: u16) -> Result<Vec
 }
 
 /// Notes the answer to a part, where it has none.
-pub fn note(slots: &mut Slots, place: usize, answer: PartAnswer)
+pub fn note(slots: &mut Slots, place: usize, answer: ByteAnswer)
     requires { place < vec_len slots.old }
     ensures { slots_meant slots.new.items ≡ noted place (answer_meant answer) (slots_meant slots.old.items) }
 {

@@ -21,6 +21,5 @@ pub mod Sealed
 pub mod GivenUp
 pub mod Unboxed
 pub mod UsedFirst
-pub mod Lent
 pub mod Grown
 pub mod Gathered

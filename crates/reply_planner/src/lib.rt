@@ -15,8 +15,6 @@ mod sealing;
 mod stage;
 mod taking;
 mod terms;
-#[cfg(test)]
-mod tests;
 
 pub use error::OpenError;
 pub use parcel::Parcel;

@@ -6,8 +6,8 @@ use Rattle.std.specs.List.{AllByRecursion}
 use Rattle.request_gen.specs.Draws.{drawn, next_state}
 use Rattle.request_gen.specs.Requests.{Made, IsRequest, made, picked, of_operation, own_set, shared_set, requests_from}
 use Rattle.request_gen.specs.declared.request.Key.TheVariants.{Shared, Own}
-use Rattle.request_gen.specs.declared.request.Request.{Request}
-use Rattle.request_gen.specs.declared.request.Request.TheVariants.{Get, GetFour, Set, Append, Del}
+use Rattle.request_gen.specs.declared.request.DrawnRequest.{DrawnRequest}
+use Rattle.request_gen.specs.declared.request.DrawnRequest.TheVariants.{Get, GetFour, Set, Append, Del}
 
 either : (b : Bool) (x y : Made) → IsRequest x.request → IsRequest y.request → IsRequest (cond b x y).request
 either true x y hx hy = hx
@@ -21,7 +21,7 @@ own_allowed n state below = (below, omega arith)
 
 operation_allowed : (op n state : ℕ) → n < 16 → IsRequest (of_operation op n state).request
 operation_allowed op n state below =
-    let plain : Request → Made = λ request. record { request = request; state = state } in
+    let plain : DrawnRequest → Made = λ request. record { request = request; state = state } in
     let from_5 : Made = cond (nat_eq op 5) (plain (Append n)) (plain (Del n)) in
     let from_4 : Made = cond (nat_eq op 4) (own_set n state) from_5 in
     let from_3 : Made = cond (nat_eq op 3) (plain (shared_set n)) from_4 in

@@ -16,8 +16,8 @@ use Rattle.request_gen.specs.Words.{key_text, value_of, generated_words, next_nu
 use Rattle.request_gen.specs.Words.{all_words}
 use Rattle.request_gen.specs.declared.request.Key.{Key}
 use Rattle.request_gen.specs.declared.request.Key.TheVariants.{Shared, Own}
-use Rattle.request_gen.specs.declared.request.Request.{Request}
-use Rattle.request_gen.specs.declared.request.Request.TheVariants.{Get, GetFour, Set, Append, Del}
+use Rattle.request_gen.specs.declared.request.DrawnRequest.{DrawnRequest}
+use Rattle.request_gen.specs.declared.request.DrawnRequest.TheVariants.{Get, GetFour, Set, Append, Del}
 use Rattle.request_gen.proofs.Allowed.{all_allowed}
 use Rattle.request_gen.proofs.Meant.{key_fits}
 
@@ -81,7 +81,7 @@ four_are_short name a b c d short fa fb fc fd =
 value_fits : (session : ℕ) (key : Key) (len : ℕ) → len ≤ 9050 → length (value_of session key len) ≤ 9050
 value_fits session key len few = omega (arith, length-replicate len (letter_of session key))
 
-request_is_short : (session : ℕ) (request : Request) → session < 16 → IsRequest request
+request_is_short : (session : ℕ) (request : DrawnRequest) → session < 16 → IsRequest request
     → AreShort (generated_words session request) 9089
 request_is_short session (Get key) small is =
     widened (generated_words session (Get key)) 30 9089 (omega arith)
@@ -117,7 +117,7 @@ request_fits words are =
           (42 ∷ decimal (length words)) crlf,
     )
 
-input_fits : (session : ℕ) (requests : List Request) → session < 16 → AllByRecursion IsRequest requests
+input_fits : (session : ℕ) (requests : List DrawnRequest) → session < 16 → AllByRecursion IsRequest requests
     → length (requests_text (map (generated_words session) requests)) ≤ 9100 * length requests
 input_fits session [] small all = omega arith
 input_fits session (request ∷ requests) small all =
@@ -129,7 +129,7 @@ input_fits session (request ∷ requests) small all =
       length-append (element_text (array words)) (requests_text (map (generated_words session) requests)),
     )
 
-all_elements : (session : ℕ) (requests : List Request) → session < 16 → AllByRecursion IsRequest requests
+all_elements : (session : ℕ) (requests : List DrawnRequest) → session < 16 → AllByRecursion IsRequest requests
     → AllElements (map array (map (generated_words session) requests))
 all_elements session [] small all = tt
 all_elements session (request ∷ requests) small all =
@@ -137,7 +137,7 @@ all_elements session (request ∷ requests) small all =
     ((omega (arith, are.few), are.allowed), all_elements session requests small all.1)
 
 -- no request is empty
-none_skipped : (session : ℕ) (requests : List Request) → map (generated_words session) requests
+none_skipped : (session : ℕ) (requests : List DrawnRequest) → map (generated_words session) requests
     ≡ requests_of (map array (map (generated_words session) requests))
 none_skipped session [] = refl
 none_skipped session (Get key ∷ requests) = ap (λ more. generated_words session (Get key) ∷ more)

@@ -12,8 +12,8 @@ use Rattle.request_gen.specs.Words.{key_text, value_of, generated_words, next_nu
 use Rattle.request_gen.specs.Commands.{command_for}
 use Rattle.request_gen.specs.declared.request.Key.{Key}
 use Rattle.request_gen.specs.declared.request.Key.TheVariants.{Shared, Own}
-use Rattle.request_gen.specs.declared.request.Request.{Request}
-use Rattle.request_gen.specs.declared.request.Request.TheVariants.{Get, GetFour, Set, Append, Del}
+use Rattle.request_gen.specs.declared.request.DrawnRequest.{DrawnRequest}
+use Rattle.request_gen.specs.declared.request.DrawnRequest.TheVariants.{Get, GetFour, Set, Append, Del}
 
 -- numbers below 16 have at most two digits
 two_digits : (n : ℕ) → n < 16 → length (decimal n) ≤ 2
@@ -62,7 +62,7 @@ mget_is : (a b c d : List ℕ) → nat_le (length a) 512 ≡ true → nat_le (le
     → command_of (codes "MGET" ∷ a ∷ b ∷ c ∷ d ∷ []) ≡ mget (a ∷ b ∷ c ∷ d ∷ [])
 mget_is a b c d sa sb sc sd = rw (sa, sb, sc, sd) refl
 
-pub is_meant : (session : ℕ) (request : Request) → session < 16 → IsRequest request
+pub is_meant : (session : ℕ) (request : DrawnRequest) → session < 16 → IsRequest request
     → command_of (generated_words session request) ≡ command_for session request
 is_meant session (Get key) small is = get_is (key_text session key) (key_is_short session key small is)
 is_meant session (GetFour n) small below =

@@ -5,10 +5,10 @@ use Rattle.flake_model.specs.Store.{always}
 use Rattle.request_gen.specs.Requests.{generated_requests}
 use Rattle.request_gen.specs.Words.{key_text, next_number, value_of}
 use Rattle.request_gen.specs.declared.request.Key.TheVariants.{Shared, Own}
-use Rattle.request_gen.specs.declared.request.Request.{Request}
-use Rattle.request_gen.specs.declared.request.Request.TheVariants.{Get, GetFour, Set, Append, Del}
+use Rattle.request_gen.specs.declared.request.DrawnRequest.{DrawnRequest}
+use Rattle.request_gen.specs.declared.request.DrawnRequest.TheVariants.{Get, GetFour, Set, Append, Del}
 
-abbrev pub command_for : ℕ → Request → Command
+abbrev pub command_for : ℕ → DrawnRequest → Command
 command_for session (Get key) = get (key_text session key)
 command_for session (GetFour n) = mget (key_text session (Shared n) ∷ key_text session (Own n)
     ∷ key_text session (Shared (next_number n)) ∷ key_text session (Own (next_number n)) ∷ [])

@@ -4,16 +4,16 @@ use Rattle.std.specs.Prelude.{◌==◌, nat_lt, if◌then◌else◌}
 use Rattle.request_gen.specs.Draws.{drawn, first_state, next_state}
 use Rattle.request_gen.specs.declared.request.Key.{Key}
 use Rattle.request_gen.specs.declared.request.Key.TheVariants.{Shared, Own}
-use Rattle.request_gen.specs.declared.request.Request.{Request}
-use Rattle.request_gen.specs.declared.request.Request.TheVariants.{Get, GetFour, Set, Append, Del}
+use Rattle.request_gen.specs.declared.request.DrawnRequest.{DrawnRequest}
+use Rattle.request_gen.specs.declared.request.DrawnRequest.TheVariants.{Get, GetFour, Set, Append, Del}
 
 -- a request, and the state that it leaves
 pub record Made : Type 0 where
-  pub request : Request
+  pub request : DrawnRequest
   pub state : ℕ
 
 -- the values of a shared key all have one length
-abbrev pub shared_set : ℕ → Request
+abbrev pub shared_set : ℕ → DrawnRequest
 shared_set n = Set (Shared n) (100 + 593 * n)
 
 -- an own key is set to so many bytes as one more draw says
@@ -29,7 +29,7 @@ of_operation op n state =
     if op == 3 then plain (shared_set n) else
     if op == 4 then own_set n state else
     if op == 5 then plain (Append n) else plain (Del n) where
-      plain : Request → Made
+      plain : DrawnRequest → Made
       plain request = record { request = request; state = state }
 
 -- two draws pick the operation and the key
@@ -45,12 +45,12 @@ made r state =
     picked state
 
 -- so many requests, from request r on
-abbrev pub requests_from : ℕ → ℕ → ℕ → List Request
+abbrev pub requests_from : ℕ → ℕ → ℕ → List DrawnRequest
 requests_from zero r state = []
 requests_from (suc more) r state = (made r state).request ∷ requests_from more (r + 1) (made r state).state
 
 -- the first requests of a session
-abbrev pub generated_requests : ℕ → ℕ → ℕ → List Request
+abbrev pub generated_requests : ℕ → ℕ → ℕ → List DrawnRequest
 generated_requests number session count = requests_from count 0 (first_state number session)
 
 -- requests that sessions make
@@ -58,7 +58,7 @@ abbrev pub IsKey : Key → Type 0
 IsKey (Shared n) = n < 16
 IsKey (Own n) = n < 16
 
-abbrev pub IsRequest : Request → Type 0
+abbrev pub IsRequest : DrawnRequest → Type 0
 IsRequest (Get key) = IsKey key
 IsRequest (GetFour n) = n < 16
 IsRequest (Set key len) = IsKey key × (len ≤ 9050)

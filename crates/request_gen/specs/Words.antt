@@ -5,8 +5,8 @@ use Rattle.flake_model.specs.Resp.{Words, array, stream}
 use Rattle.request_gen.specs.Requests.{generated_requests}
 use Rattle.request_gen.specs.declared.request.Key.{Key}
 use Rattle.request_gen.specs.declared.request.Key.TheVariants.{Shared, Own}
-use Rattle.request_gen.specs.declared.request.Request.{Request}
-use Rattle.request_gen.specs.declared.request.Request.TheVariants.{Get, GetFour, Set, Append, Del}
+use Rattle.request_gen.specs.declared.request.DrawnRequest.{DrawnRequest}
+use Rattle.request_gen.specs.declared.request.DrawnRequest.TheVariants.{Get, GetFour, Set, Append, Del}
 
 -- `s` and the number of a shared key; `p`, the session, `x` and the number of an own one
 abbrev pub key_text : ℕ → Key → List ℕ
@@ -24,7 +24,7 @@ value_of session key len = replicate len (letter_of session key)
 abbrev pub next_number : ℕ → ℕ
 next_number n = (n + 1) % 16
 
-abbrev pub generated_words : ℕ → Request → Words
+abbrev pub generated_words : ℕ → DrawnRequest → Words
 generated_words session (Get key) = codes "GET" ∷ key_text session key ∷ []
 generated_words session (GetFour n) = codes "MGET" ∷ key_text session (Shared n) ∷ key_text session (Own n)
     ∷ key_text session (Shared (next_number n)) ∷ key_text session (Own (next_number n)) ∷ []

@@ -9,7 +9,7 @@ ghost use Rattle.request_gen.specs.Draws.{draws_from};
 ghost use Rattle.request_gen.specs.Requests.{IsRequest, requests_from};
 ghost use Rattle.request_gen.specs.Words.{all_words, requests_text, generated_words};
 ghost use Rattle.request_gen.specs.declared.request.Key.{Key};
-ghost use Rattle.request_gen.specs.declared.request.Request.{Request};
+ghost use Rattle.request_gen.specs.declared.request.DrawnRequest.{DrawnRequest};
 
 /// The first five states from 0, and what each draw gives.
 pub fn worked_draws()
@@ -19,7 +19,7 @@ pub fn worked_draws()
 
 /// The first requests from 0 that are picked: a GET of shared key 0, and a SET of own key 9.
 pub fn worked_requests()
-    ensures { requests_from 2 32 0 ≡ Request.Get (Key.Shared 0) ∷ Request.Set (Key.Own 9) 7168 ∷ [] }
+    ensures { requests_from 2 32 0 ≡ DrawnRequest.Get (Key.Shared 0) ∷ DrawnRequest.Set (Key.Own 9) 7168 ∷ [] }
 {}
 
 /// Any number of requests from any state are ones that sessions make.
@@ -35,6 +35,6 @@ pub fn generated_input_is_clean()
 
 /// Each is the command that it is meant to be, which passes all tests.
 pub fn no_request_is_refused()
-    ensures { (session : ℕ) (request : Request) → session < 16 → IsRequest request
+    ensures { (session : ℕ) (request : DrawnRequest) → session < 16 → IsRequest request
         → command_of (generated_words session request) ≡ command_for session request }
 {}

@@ -9,4 +9,4 @@ mod words;
 
 pub use draws::Draws;
 pub use input::session_input;
-pub use request::{Key, Request, next_request};
+pub use request::{DrawnRequest, Key, next_request};

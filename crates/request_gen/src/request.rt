@@ -12,7 +12,7 @@ pub enum Key {
 
 /// What a session asks for.
 #[derive(Clone, Copy, Debug, PartialEq, Eq)]
-pub enum Request {
+pub enum DrawnRequest {
     Get(Key),
     /// The shared key and the own one of this number, and both of the next.
     GetFour(u16),
@@ -25,7 +25,7 @@ pub enum Request {
 }
 
 /// The request of this number, from 0, of a session whose numbers these are.
-pub fn next_request(draws: &mut Draws, r: u32) -> Request
+pub fn next_request(draws: &mut Draws, r: u32) -> DrawnRequest
     ensures request { result ≡ (made r draws.old).request }
     ensures state { draws.new ≡ (made r draws.old).state }
     ensures allowed { IsRequest result }
@@ -34,22 +34,22 @@ pub fn next_request(draws: &mut Draws, r: u32) -> Request
         0..16 => shared_set(r as u16),
         16..32 => {
             let n = (r - 16) as u16;
-            Request::Set(Key::Own(n), 50 + 600 * n)
+            DrawnRequest::Set(Key::Own(n), 50 + 600 * n)
         }
         _ => picked(draws),
     }
 }
 
 // The values of a shared key all have one length.
-fn shared_set(n: u16) -> Request
+fn shared_set(n: u16) -> DrawnRequest
     requires { n < 16 }
     ensures { result ≡ shared_set n }
 {
-    Request::Set(Key::Shared(n), 100 + 593 * n)
+    DrawnRequest::Set(Key::Shared(n), 100 + 593 * n)
 }
 
 // A request by two draws, and a third one where a length is wanted.
-fn picked(draws: &mut Draws) -> Request
+fn picked(draws: &mut Draws) -> DrawnRequest
     ensures request { result ≡ (picked draws.old).request }
     ensures state { draws.new ≡ (picked draws.old).state }
     ensures allowed { IsRequest result }
@@ -57,12 +57,12 @@ fn picked(draws: &mut Draws) -> Request
     let op = draws.draw() % 7;
     let n = draws.draw() % 16;
     match op {
-        0 => Request::Get(Key::Shared(n)),
-        1 => Request::Get(Key::Own(n)),
-        2 => Request::GetFour(n),
+        0 => DrawnRequest::Get(Key::Shared(n)),
+        1 => DrawnRequest::Get(Key::Own(n)),
+        2 => DrawnRequest::GetFour(n),
         3 => shared_set(n),
-        4 => Request::Set(Key::Own(n), draws.draw() % 9001),
-        5 => Request::Append(n),
-        _ => Request::Del(n),
+        4 => DrawnRequest::Set(Key::Own(n), draws.draw() % 9001),
+        5 => DrawnRequest::Append(n),
+        _ => DrawnRequest::Del(n),
     }
 }

@@ -4,23 +4,23 @@ ghost use Rattle.resp_text.specs.Meaning.{item_meaning};
 ghost use Rattle.request_gen.specs.Requests.{IsKey, IsRequest};
 ghost use Rattle.request_gen.specs.Words.{key_text, letter_of, value_of, generated_words};
 
-use crate::request::{Key, Request};
+use crate::request::{DrawnRequest, Key};
 use flake_base::{Bytes, Memory};
 use resp_text::Items;
 use std::alloc::Global;
 
 /// The words of a session's request.
-pub(crate) fn words(alloc: Global, session: u16, request: Request) -> Result<Items, Memory>
+pub(crate) fn words(alloc: Global, session: u16, request: DrawnRequest) -> Result<Items, Memory>
     requires session { session < 16 }
     requires request { IsRequest request }
     ensures { IfOk result (λ words. map item_meaning words.items ≡ map Some (generated_words session request)) }
 {
     match request {
-        Request::Get(key) => key_words(alloc, b"GET", session, key),
-        Request::GetFour(n) => four_keys(alloc, session, n),
-        Request::Set(key, len) => value_words(alloc, b"SET", session, key, len),
-        Request::Append(n) => value_words(alloc, b"APPEND", session, Key::Own(n), 100),
-        Request::Del(n) => key_words(alloc, b"DEL", session, Key::Own(n)),
+        DrawnRequest::Get(key) => key_words(alloc, b"GET", session, key),
+        DrawnRequest::GetFour(n) => four_keys(alloc, session, n),
+        DrawnRequest::Set(key, len) => value_words(alloc, b"SET", session, key, len),
+        DrawnRequest::Append(n) => value_words(alloc, b"APPEND", session, Key::Own(n), 100),
+        DrawnRequest::Del(n) => key_words(alloc, b"DEL", session, Key::Own(n)),
     }
 }
 
@@ -54,7 +54,7 @@ fn value_words(
 fn four_keys(alloc: Global, session: u16, n: u16) -> Result<Items, Memory>
     requires { n < 16 }
     ensures { IfOk result
-        (λ words. map item_meaning words.items ≡ map Some (generated_words session (Request.GetFour n))) }
+        (λ words. map item_meaning words.items ≡ map Some (generated_words session (DrawnRequest.GetFour n))) }
 {
     let next = (n + 1) % 16;
     let name = word(alloc, b"MGET")?;

@@ -12,6 +12,7 @@ use Rattle.resp_reader.specs.declared.parser.Parser.{Parser}
 use Rattle.resp_reader.specs.Begun.{state_front, IsState, IsBegunSound, IsUnfinished, begun_front, Grows}
 use Rattle.resp_reader.specs.WordRoom.{GrowsFrom}
 use Rattle.resp_reader.specs.Parser.{IsBetweenCalls, TakesTo, CanGoBack, IsMark, IsBack, HasFault}
+use Rattle.resp_reader.proofs.Rooms.{grows_on}
 
 pub request_to_list : (element : Element) → option_to_list (request_of element) ≡ requests_of (element ∷ [])
 request_to_list (array []) = refl
@@ -113,26 +114,6 @@ taken_on start old new bytes rest so_far more =
         length-append (stream so_far.elements) (stream more.elements),
       );
     }
-
-grows_on : (words : Words) (word : List ℕ) (mids : Words) (mid : List ℕ) (news : Words) (new : List ℕ)
-    → GrowsFrom words word mids mid → GrowsFrom mids mid news new → GrowsFrom words word news new
-grows_on words word mids mid news new (inl a) (inl b) =
-    inl (a.0 ++ b.0, b.1 ∙ a.1, b.2 ∙ ap (λ w. w ++ b.0) a.2 ∙ append_assoc word a.0 b.0)
-grows_on words word mids mid news new (inl a) (inr b) =
-    inr (
-      a.0 ++ b.0,
-      b.1,
-      b.2 ∙ ap (λ w. w ++ (mid ++ b.0) ∷ b.1) a.1
-          ∙ ap (λ w. words ++ w ∷ b.1) (ap (λ w. w ++ b.0) a.2 ∙ append_assoc word a.0 b.0),
-    )
-grows_on words word mids mid news new (inr a) (inl b) = inr (a.0, a.1, b.1 ∙ a.2)
-grows_on words word mids mid news new (inr a) (inr b) =
-    inr (
-      a.0,
-      a.1 ++ (mid ++ b.0) ∷ b.1,
-      b.2 ∙ ap (λ w. w ++ (mid ++ b.0) ∷ b.1) a.2
-          ∙ append_assoc words ((word ++ a.0) ∷ a.1) ((mid ++ b.0) ∷ b.1),
-    )
 
 pub back_on : (start old new : Parser) → CanGoBack start old → CanGoBack old new → CanGoBack start new
 back_on start old new (inl a) (inl b) = inl (b.0 ∙ a.0, grows_on _ _ _ _ _ _ a.1 b.1)

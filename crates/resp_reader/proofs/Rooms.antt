@@ -4,7 +4,7 @@ use Rattle.std.proofs.Common.{append_assoc, suc, zero, inl, inr, arith, refl, ap
 use Rattle.std.proofs.lemmas.List.{take_all, take_at, drop_all, take-append-drop, take-append-le, drop-append-le}
 use Rattle.std.proofs.lemmas.List.{drop-take, drop-drop, length-take, length-drop}
 use Rattle.flake_model.specs.Resp.{Words}
-use Rattle.resp_reader.specs.WordRoom.{held, words_to, last_end, AreEnds, GrowsFrom}
+use Rattle.resp_reader.specs.WordRoom.{Held, held, words_to, last_end, AreEnds, GrowsFrom}
 
 pub start-le : (start : ℕ) (ends : List ℕ) (most : ℕ) → AreEnds start ends most → start ≤ most
 start-le start [] most are = are
@@ -178,3 +178,50 @@ back_at ends bytes words word are grown =
     ∙ grown_words ends bytes words word grown in
     same_held _ _ _ _ here (drop-take start (length word) bytes ∙ ap (take (length word)) found.1
     ∙ take_at word found.0 (length word) refl)
+
+-- growing goes on
+pub grows_on : (words : Words) (word : List ℕ) (mids : Words) (mid : List ℕ) (news : Words) (new : List ℕ)
+    → GrowsFrom words word mids mid → GrowsFrom mids mid news new → GrowsFrom words word news new
+grows_on words word mids mid news new (inl a) (inl b) =
+    inl (a.0 ++ b.0, b.1 ∙ a.1, b.2 ∙ ap (λ w. w ++ b.0) a.2 ∙ append_assoc word a.0 b.0)
+grows_on words word mids mid news new (inl a) (inr b) =
+    inr (
+      a.0 ++ b.0,
+      b.1,
+      b.2 ∙ ap (λ w. w ++ (mid ++ b.0) ∷ b.1) a.1
+          ∙ ap (λ w. words ++ w ∷ b.1) (ap (λ w. w ++ b.0) a.2 ∙ append_assoc word a.0 b.0),
+    )
+grows_on words word mids mid news new (inr a) (inl b) = inr (a.0, a.1, b.1 ∙ a.2)
+grows_on words word mids mid news new (inr a) (inr b) =
+    inr (
+      a.0,
+      a.1 ++ (mid ++ b.0) ∷ b.1,
+      b.2 ∙ ap (λ w. w ++ (mid ++ b.0) ∷ b.1) a.2
+          ∙ append_assoc words ((word ++ a.0) ∷ a.1) ((mid ++ b.0) ∷ b.1),
+    )
+
+-- one word more is a growth, where nothing had come of the next
+pub grows_word : (words : Words) (word : List ℕ) (mids : Words) (mid more : List ℕ) (news : Words) (new : List ℕ)
+    → GrowsFrom words word mids mid → mid ≡ [] → news ≡ mids ++ more ∷ [] → GrowsFrom words word news new
+grows_word words word mids mid more news new grown none news_are =
+    grows_on words word mids mid news new grown
+    (inr (more, [], news_are ∙ ap (λ (w : List ℕ). mids ++ (w ++ more) ∷ []) (sym none)))
+
+-- a whole word more
+pub pushed : (ends bytes word : List ℕ) (n : ℕ) → AreEnds 0 ends (length bytes) → drop (last_end 0 ends) bytes ≡ []
+    → n ≡ length (bytes ++ word)
+    → held (words_to 0 (ends ++ n ∷ []) (bytes ++ word)) (drop (last_end 0 (ends ++ n ∷ [])) (bytes ++ word))
+    ≡ held (words_to 0 ends bytes ++ word ∷ []) []
+pushed ends bytes word n are none n_is =
+    let more : held (words_to 0 ends (bytes ++ word)) (drop (last_end 0 ends) (bytes ++ word))
+    ≡ held (words_to 0 ends bytes) word = appended ends bytes word are
+    ∙ ap (λ w. held (words_to 0 ends bytes) (w ++ word)) none in
+    ended ends (bytes ++ word) n (ends_more ends bytes word are) n_is
+    ∙ ap (λ (r : Held). held (r.words ++ r.word ∷ []) []) more
+
+pub ends_pushed : (ends bytes word : List ℕ) (n : ℕ) → AreEnds 0 ends (length bytes) → n ≡ length (bytes ++ word)
+    → AreEnds 0 (ends ++ n ∷ []) (length (bytes ++ word))
+ends_pushed ends bytes word n are n_is =
+    let more = ends_more ends bytes word are in
+    ends_push 0 ends n (length (bytes ++ word)) more
+    (omega (arith, last_end-le 0 ends (length (bytes ++ word)) more)) (omega arith)

@@ -33,6 +33,11 @@ pub record IsArray (count : ℕ) (words : Words) : Type 0 where
   pub less : length words < count
   pub most : count ≤ 1024
 
+-- the words so far are allowed, and maybe all
+pub record AreWordsOf (count : ℕ) (words : Words) : Type 0 where
+  pub allowed : AllByRecursion IsWord words
+  pub most : length words ≤ count
+
 abbrev pub IsState : State → Words → List ℕ → Type 0
 IsState Start words word = (words ≡ []) × (word ≡ [])
 IsState (InCount digits) words word = (words ≡ []) × (word ≡ []) × IsDigits Count digits

@@ -9,7 +9,8 @@ ghost use Rattle.flake_model.specs.Fronts.{array_front};
 ghost use Rattle.resp_reader.specs.WordRoom.{GrowsFrom};
 ghost use Rattle.resp_reader.specs.declared.begun.Stop.TheVariants.{Memory as OutOfMemory};
 
-use crate::head::{Digits, Head, line, line_end, whole_line};
+use crate::head::{Digits, Head, line, line_end, strip, whole_line};
+use crate::whole::take_words;
 use crate::word_room::WordRoom;
 use flake_base::Memory;
 use std::alloc::{AllocError, Global};
@@ -80,17 +81,6 @@ pub struct Mark {
     pub len: usize,
 }
 
-// The bytes behind the first one, if it is this one.
-fn strip(bytes: &[u8], first: u8) -> Option<&[u8]>
-    ensures some { IfSome result (λ rest. bytes.now ≡ first ∷ rest.now) }
-    ensures none { IfNone result ((rest : List ℕ) → bytes.now ≢ first ∷ rest) }
-{
-    match bytes.split_first() {
-        Some((byte, rest)) if *byte == first => Some(rest),
-        _ => None,
-    }
-}
-
 fn start(bytes: &[u8]) -> Result<(State, &[u8]), Stop>
     requires { 0 < length bytes.now }
     ensures ok { IfOk result (λ r. Moves State.Start bytes.now r.0 r.1.now) }
@@ -141,6 +131,18 @@ fn array(count: u32) -> State
     ensures words { 0 < count → result ≡ State.AtWord count }
 {
     if count == 0 {
+        State::Whole { count }
+    } else {
+        State::AtWord { count }
+    }
+}
+
+// An array of so many words, of which some came.
+fn behind_words(count: u32, came: usize) -> State
+    ensures whole { came ≡ count → result ≡ State.Whole count }
+    ensures more { came ≢ count → result ≡ State.AtWord count }
+{
+    if came == count as usize {
         State::Whole { count }
     } else {
         State::AtWord { count }
@@ -239,7 +241,7 @@ impl Begun {
         ensures grows { Grows self.old self.new }
     {
         match self.state {
-            State::Start => self.go(start(bytes)),
+            State::Start => self.element(bytes),
             State::InCount(digits) => self.go(in_count(digits, bytes)),
             State::CountEnd(digits) => self.go(count_end(digits, bytes)),
             State::AtWord { count } => self.go(at_word(count, bytes)),
@@ -249,6 +251,45 @@ impl Begun {
             State::WordEnd { count } => self.word_end(count, bytes),
             State::Null | State::Whole { .. } => unreachable!(),
         }
+    }
+
+    /// Takes the words that lie whole at the front, where words are awaited, and answers the rest.
+    pub fn take_words<'a>(&mut self, bytes: &'a [u8]) -> Result<&'a [u8], Stop>
+        requires { IsBegunSound self.old }
+        ensures sound { OnOk result (IsBegunSound self.new) }
+        ensures ok { IfOk result (λ rest. begun_front self.old ++ bytes.now ≡ begun_front self.new ++ rest.now) }
+        ensures shorter { IfOk result (λ rest. length rest.now ≤ length bytes.now) }
+        ensures err { IfErr result (λ e. e ≡ OutOfMemory) }
+        ensures grows { Grows self.old self.new }
+    {
+        let State::AtWord { count } = self.state else {
+            return Ok(bytes);
+        };
+        let rest = take_words(&mut self.room, count, bytes)?;
+        self.state = behind_words(count, self.room.count());
+        Ok(rest)
+    }
+
+    /// Takes the head of an element, and the words that lie whole behind it, and answers the rest.
+    #[inline(always)]
+    pub fn element<'a>(&mut self, bytes: &'a [u8]) -> Result<&'a [u8], Stop>
+        requires state { self.old.state ≡ State.Start }
+        requires sound { IsBegunSound self.old }
+        requires some { 0 < length bytes.now }
+        ensures sound { OnOk result (IsBegunSound self.new) }
+        ensures ok { IfOk result (λ rest. begun_front self.old ++ bytes.now ≡ begun_front self.new ++ rest.now) }
+        ensures shorter { IfOk result (λ rest. length rest.now < length bytes.now) }
+        ensures err { IfErr result (Breaks self.old bytes.now) }
+        ensures grows { Grows self.old self.new }
+    {
+        let (state, rest) = start(bytes)?;
+        let State::AtWord { count } = state else {
+            self.state = state;
+            return Ok(rest);
+        };
+        let rest = take_words(&mut self.room, count, rest)?;
+        self.state = behind_words(count, self.room.count());
+        Ok(rest)
     }
 
     fn go<'a>(&mut self, next: Result<(State, &'a [u8]), Stop>) -> Result<&'a [u8], Stop>
@@ -319,11 +360,7 @@ impl Begun {
         ensures grows { Grows self.old self.new }
     {
         self.room.end_word()?;
-        self.state = if self.room.count() == count as usize {
-            State::Whole { count }
-        } else {
-            State::AtWord { count }
-        };
+        self.state = behind_words(count, self.room.count());
         Ok(())
     }
 }

@@ -109,6 +109,7 @@ fn digit_of(byte: u8) -> Option<u32>
 }
 
 // One digit more, if a number at most the limit can have it.
+#[inline(always)]
 fn one_more(n: u32, limit: u32, byte: u8) -> Option<u32>
     requires small { n ≤ 1048576 }
     ensures within { IfSome result (λ next. next ≤ limit) }
@@ -124,7 +125,20 @@ fn one_more(n: u32, limit: u32, byte: u8) -> Option<u32>
     Some(next)
 }
 
+/// The bytes behind the first one, if it is this one.
+#[inline(always)]
+pub fn strip(bytes: &[u8], first: u8) -> Option<&[u8]>
+    ensures some { IfSome result (λ rest. bytes.now ≡ first ∷ rest.now) }
+    ensures none { IfNone result ((rest : List ℕ) → bytes.now ≢ first ∷ rest) }
+{
+    match bytes.split_first() {
+        Some((byte, rest)) if *byte == first => Some(rest),
+        _ => None,
+    }
+}
+
 /// The bytes behind a CR and an LF.
+#[inline(always)]
 pub fn line_end(bytes: &[u8]) -> Option<&[u8]>
     ensures { IfSome result (λ rest. bytes.now ≡ 13 ∷ 10 ∷ rest.now) }
 {
@@ -143,9 +157,10 @@ fn more_line(n: u32, limit: u32, bytes: &[u8]) -> Option<(u32, &[u8])>
     ensures shorter { IfSome result (λ found. length found.1.now < length bytes.now) }
 {
     let mut n = n;
-    for (i, byte) in bytes.iter().enumerate() {
+    let mut rest = bytes;
+    while let Some((byte, behind)) = rest.split_first() {
         if *byte == b'\r' {
-            let Some(behind) = line_end(&bytes[i..]) else {
+            let Some(behind) = strip(behind, b'\n') else {
                 return None;
             };
             return Some((n, behind));
@@ -154,11 +169,32 @@ fn more_line(n: u32, limit: u32, bytes: &[u8]) -> Option<(u32, &[u8])>
             return None;
         };
         n = next;
+        rest = behind;
     }
     None
 }
 
+// More digits of a number, of which most have one or none, to the end of its line, and the bytes behind that.
+#[inline(always)]
+fn short_line(n: u32, limit: u32, bytes: &[u8]) -> Option<(u32, &[u8])>
+    requires within { n ≤ limit }
+    requires small { limit ≤ 1048576 }
+    ensures within { IfSome result (λ found. found.0 ≤ limit) }
+    ensures text { IfSome result (λ found. decimal n ++ bytes.now ≡ decimal found.0 ++ 13 ∷ 10 ∷ found.1.now) }
+    ensures shorter { IfSome result (λ found. length found.1.now < length bytes.now) }
+{
+    match bytes {
+        [b'\r', b'\n', rest @ ..] => Some((n, rest)),
+        [byte, b'\r', b'\n', rest @ ..] => match one_more(n, limit, *byte) {
+            Some(next) => Some((next, rest)),
+            None => None,
+        },
+        _ => more_line(n, limit, bytes),
+    }
+}
+
 /// A number that came with its whole line, and the bytes behind that.
+#[inline(always)]
 pub fn whole_line(head: Head, bytes: &[u8]) -> Option<(u32, &[u8])>
     ensures within { IfSome result (λ found. found.0 ≤ number_limit head) }
     ensures text { IfSome result (λ found. bytes.now ≡ decimal found.0 ++ 13 ∷ 10 ∷ found.1.now) }
@@ -170,7 +206,7 @@ pub fn whole_line(head: Head, bytes: &[u8]) -> Option<(u32, &[u8])>
     let Some(digit) = digit_of(*first) else {
         return None;
     };
-    more_line(digit, head.limit(), rest)
+    short_line(digit, head.limit(), rest)
 }
 
 /// A line with the bytes behind it: the CR that ends it came, and the rest is behind that, or all bytes are the

@@ -225,7 +225,11 @@ impl Parser {
         ensures ready { self.new.ready ≡ self.old.ready }
         ensures places { (self.new.taken ≡ self.old.taken) × (self.new.place ≡ self.old.place) }
     {
-        self.begun.step(bytes)
+        if let State::Start = self.begun.state {
+            return self.begun.element(bytes);
+        }
+        let rest = self.begun.step(bytes)?;
+        self.begun.take_words(rest)
     }
 
     // Gives the request of an element that is whole, which ends here.

@@ -85,6 +85,11 @@ impl Reader {
         self.parser.ready.pop_front()
     }
 
+    /// How many bytes the words of the request that comes next can have in all without more memory for them.
+    pub fn capacity(&self) -> usize {
+        self.parser.begun.room.capacity()
+    }
+
     /// Takes the room of a request back, for one that comes.
     pub fn give_back(&mut self, request: Request)
         ensures { self.new ≡ self.old }

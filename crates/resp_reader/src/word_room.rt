@@ -79,6 +79,17 @@ fn cut(bytes: &mut Vec<u8>, start: usize, len: usize)
     }
 }
 
+// Takes a little room for the first word.
+#[inline(always)]
+fn reserve_first(bytes: &mut Vec<u8>) -> Result<(), Memory>
+    ensures { bytes.new.items ≡ bytes.old.items }
+{
+    if bytes.is_empty() {
+        bytes.reserve(FIRST)?;
+    }
+    Ok(())
+}
+
 impl WordRoom {
     pub fn new(alloc: Global) -> Self
         ensures { result ≡ record { words = []; word = [] } }
@@ -129,9 +140,7 @@ impl WordRoom {
     fn make_room(&mut self, more: usize, len: usize) -> Result<(), Memory>
         ensures { self.new ≡ self.old }
     {
-        if self.bytes.is_empty() {
-            self.bytes.reserve(FIRST)?;
-        }
+        reserve_first(&mut self.bytes)?;
         let came = self.word_len();
         if came < SOME && more >= SOME - came {
             self.bytes.reserve(len.min(MOST).saturating_sub(came))?;
@@ -145,6 +154,20 @@ impl WordRoom {
         ensures err { OnErr result (self.new ≡ self.old) }
     {
         self.ends.push(self.bytes.len())?;
+        Ok(())
+    }
+
+    /// Puts a whole word behind the others, where nothing came of the next.
+    #[inline(always)]
+    pub fn push(&mut self, word: &[u8]) -> Result<(), Memory>
+        requires { self.old.word ≡ [] }
+        ensures ok { OnOk result (self.new ≡ record { words = self.old.words ++ word.now ∷ []; word = [] }) }
+        ensures err { OnErr result (self.new ≡ self.old) }
+    {
+        self.ends.reserve(1)?;
+        reserve_first(&mut self.bytes)?;
+        self.bytes.extend_from_slice(word)?;
+        self.ends.push_reserved(self.bytes.len());
         Ok(())
     }
 

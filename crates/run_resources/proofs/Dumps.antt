@@ -12,7 +12,7 @@ use Rattle.pin_core.specs.declared.sizes.Sizes as pool_sizes
 use Rattle.pinned_pool.specs.declared.view.View.{View}
 use Rattle.order_book.specs.Closed.{AreClosed, AreMeant, journal_of}
 use Rattle.order_book.specs.Pages.{ShardList, SessionList}
-use Rattle.order_book.specs.declared.rule.Sizes as book_sizes
+use Rattle.order_book.specs.declared.rule.BookSizes as book_sizes
 use Rattle.order_book.proofs.Replayed.{means}
 use Rattle.call_model.specs.Stock.{AreParts}
 use Rattle.serve_model.specs.Handed.{session_in, runs_in, AreServed}
@@ -34,11 +34,11 @@ first_number shards (run ∷ runs) mine others is =
     let same : mine ≡ list_of shards 0 run = cc in
     ap (λ (list : SessionList). list.number) same
 
-module _ (books : book_sizes.Sizes) (z : pool_sizes.Sizes) (shards : List ShardList) (sessions : List SessionList)
-    (journal : List (List Entry)) (store : View) (givens : List (List ℕ)) (endeds : List Bool)
-    (ends : List SessionEnd) (seats : List View) (closed : AreClosed books shards sessions)
+module _ (books : book_sizes.BookSizes) (z : pool_sizes.Sizes) (threshold : ℕ) (shards : List ShardList)
+    (sessions : List SessionList) (journal : List (List Entry)) (store : View) (givens : List (List ℕ))
+    (endeds : List Bool) (ends : List SessionEnd) (seats : List View) (closed : AreClosed books shards sessions)
     (as_many : length sessions ≡ books.sessions) (parts : AreParts z books.shards shards journal store)
-    (served : AreServed z books.shards givens endeds ends sessions seats) where
+    (served : AreServed z threshold books.shards givens endeds ends sessions seats) where
   lists : AreLists books (runs_in served.all) shards sessions
   lists = record {
     closed = closed;

@@ -16,7 +16,7 @@ use Rattle.pinned_pool.specs.Named.{ClaimsAreNearby}
 use Rattle.pinned_pool.specs.declared.view.View.{View}
 use Rattle.order_book.specs.Closed.{AreClosed}
 use Rattle.order_book.specs.Pages.{ShardList, SessionList}
-use Rattle.order_book.specs.declared.rule.Sizes as book_sizes
+use Rattle.order_book.specs.declared.rule.BookSizes as book_sizes
 use Rattle.call_model.specs.Stock.{AreParts}
 use Rattle.serve_model.specs.Handed.{OneRun, IsLastSeat}
 use Rattle.serve_model.specs.Seats.{HasAll}
@@ -31,14 +31,14 @@ use Rattle.run_resources.specs.Together.{AreRuns, HaveShown}
 use Rattle.run_resources.proofs.Dumps.{AreDumps, dumps}
 
 -- a run with these texts and replies, and the dumps of what the first of these lists saw, whatever its end is called
-abbrev Texts : pool_sizes.Sizes → List (List ℕ) → List Bool → List SessionEnd → List SessionList → List (List Entry)
-    → List (Bool × List ℕ) → List (Bool × List (List ℕ)) → End → Type 0
-Texts z givens endeds ends lists journal texts replies end =
-    (run : WasRun z givens endeds ends journal end) × (wire_texts run.served.sessions journal ≡ texts)
+abbrev Texts : pool_sizes.Sizes → ℕ → List (List ℕ) → List Bool → List SessionEnd → List SessionList
+    → List (List Entry) → List (Bool × List ℕ) → List (Bool × List (List ℕ)) → End → Type 0
+Texts z threshold givens endeds ends lists journal texts replies end =
+    (run : WasRun z threshold givens endeds ends journal end) × (wire_texts run.served.sessions journal ≡ texts)
     × (all_replies run.served.sessions journal ≡ replies) × AreDumps lists journal run.served.sessions
 
 -- what the closing says, together
-pub closed : (books : book_sizes.Sizes) (z : pool_sizes.Sizes) (shards : List ShardList) (lists : List SessionList)
+pub closed : (books : book_sizes.BookSizes) (z : pool_sizes.Sizes) (shards : List ShardList) (lists : List SessionList)
     (journal : List (List Entry)) (main store last : View) (end : End) → AreClosed books shards lists
     → AreParts z books.shards shards journal store → last ≡ joined_views main store → IsLoose last → LooksClaimed last
     → ClaimsAreNearby z last → end ≡ pool_end z last → WasClosed books z lists main journal end
@@ -56,14 +56,15 @@ closed books z shards lists journal main store last end tied parts last_is loose
 }
 
 -- the seats of the runs are joined with the store's: so the run shows what they did
-pub shown : (books : book_sizes.Sizes) (z : pool_sizes.Sizes) (shards : List ShardList) (lists : List SessionList)
+pub shown : (books : book_sizes.BookSizes) (z : pool_sizes.Sizes) (shards : List ShardList) (lists : List SessionList)
     (journal : List (List Entry)) (main store last : View) (closed : End)
     → ServedTogether → WholeRun → SeenMakesDump → AreClosed books shards lists → length lists ≡ books.sessions
     → AreParts z books.shards shards journal store → last ≡ joined_views main store
     → IsLoose last → LooksClaimed last → ClaimsAreNearby z last → closed ≡ pool_end z last
-    → (each : List OneRun) → AreRuns z books.shards each lists main → HaveShown z each journal closed
+    → (threshold : ℕ) (each : List OneRun) → AreRuns z threshold books.shards each lists main
+    → HaveShown z threshold each journal closed
 shown books z shards lists journal main store last closed together whole makes are_closed as_many parts last_is loose
-    looked nearby closed_is each runs =
+    looked nearby closed_is threshold each runs =
     let own : List SessionList = map (λ (one : OneRun). one.list) each in
     let ends : List SessionEnd = map (λ (one : OneRun). one.end) each in
     let seats : List View = map (λ (one : OneRun). one.seat) each in
@@ -75,13 +76,14 @@ shown books z shards lists journal main store last closed together whole makes a
       looked = looked;
       nearby = nearby;
     } in
-    let served = together z books.shards each runs.all in
+    let served = together z threshold books.shards each runs.all in
     let own_closed = subst (AreClosed books shards) runs.lists_are are_closed in
     let own_many = sym (ap length runs.lists_are) ∙ as_many in
-    let ran = whole books z shards own journal store _ _ ends seats (runs.spare ∷ []) last own_closed own_many parts
-    served.0 is in
-    let own_dumps = dumps books z shards own journal store _ _ ends seats own_closed own_many parts served.0 makes in
-    let w = subst (Texts z _ _ ends own journal
+    let ran = whole books z threshold shards own journal store _ _ ends seats (runs.spare ∷ []) last own_closed own_many
+    parts served.0 is in
+    let own_dumps = dumps books z threshold shards own journal store _ _ ends seats own_closed own_many parts served.0
+    makes in
+    let w = subst (Texts z threshold _ _ ends own journal
     (map (λ (one : OneRun). (one.end.failed, flat_map (λ text. text) one.texts)) each)
     (map (λ (one : OneRun). (one.end.failed, one.texts)) each)) (sym closed_is) (
       ran.0,

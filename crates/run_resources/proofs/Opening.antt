@@ -1,15 +1,13 @@
 -- Seats of a new pool.
-use Rattle.std.proofs.Common.{◌≡◌, ℕ, ◌+◌, ◌<◌, ◌≤◌, List, [], ◌∷◌, ◌++◌, length, ap, sym, ◌∙◌, subst, arith}
-use Rattle.std.proofs.lemmas.List.{length-append}
-use Rattle.view_sums.specs.Total.{total, Each}
+use Rattle.std.proofs.Common.{◌≡◌, ℕ, ◌+◌, List, [], ◌∷◌, ap, ◌∙◌, subst, arith}
+use Rattle.view_sums.specs.Total.{total}
 use Rattle.view_sums.proofs.Sums.{total-map}
 use Rattle.pin_core.specs.Holding.{Holding, fresh}
 use Rattle.pinned_pool.specs.Claimed.{with_claimed}
 use Rattle.reply_planner.specs.Owned.{bare, bare_all, fresh_all, keys_for}
 use Rattle.reply_planner.proofs.Owned.{bare-fresh}
 use Rattle.pin_core.specs.declared.sizes.Sizes.{Sizes}
-use Rattle.pinned_pool.specs.Moves.{split_old, split_new}
-use Rattle.pinned_pool.specs.Seats.{SeatList}
+use Rattle.pinned_pool.specs.Moves.{split_new}
 use Rattle.pinned_pool.specs.Sought.{Sought}
 use Rattle.pinned_pool.specs.Views.{opener}
 use Rattle.pinned_pool.specs.declared.pool.NoBuffer.{NoBuffer}
@@ -18,12 +16,10 @@ use Rattle.order_book.specs.Pages.{SessionList}
 use Rattle.reply_planner.specs.Stages.{IsStageOpened, WhyUnopened}
 use Rattle.reply_planner.specs.declared.error.OpenError.{OpenError}
 use Rattle.command_exec.specs.Passes.{PassView, pass_of}
-use Rattle.shard_core.specs.ShardMaps.{IsBare}
 use Rattle.call_model.specs.Stock.{IsIdle}
 use Rattle.serve_model.specs.Demand.{stage_row}
-use Rattle.serve_model.specs.Seats.{IsSpare}
 use Rattle.serve_model.proofs.Seats.{idle_starts}
-use Rattle.run_resources.specs.Opened.{session_credits, IsNewPass, AreSeats}
+use Rattle.run_resources.specs.Opened.{session_credits, IsNewPass}
 use Rattle.run_resources.specs.Passing.{SeatRefused}
 
 idle_as : (v : View) (credits : ℕ) → v ≡ opener credits → IsIdle v
@@ -52,58 +48,6 @@ refused_pass z main seat refused none seat_is why sought = record {
   sought = idle_starts z stage_row 1 seat refused (idle_as seat session_credits seat_is) sought;
   credits = why.keeps.credits ∙ ap (λ (v : View). v.credits) seat_is;
 }
-
--- so many seats were split off, and there is room for the others
-pub record IsSeating (shards done : ℕ) (seats : SeatList) (first main : View) : Type 0 where
-  pub seats_are : AreSeats done seats
-  pub spare : IsSpare main
-  pub credits : main.credits + done ≡ first.credits
-  pub room : shards ≤ seats.spare + done
-
-pub seating_starts : (shards : ℕ) (seats : SeatList) (main : View) → seats.items ≡ [] → shards ≤ seats.spare
-    → IsSpare main → IsSeating shards 0 seats main main
-seating_starts shards seats main none room spare = record {
-  seats_are = record { as_many = ap length none; bare = subst (Each IsBare) (sym none) tt };
-  spare = spare;
-  credits = omega arith;
-  room = omega arith;
-}
-
-each_more : (P : View → Type 0) (xs : List View) (x : View) → Each P xs → P x → Each P (xs ++ x ∷ [])
-each_more P [] x each is = (is, tt)
-each_more P (y ∷ xs) x each is = (each.0, each_more P xs x each.1 is)
-
-pub seating_on : (shards done : ℕ) (seats more : SeatList) (first main new seat : View)
-    → IsSeating shards done seats first main → done < shards → shards < first.credits
-    → new ≡ split_old [] 1 main → seat ≡ split_new [] 1 main → more.items ≡ seats.items ++ seat ∷ []
-    → seats.spare ≤ more.spare + 1 → IsSeating shards (done + 1) more first new
-seating_on shards done seats more first main new seat is near rich new_is seat_is more_is room = record {
-  seats_are = record {
-    as_many = ap length more_is ∙ length-append seats.items (seat ∷ []) ∙ ap (λ n. n + 1) is.seats_are.as_many;
-    bare = subst (Each IsBare) (sym more_is) (each_more IsBare seats.items seat is.seats_are.bare (record {
-      poor = record {
-        credits = ap (λ (v : View). v.credits) seat_is;
-        claims = ap (λ (v : View). v.claims) seat_is;
-        looks = ap (λ (v : View). v.looks) seat_is;
-      };
-      holds = ap (λ (v : View). v.holds) seat_is;
-    }));
-  };
-  spare = record {
-    holds = ap (λ (v : View). v.holds) new_is ∙ is.spare.holds;
-    idle = record {
-      claims = ap (λ (v : View). v.claims) new_is ∙ is.spare.idle.claims;
-      looks = ap (λ (v : View). v.looks) new_is ∙ is.spare.idle.looks;
-    };
-  };
-  credits = omega (arith, is.credits, ap (λ (v : View). v.credits) new_is);
-  room = omega (arith, is.room);
-}
-
-pub seating_ends : (shards done : ℕ) (seats : SeatList) (first main : View) → IsSeating shards done seats first main
-    → done ≡ shards → AreSeats shards seats × (main.credits + shards ≡ first.credits)
-seating_ends shards done seats first main is all =
-    (subst (λ (n : ℕ). AreSeats n seats) all is.seats_are, omega (arith, is.credits, all))
 
 claimed_weight : (weight : Holding → ℕ) (bs : List ℕ) (hs : List Holding)
     → total weight (with_claimed (keys_for bs) hs) ≡ total weight (fresh_all bs) + total weight hs

@@ -9,12 +9,12 @@ use Rattle.pinned_pool.specs.Views.{IsLoose}
 use Rattle.pinned_pool.specs.declared.view.View.{View}
 use Rattle.order_book.specs.Closed.{AreClosed}
 use Rattle.order_book.specs.Pages.{ShardList, SessionList}
-use Rattle.order_book.specs.declared.rule.Sizes as book
+use Rattle.order_book.specs.declared.rule.BookSizes as book
 use Rattle.call_model.specs.Stock.{AreParts}
 
 -- The lists of the shards and of the sessions belong together, and the shards' make the journal. The pool's last seat,
 -- by which its end is, has what this one had, and with it the store's.
-pub record WasClosed (b : book.Sizes) (z : pool.Sizes) (lists : List SessionList) (main : View)
+pub record WasClosed (b : book.BookSizes) (z : pool.Sizes) (lists : List SessionList) (main : View)
     (journal : List (List Entry)) (closed : End) : Type 0 where
   pub shards : List ShardList
   pub store : View

@@ -1,16 +1,13 @@
 -- What a run has before it reads anything.
-use Rattle.std.specs.Prelude.{◌≡◌, ℕ, ◌+◌, ◌*◌, ◌%◌, ◌≤◌, Bool, false, [], Option, Some, None, length}
-use Rattle.view_sums.specs.Total.{Each}
+use Rattle.std.specs.Prelude.{◌≡◌, ℕ, ◌+◌, ◌*◌, ◌%◌, ◌≤◌, [], Bool, false, Option, Some, None}
 use Rattle.pin_core.specs.declared.sizes.Sizes as pool
-use Rattle.pinned_pool.specs.Seats.{SeatList}
 use Rattle.pinned_pool.specs.Sought.{Sought}
 use Rattle.pinned_pool.specs.Views.{nobody, opener}
-use Rattle.order_book.specs.declared.rule.Sizes as book
+use Rattle.order_book.specs.declared.rule.BookSizes as book
 use Rattle.tx_descriptor.specs.declared.framed.Framed.{Ghosts}
 use Rattle.reply_planner.specs.Parcels.{Sent}
 use Rattle.reply_planner.specs.Stages.{IsStageOpened}
 use Rattle.device_model.specs.Devices.{CanFrame}
-use Rattle.shard_core.specs.ShardMaps.{IsBare}
 use Rattle.command_exec.specs.Passes.{PassView}
 use Rattle.serve_model.specs.Demand.{stage_row}
 use Rattle.session_pass.specs.Views.{SessionView, whole_view}
@@ -64,16 +61,11 @@ pub record IsNewPass (z : pool.Sizes) (pass : PassView) : Type 0 where
   pub opened : IsStageOpened z pass.stage (opener session_credits) pass.seat
   pub sought : Sought z stage_row 0 nobody pass.seat
 
--- so many seats of a credit each, none of which holds anything
-pub record AreSeats (count : ℕ) (seats : SeatList) : Type 0 where
-  pub as_many : length seats.items ≡ count
-  pub bare : Each IsBare seats.items
-
 -- the pool and the book of these sizes
 abbrev pub IsPool : ℕ → RunSizes → pool.Sizes → Type 0
 IsPool count sizes z = z ≡ pool_sizes count sizes
 
-abbrev pub IsBook : ℕ → RunSizes → book.Sizes → Type 0
+abbrev pub IsBook : ℕ → RunSizes → book.BookSizes → Type 0
 IsBook count sizes b = (b.shards ≡ sizes.shards) × (b.sessions ≡ count)
 
 module _ {g : Ghosts Sent} where

@@ -14,18 +14,19 @@ use Rattle.serve_model.specs.Shown.{WasRun}
 use Rattle.dump_model.specs.Seen.{HasSeen, IsDumpOf}
 
 -- Each session ran; the lists and the seat are theirs, but for a seat that has nothing.
-pub record AreRuns (z : Sizes) (shards : ℕ) (each : List OneRun) (lists : List SessionList) (main : View)
-    : Type 0 where
-  pub all : AllRun z shards 0 each
+pub record AreRuns (z : Sizes) (threshold shards : ℕ) (each : List OneRun) (lists : List SessionList)
+    (main : View) : Type 0 where
+  pub all : AllRun z threshold shards 0 each
   pub lists_are : lists ≡ map (λ (one : OneRun). one.list) each
   pub spare : View
   pub spare_is : IsSpare spare
   pub seats : HasAll (spare ∷ map (λ (one : OneRun). one.seat) each) main
 
 -- So the inputs were served, and the returned journal gives the texts of the replies.
-pub record HaveShown (z : Sizes) (each : List OneRun) (journal : List (List Entry)) (closed : End) : Type 0 where
-  pub ran : WasRun z (map (λ (one : OneRun). one.given) each) (map (λ (one : OneRun). one.ended) each)
-      (map (λ (one : OneRun). one.end) each) journal closed
+pub record HaveShown (z : Sizes) (threshold : ℕ) (each : List OneRun) (journal : List (List Entry)) (closed : End)
+    : Type 0 where
+  pub ran : WasRun z threshold (map (λ (one : OneRun). one.given) each)
+      (map (λ (one : OneRun). one.ended) each) (map (λ (one : OneRun). one.end) each) journal closed
   pub texts_are : wire_texts ran.served.sessions journal
       ≡ map (λ (one : OneRun). (one.end.failed, flat_map (λ text. text) one.texts)) each
   pub replies_are : all_replies ran.served.sessions journal

@@ -1,5 +1,5 @@
 // The end of a run.
-ghost use Rattle.std.specs.Prelude.{◌≡◌, ◌+◌, List, length};
+ghost use Rattle.std.specs.Prelude.{◌≡◌, ℕ, ◌+◌, List, length};
 ghost use Rattle.call_model.specs.Stock.{AreParts};
 ghost use Rattle.serve_model.specs.Handed.{OneRun};
 ghost use Rattle.flake_base.specs.Histories.{histories};
@@ -33,8 +33,9 @@ pub fn close_all<N: BookName, P: PoolName>(
     requires parts { AreParts P.sizes N.sizes.shards parts.books.items (histories parts.journal.items) parts.seat }
     requires credits { main.credits + parts.seat.credits ≡ P.sizes.credits }
     ensures closed { WasClosed N.sizes P.sizes lists.items main (histories result.journal.items) result.end }
-    ensures shown { (each : List OneRun) → AreRuns P.sizes N.sizes.shards each lists.items main
-        → HaveShown P.sizes each (histories result.journal.items) result.end }
+    ensures shown { (threshold : ℕ) (each : List OneRun)
+        → AreRuns P.sizes threshold N.sizes.shards each lists.items main
+        → HaveShown P.sizes threshold each (histories result.journal.items) result.end }
     ensures shards { length result.journal.items ≡ N.sizes.shards }
 {
     let Parts {

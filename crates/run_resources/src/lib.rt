@@ -6,7 +6,6 @@ mod blanks;
 mod closing;
 mod passing;
 mod resources;
-mod seating;
 mod sizes;
 mod slot;
 

@@ -7,14 +7,13 @@ ghost use Rattle.tx_ring.specs.Shown.{ring_size};
 ghost use Rattle.run_resources.specs.Opened.{HasRunSizes, IsPool, IsBook, IsSessionSlot, dump_credits};
 
 use crate::passing::{Passed, open_passes};
-use crate::seating::open_seats;
 use crate::sizes::RunSizes;
 use crate::slot::{SessionSlot, open_session_slots};
 use flake_base::Memory;
 use order_book::{Book, BookBlank, BookName, ShardSeats};
 use pinned_pool::{Pool, PoolBlank, PoolName, PoolSeat};
 use reply_planner::Parcel;
-use shard_store::{ClaimSpread, Store};
+use shard_store::{ClaimSpread, Store, open_seats};
 use std::alloc::Global;
 use tx_descriptor::Framed;
 
@@ -49,7 +48,7 @@ fn open_store<N: BookName, P: PoolName>(
     ensures main { IsSpare main.new }
     ensures credits { IfOk result (λ _. main.new.credits + shards ≡ main.old.credits) }
 {
-    let Ok(seats) = open_seats(alloc, pool, main, shards) else {
+    let Ok(seats) = open_seats(alloc, pool, main, usize::from(shards)) else {
         return Err(Memory);
     };
     match Store::open_spread(alloc, seats, books, spread) {

@@ -62,7 +62,8 @@ module _ {W : Type 0} (put_may : W → Bor (List ℕ) → (W × Bool) → Type 0
       (counts : List ℕ) (journal : List (List Entry)) (pool : End) (dump : DumpTold) (olds news : List W)
       → task.sessions ≤ 16 → task.requests ≤ 4000 → sizes ≡ generated_sizes task
       → sources ≡ inputs_below task.number task.requests task.sessions
-      → RanAll sizes.mtu put_may flush_may (pool_sizes (length sources) sizes) (map (λ (s : InputState). s.given) lasts)
+      → RanAll sizes.mtu put_may flush_may (pool_sizes (length sources) sizes) sizes.threshold
+      (map (λ (s : InputState). s.given) lasts)
       (map (λ (s : InputState). s.ended) lasts) ends counts journal pool sizes.dump dump olds news
       → map (λ (s : InputState). Some (bytes_held s)) lasts ≡ map (λ (s : InputState). Some (bytes_held s)) sources
       → AreReads ends (no_faults sources) (no_faults lasts) → AllByRecursion (λ end. end.end ≢ Left) ends
@@ -84,12 +85,17 @@ module _ {W : Type 0} (put_may : W → Bor (List ℕ) → (W × Bool) → Type 0
       let none = none_told commands journal dump
       (subst (λ (asked : Option ℕ). IsDumpTold asked commands journal dump) (ap (λ (s : RunSizes). s.dump) sizes_are)
       was.dumped) in
-      let ran : RanAll None put_may flush_may (pool_sizes task.sessions (generated_sizes task)) givens endeds ends
-      counts
-      journal pool None no_dump olds news =
-      subst (λ (q : pool_size.Sizes × Option ℕ × DumpTold × Option ℕ).
-      RanAll q.3 put_may flush_may q.0 givens endeds ends counts journal pool q.1 q.2 olds news)
-      (λ i. (ap₂ pool_sizes as_many sizes_are i, (sizes_are i).dump, none i, (sizes_are i).mtu)) was in
+      let ran : RanAll None put_may flush_may (pool_sizes task.sessions (generated_sizes task))
+      (generated_sizes task).threshold givens endeds ends counts journal pool None no_dump olds news =
+      subst (λ (q : pool_size.Sizes × Option ℕ × DumpTold × Option ℕ × ℕ).
+      RanAll q.3 put_may flush_may q.0 q.4 givens endeds ends counts journal pool q.1 q.2 olds news)
+      (λ i. (
+        ap₂ pool_sizes as_many sizes_are i,
+        (sizes_are i).dump,
+        none i,
+        (sizes_are i).mtu,
+        (sizes_are i).threshold,
+      )) was in
       let served = ran.ran.served in
       let both = all_ways task.number task.requests 0 task.sessions served.sessions givens endeds ends sources lasts
       (omega arith) short served.each_is served.given_is served.ended_is served.ends_are gave reads stays in
@@ -98,7 +104,7 @@ module _ {W : Type 0} (put_may : W → Bor (List ℕ) → (W × Bool) → Type 0
         ran = ran;
         ways = both.0;
         commands = both.1;
-        none_missing = λ memory. complete (pool_sizes task.sessions (generated_sizes task)) served.sessions journal pool
-            ran.ran.counted
+        none_missing = λ memory. complete (pool_sizes task.sessions (generated_sizes task))
+            (generated_sizes task).threshold served.sessions journal pool ran.ran.counted
             (λ class. enough task (all_commands served.sessions) class (both.1 memory));
       }

@@ -16,13 +16,14 @@ use Rattle.request_gen.specs.Requests.{IsRequest, made, requests_from, generated
 use Rattle.request_gen.specs.Words.{value_of, generated_words, letter_of}
 use Rattle.request_gen.proofs.Allowed.{all_allowed}
 use Rattle.request_gen.proofs.Meant.{is_meant}
-use Rattle.request_gen.specs.declared.request.Request.{Request}
-use Rattle.request_gen.specs.declared.request.Request.TheVariants.{Get, GetFour, Set, Append, Del}
+use Rattle.request_gen.specs.declared.request.DrawnRequest.{DrawnRequest}
+use Rattle.request_gen.specs.declared.request.DrawnRequest.TheVariants.{Get, GetFour, Set, Append, Del}
 use Rattle.serve_generated.specs.Rows.{request_row}
 use Rattle.serve_generated.specs.Sessions.{generated_commands_of}
 
 -- the parts of what is meant
-meant_row : (class : Class) (session : ℕ) (request : Request) → parts_row class (parts (command_for session request))
+meant_row : (class : Class) (session : ℕ) (request : DrawnRequest)
+    → parts_row class (parts (command_for session request))
     ≡ request_row class request
 meant_row Small session (Get key) = refl
 meant_row Large session (Get key) = refl
@@ -40,12 +41,13 @@ meant_row Large session (Append n) = refl
 meant_row Small session (Del n) = refl
 meant_row Large session (Del n) = refl
 
-one_row : (class : Class) (session : ℕ) (request : Request) → session < 16 → IsRequest request
+one_row : (class : Class) (session : ℕ) (request : DrawnRequest) → session < 16 → IsRequest request
     → parts_row class (parts (command_of (generated_words session request))) ≡ request_row class request
 one_row class session request small is = ap (λ command. parts_row class (parts command))
     (is_meant session request small is) ∙ meant_row class session request
 
-all_rows : (class : Class) (session : ℕ) (requests : List Request) → session < 16 → AllByRecursion IsRequest requests
+all_rows : (class : Class) (session : ℕ) (requests : List DrawnRequest) → session < 16
+    → AllByRecursion IsRequest requests
     → commands_row class (map command_of (map (generated_words session) requests)) ≡ total (request_row class) requests
 all_rows class session [] small all = refl
 all_rows class session (request ∷ requests) small all =

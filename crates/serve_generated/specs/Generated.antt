@@ -62,8 +62,8 @@ module _ {W : Type 0} (put_may : W → Bor (List ℕ) → (W × Bool) → Type 0
   pub record RanGenerated (task : GenTask) (givens : List (List ℕ)) (endeds : List Bool) (ends : List SessionEnd)
       (counts : List ℕ) (journal : List (List Entry)) (pool : End) (olds news : List W) : Type 0 where
     pub gave : AreFronts (inputs_of task) givens endeds
-    pub ran : RanAll None put_may flush_may (pool_sizes task.sessions (generated_sizes task)) givens endeds ends counts
-        journal pool None no_dump olds news
+    pub ran : RanAll None put_may flush_may (pool_sizes task.sessions (generated_sizes task))
+        (generated_sizes task).threshold givens endeds ends counts journal pool None no_dump olds news
     -- each session ended clean, but for want of memory
     pub ways : AllByRecursion (λ end. (end.end ≡ Clean) ⊎ (end.end ≡ Memory)) ends
     -- without that their commands are those that were generated

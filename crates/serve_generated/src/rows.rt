@@ -5,7 +5,7 @@ ghost use Rattle.frag_value.specs.Counts.{class_buffers_for};
 ghost use Rattle.request_gen.specs.Requests.{IsRequest};
 ghost use Rattle.serve_generated.specs.Rows.{request_row};
 
-use request_gen::Request;
+use request_gen::DrawnRequest;
 
 /// The most bytes of a fragment, and of one in a small buffer.
 const FRAGMENT: u16 = 4096;
@@ -34,17 +34,20 @@ impl Demand {
 }
 
 /// The buffers that a session's request may claim.
-pub(crate) fn request_demand(request: Request) -> Demand
+pub(crate) fn request_demand(request: DrawnRequest) -> Demand
     requires { IsRequest request }
     ensures small { result.small ≡ request_row Small request }
     ensures large { result.large ≡ request_row Large request }
     ensures few { (result.small ≤ 1) × (result.large ≤ 3) }
 {
     match request {
-        Request::Set(_, len) => value_demand(len),
+        DrawnRequest::Set(_, len) => value_demand(len),
         // A partial fragment of up to 4,095 bytes is written anew, with 100 more.
-        Request::Append(_) => Demand { small: 1, large: 2 },
-        Request::Get(_) | Request::GetFour(_) | Request::Del(_) => Demand { small: 0, large: 0 },
+        DrawnRequest::Append(_) => Demand { small: 1, large: 2 },
+        DrawnRequest::Get(_) | DrawnRequest::GetFour(_) | DrawnRequest::Del(_) => Demand {
+            small: 0,
+            large: 0,
+        },
     }
 }
 

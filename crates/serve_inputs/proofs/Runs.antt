@@ -121,18 +121,20 @@ module _ {J D P W : Type 0} (put_may : W → Bor (List ℕ) → (W × Bool) → 
   seats_are (j ∷ jobs) [] is = absurd is
   seats_are (j ∷ jobs) (d ∷ dones) is = ap (λ (more : List View). seat d ∷ more) (seats_are jobs dones is.1)
 
-  pub all_ran : (n : ℕ) (jobs : List J) (dones : List D) (is : AllZip WasDone jobs dones)
-      → map number_of (map session jobs) ≡ range_with_len n (length jobs) → AllRun z shards n (runs_of jobs dones is)
-  all_ran n [] [] is numbers = tt
-  all_ran n [] (d ∷ dones) is numbers = tt
-  all_ran n (j ∷ jobs) [] is numbers = tt
-  all_ran n (j ∷ jobs) (d ∷ dones) is numbers =
+  pub all_ran : (threshold n : ℕ) (jobs : List J) (dones : List D) (is : AllZip WasDone jobs dones)
+      → map number_of (map session jobs) ≡ range_with_len n (length jobs)
+      → Each (λ (s : SessionView). s.pass.threshold ≡ threshold) (map session jobs)
+      → AllRun z threshold shards n (runs_of jobs dones is)
+  all_ran threshold n [] [] is numbers own = tt
+  all_ran threshold n [] (d ∷ dones) is numbers own = tt
+  all_ran threshold n (j ∷ jobs) [] is numbers own = tt
+  all_ran threshold n (j ∷ jobs) (d ∷ dones) is numbers own =
       let first : (session j).pass.list.number ≡ n = cc in
       let others : map number_of (map session jobs) ≡ range_with_len (n + 1) (length jobs) = cc in (
-        subst (λ (k : ℕ). SessionHasRun z shards k (left d).given (left d).ended (end d) (mine d)
+        subst (λ (q : ℕ × ℕ). SessionHasRun z q.0 shards q.1 (left d).given (left d).ended (end d) (mine d)
             (seat d) is.0.served.texts)
-            first is.0.served.ran,
-        all_ran (n + 1) jobs dones is.1 others,
+            (λ i. (own.0 i, first i)) is.0.served.ran,
+        all_ran threshold (n + 1) jobs dones is.1 others own.1,
       )
 
   -- with more texts on the wires behind those of the sessions

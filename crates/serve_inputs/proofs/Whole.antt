@@ -79,21 +79,22 @@ pub ran_all : {J D P W : Type 0} (jobs : List J) (dones : List D)
     (left : D → PumpState) (new : D → W) (dumped : D → Option (Dumped P W)) (givens : List (List ℕ))
     (endeds : List Bool) (ends : List SessionEnd) (counts : List ℕ) (lists : List SessionList)
     (journal : List (List Entry)) (closed : End) (main last : View) (wires finals : List W) (asked : Option ℕ)
-    (most : ℕ) (dump : DumpTold) (common : Option ℕ)
+    (most : ℕ) (dump : DumpTold) (common : Option ℕ) (threshold : ℕ)
     → (is : AllZip (WasDone put_may flush_may z shards mtu session pump plan old dump_wire end bytes mine seat left new
     dumped)
     jobs dones) → z ≡ y → map number_of (map session jobs) ≡ range_with_len 0 (length jobs) → lists ≡ map mine dones
     → CameBack put_may flush_may z shards mtu session pump plan old dump_wire end bytes mine seat left new dumped
     asked most jobs dones wires finals main last dump
-    → ((each : List OneRun) → AreRuns z shards each lists last → HaveShown z each journal closed)
+    → ((t : ℕ) (each : List OneRun) → AreRuns z t shards each lists last → HaveShown z t each journal closed)
     → length journal ≡ shards
     → givens ≡ map (λ (d : D). (left d).given) dones → endeds ≡ map (λ (d : D). (left d).ended) dones
     → ends ≡ map end dones → counts ≡ map bytes dones → Each (λ (j : J). mtu j ≡ common) jobs
-    → RanAll common put_may flush_may y givens endeds ends counts journal closed asked dump wires finals
+    → Each (λ (s : SessionView). s.pass.threshold ≡ threshold) (map session jobs)
+    → RanAll common put_may flush_may y threshold givens endeds ends counts journal closed asked dump wires finals
 ran_all {J} {D} {P} {W} jobs dones put_may flush_may z y shards mtu session pump plan old dump_wire end bytes mine
     seat left
-    new dumped givens endeds ends counts lists journal closed main last wires finals asked most dump common is same
-    numbers lists_is back shown long givens_is endeds_is ends_is counts_is bounds =
+    new dumped givens endeds ends counts lists journal closed main last wires finals asked most dump common threshold
+    is same numbers lists_is back shown long givens_is endeds_is ends_is counts_is bounds thresholds =
     let each : List OneRun = runs.runs_of put_may flush_may z shards mtu session pump plan old dump_wire end bytes
     mine seat
     left new dumped jobs dones is in
@@ -103,16 +104,15 @@ ran_all {J} {D} {P} {W} jobs dones put_may flush_may z y shards mtu session pump
     let lists_each = runs.lists_are put_may flush_may z shards mtu session pump plan old dump_wire end bytes mine seat
     left
     new dumped jobs dones is in
-    let are : AreRuns z shards each lists last = record {
+    let are : AreRuns z threshold shards each lists last = record {
       all = runs.all_ran put_may flush_may z shards mtu session pump plan old dump_wire end bytes mine seat left new
-          dumped
-          0 jobs dones is numbers;
+          dumped threshold 0 jobs dones is numbers thresholds;
       lists_are = lists_is ∙ sym lists_each;
       spare = back.spare;
       spare_is = back.spare_is;
       seats = subst (λ (views : List View). HasAll (back.spare ∷ views) last) (sym seats) back.seats;
     } in
-    let has = shown each are in
+    let has = shown threshold each are in
     let commands = all_commands has.ran.served.sessions in
     let makes : MakesDumps (map mine dones) commands journal =
     λ first others lists_are. has.dumps first others (lists_each ∙ lists_are) in
@@ -130,7 +130,7 @@ ran_all {J} {D} {P} {W} jobs dones put_may flush_may z y shards mtu session pump
     let whole = runs.all_whole put_may flush_may z shards mtu session pump plan old dump_wire end bytes mine seat left
     new
     dumped common back.olds back.news jobs dones is bounds in
-    let own : RanAll common put_may flush_may z (map (λ (one : OneRun). one.given) each)
+    let own : RanAll common put_may flush_may z threshold (map (λ (one : OneRun). one.given) each)
     (map (λ (one : OneRun). one.ended) each) (map (λ (one : OneRun). one.end) each) (map bytes dones) journal closed
     asked dump (map old jobs ++ back.olds) (map new dones ++ back.news) = record {
       ran = has.ran;
@@ -144,7 +144,7 @@ ran_all {J} {D} {P} {W} jobs dones put_may flush_may z y shards mtu session pump
           (map old jobs ++ back.olds) (map new dones ++ back.news)) (sym has.replies_are) whole;
     } in
     subst (λ (q : Sizes × List (List ℕ) × List Bool × List SessionEnd × List ℕ × List W × List W).
-    RanAll common put_may flush_may q.0 q.1 q.2 q.3 q.4 journal closed asked dump q.5 q.6)
+    RanAll common put_may flush_may q.0 threshold q.1 q.2 q.3 q.4 journal closed asked dump q.5 q.6)
     (λ i. (same i, a i, b i, e i, sym counts_is i, back.olds_are i, sym back.news_are i)) own
 
 pub names_kept : {J D P W : Type 0} (jobs : List J) (dones : List D)
@@ -246,6 +246,22 @@ credits_of : {K : Type 0} (P : K → Type 0) (own : K → SessionView) → ((k :
 credits_of P own is [] all = tt
 credits_of P own is (k ∷ slots) all =
     (is k (All-head P k slots all), credits_of P own is slots (All-tail P k slots all))
+
+-- and so are their thresholds
+thresholds_of : {K : Type 0} (own : K → SessionView) (threshold : ℕ) (slots : List K)
+    → All (λ (k : K). (own k).pass.threshold ≡ threshold) slots
+    → Each (λ (s : SessionView). s.pass.threshold ≡ threshold) (map own slots)
+thresholds_of own threshold [] all = tt
+thresholds_of {K} own threshold (k ∷ slots) all =
+    let is : K → Type 0 = λ k. (own k).pass.threshold ≡ threshold in
+    (All-head is k slots all, thresholds_of own threshold slots (All-tail is k slots all))
+
+pub thresholds_are : {J K : Type 0} (jobs : List J) (slots : List K) (session : J → SessionView)
+    (own : K → SessionView) (threshold : ℕ) → map session jobs ≡ map own slots
+    → All (λ (k : K). (own k).pass.threshold ≡ threshold) slots
+    → Each (λ (s : SessionView). s.pass.threshold ≡ threshold) (map session jobs)
+thresholds_are jobs slots session own threshold same all =
+    subst (Each (λ (s : SessionView). s.pass.threshold ≡ threshold)) (sym same) (thresholds_of own threshold slots all)
 
 pub credits_are : {J D K Q W : Type 0} (jobs : List J) (dones : List D) (slots : List K) (P : K → Type 0)
     (own : K → SessionView) (put_may : W → Bor (List ℕ) → (W × Bool) → Type 0)

@@ -19,10 +19,10 @@ module _
     (flush_may : W → (W × Bool) → Type 0) where
   -- What the sources gave was served; the returned journal gives the texts of the replies, each of which was put on its
   -- wire as it is sent, and that of the dump, which was put on the wire behind these.
-  pub record RanAll (z : Sizes) (givens : List (List ℕ)) (endeds : List Bool) (ends : List SessionEnd) (counts : List ℕ)
-      (journal : List (List Entry)) (closed : End) (asked : Option ℕ) (dump : DumpTold) (olds news : List W)
-      : Type 0 where
-    pub ran : WasRun z givens endeds ends journal closed
+  pub record RanAll (z : Sizes) (threshold : ℕ) (givens : List (List ℕ)) (endeds : List Bool)
+      (ends : List SessionEnd) (counts : List ℕ) (journal : List (List Entry)) (closed : End) (asked : Option ℕ)
+      (dump : DumpTold) (olds news : List W) : Type 0 where
+    pub ran : WasRun z threshold givens endeds ends journal closed
     pub dumped : IsDumpTold asked (all_commands ran.served.sessions) journal dump
     pub sends : AllSent put_may flush_may
         (sent_on_wires mtu ran.served.sessions journal ++ dump_texts (all_commands ran.served.sessions) journal dump)

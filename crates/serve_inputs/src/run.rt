@@ -48,7 +48,7 @@ fn serve_named<
     requires book { (N.table ≡ blanks.book.table) × (N.sizes ≡ blanks.book.sizes)
         × IsBook (length sources.items) sizes.now N.sizes }
     ensures ran { IfOk result (λ r. RanAll sizes.now.mtu (C.put_may calls.now) (C.flush_may calls.now)
-        (pool_sizes (length sources.items) sizes.now) (map (λ s. S.given s) r.sources.items)
+        (pool_sizes (length sources.items) sizes.now) sizes.now.threshold (map (λ s. S.given s) r.sources.items)
         (map (λ s. S.ended s) r.sources.items) r.ends.items r.sent.items (histories r.journal.items) r.pool
         sizes.now.dump (dump_told r.dump) wires.items r.wires.items) }
     ensures names { IfOk result (λ r. map (λ s. S.name s) r.sources.items ≡ map (λ s. S.name s) sources.items) }
@@ -98,7 +98,7 @@ pub fn serve_inputs<
     requires unread { All (λ s. S.given s ≡ []) sources.items }
     requires wires { length sources.items + dump_wires sizes.now.dump ≤ length wires.items }
     ensures ran { IfOk result (λ r. RanAll sizes.now.mtu (C.put_may calls.now) (C.flush_may calls.now)
-        (pool_sizes (length sources.items) sizes.now) (map (λ s. S.given s) r.sources.items)
+        (pool_sizes (length sources.items) sizes.now) sizes.now.threshold (map (λ s. S.given s) r.sources.items)
         (map (λ s. S.ended s) r.sources.items) r.ends.items r.sent.items (histories r.journal.items) r.pool
         sizes.now.dump (dump_told r.dump) wires.items r.wires.items) }
     ensures names { IfOk result (λ r. map (λ s. S.name s) r.sources.items ≡ map (λ s. S.name s) sources.items) }

@@ -73,6 +73,7 @@ pub(crate) fn serve_opened<
     requires slots { All (λ d. IsSessionSlot P.sizes d.session d.device.end d.device.failed) resources.slots.items }
     requires numbers { map (λ d. d.session.pass.list.number) resources.slots.items
         ≡ range_with_len 0 (length sources.items) }
+    requires threshold { All (λ d. d.session.pass.threshold ≡ sizes.now.threshold) resources.slots.items }
     requires jobs { (space.jobs.items ≡ []) × (length sources.items ≤ vec_capacity space.jobs) }
     requires dones { (space.dones.items ≡ []) × (length sources.items ≤ vec_capacity space.dones) }
     requires ends { (space.results.ends.items ≡ []) × (length sources.items ≤ space.results.ends.spare) }
@@ -81,7 +82,7 @@ pub(crate) fn serve_opened<
     requires room { (space.results.sources.items ≡ []) × (length sources.items ≤ vec_capacity space.results.sources) }
     requires wire_room { (space.results.wires.items ≡ []) × (length wires.items ≤ vec_capacity space.results.wires) }
     ensures ran { RanAll sizes.now.mtu (C.put_may calls.now) (C.flush_may calls.now)
-        (pool_sizes (length sources.items) sizes.now) (map (λ s. S.given s) result.sources.items)
+        (pool_sizes (length sources.items) sizes.now) sizes.now.threshold (map (λ s. S.given s) result.sources.items)
         (map (λ s. S.ended s) result.sources.items) result.ends.items result.sent.items
         (histories result.journal.items) result.pool sizes.now.dump (dump_told result.dump) wires.items
         result.wires.items }

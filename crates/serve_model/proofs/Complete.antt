@@ -21,11 +21,11 @@ use Rattle.serve_model.specs.Stages.{IsStageRefused}
 use Rattle.serve_model.proofs.Counts.{all_claimed}
 use Rattle.serve_model.proofs.Ranges.{one_in}
 
-pub complete : (z : Sizes) (sessions : List Session) (journal : List (List Entry)) (end : End)
-    → IsCounted z sessions journal end
+pub complete : (z : Sizes) (threshold : ℕ) (sessions : List Session) (journal : List (List Entry)) (end : End)
+    → IsCounted z threshold sessions journal end
     → ((class : Class) → demand_of class (all_commands sessions) ≤ count_of z class)
     → missing_writes sessions journal ≡ 0
-complete z sessions journal end counted within =
+complete z threshold sessions journal end counted within =
     let none : (class : Class) → counted.missed class ≡ 0 = λ class.
     zero_else (counted.missed class)
     (λ some. let no : ⊥ = omega (arith, counted.exceeded class some, within class) in no) in

@@ -1,8 +1,8 @@
 -- The end of a served pool, by the journal.
 use Rattle.std.proofs.Common.{◌≡◌, ℕ, ◌+◌, ◌<◌, ◌≤◌, List, [], ◌∷◌, Option, is_none, map, take, refl, ap, sym, ◌∙◌}
-use Rattle.std.proofs.Common.{arith}
+use Rattle.std.proofs.Common.{zero, suc, Some, length, slice_get, subst, arith}
 use Rattle.view_sums.specs.Total.{total, same, Each}
-use Rattle.view_sums.proofs.Sums.{total-add, total-append, total-map}
+use Rattle.view_sums.proofs.Sums.{total-append, total-map}
 use Rattle.flake_base.specs.declared.journal.Entry.{Entry}
 use Rattle.pin_core.specs.Buffers.{buffers}
 use Rattle.pin_core.specs.HeldCount.{held_in}
@@ -20,26 +20,34 @@ use Rattle.flake_model.specs.Journal.{Step, answers_of, answer_at, session_steps
 use Rattle.flake_model.specs.Run.{all_commands, served_steps, missing_writes}
 use Rattle.flake_model.specs.Session.{Session}
 use Rattle.flake_model.specs.Store.{Operation, Answer}
-use Rattle.order_book.specs.Closed.{AreMeant, journal_of}
+use Rattle.order_book.specs.Closed.{AreMeant, AreShared, journal_of}
 use Rattle.order_book.specs.Pages.{ShardList, SessionList}
-use Rattle.order_book.specs.declared.rule.Sizes as book_sizes
+use Rattle.order_book.specs.declared.rule.BookSizes as book_sizes
 use Rattle.order_book.proofs.Replayed.{means}
-use Rattle.call_model.specs.Demand.{long_in}
-use Rattle.call_model.specs.Outcomes.{missed_in}
+use Rattle.call_model.specs.Needed.{may_need}
+use Rattle.order_book.proofs.Shared.{shares}
 use Rattle.call_model.specs.Stock.{IsIdle, IsStock}
 use Rattle.serve_model.specs.Demand.{session_row, demand_of}
 use Rattle.serve_model.specs.Handed.{SessionRun, session_in, runs_in, IsLastSeat}
 use Rattle.serve_model.specs.Lists.{AreLists}
-use Rattle.serve_model.specs.Runs.{Run, IsRun, missed_by, parts_told}
+use Rattle.serve_model.specs.Runs.{Run, IsRun, missed_by, parts_told, calls_pins, lists_told}
 use Rattle.serve_model.specs.Seats.{IsSpare, AreSpentSeats}
-use Rattle.serve_model.specs.Shown.{fragments_by_class, IsCounted}
+use Rattle.serve_model.specs.Shown.{fragments_by_class, pins_found, IsCounted}
 use Rattle.serve_model.proofs.Counts.{sums_of, missed_whole, runs_none, none_in, weigh, counted_by, served_weight}
-use Rattle.serve_model.proofs.Counts.{Picks, pick}
 use Rattle.serve_model.proofs.Finals.{weigh_fragment}
 use Rattle.serve_model.proofs.Held.{held_at, loose_there, held_is, held_most, placed_total, left_total}
-use Rattle.serve_model.proofs.Places.{each_at}
+use Rattle.serve_model.proofs.Pinned.{deed_pins, shards_most, lists_numbered, journal_pins, runs_weigh}
+use Rattle.serve_model.proofs.Places.{each_at, get_map}
 use Rattle.serve_model.proofs.Ranges.{sum_from-total, one_in, class_of_range}
-use Rattle.serve_model.proofs.Served.{shards_long, sessions_long, told_at, answered, commands_same}
+use Rattle.serve_model.proofs.Served.{AreNamed, all_named, shards_long, sessions_long, told_at, answered}
+use Rattle.serve_model.proofs.Served.{commands_same}
+
+-- a run is that of one of the sessions
+run_of : (all : List SessionRun) (k : ℕ) (run : Run) → slice_get (runs_in all) k ≡ Some run
+    → (one : SessionRun) × (slice_get all k ≡ Some one) × (one.run ≡ run)
+run_of [] k run is = absurd (let no : ⊥ = cc in no)
+run_of (one ∷ all) zero run is = (one, refl, (let same : one.run ≡ run = cc in same))
+run_of (one ∷ all) (suc k) run is = run_of all k run is
 
 spare_holds : (weight : Holding → ℕ) (spare : List View) → Each IsSpare spare
     → total (λ (v : View). total weight v.holds) spare ≡ 0
@@ -52,10 +60,10 @@ spare_claims z class [] each = refl
 spare_claims z class (v ∷ spare) each =
     omega (arith, ap (buffers_in z class) each.0.idle.claims, spare_claims z class spare each.1)
 
-module _ (books : book_sizes.Sizes) (all : List SessionRun) (shards : List ShardList) (sessions : List SessionList)
-    (lists : AreLists books (runs_in all) shards sessions) (z : pool_sizes.Sizes) (store last : View)
+module _ (books : book_sizes.BookSizes) (all : List SessionRun) (shards : List ShardList) (sessions : List SessionList)
+    (lists : AreLists books (runs_in all) shards sessions) (z : pool_sizes.Sizes) (threshold : ℕ) (store last : View)
     (spare seats : List View) (stock : IsStock z shards store) (idle : IsIdle store)
-    (spent : AreSpentSeats z (runs_in all) seats) (is : IsLastSeat z store spare seats last) where
+    (spent : AreSpentSeats z threshold (runs_in all) seats) (is : IsLastSeat z store spare seats last) where
   abbrev runs : List Run
   runs = runs_in all
 
@@ -89,7 +97,7 @@ module _ (books : book_sizes.Sizes) (all : List SessionRun) (shards : List Shard
 
   hold_weight : (weight : Holding → ℕ) → total weight last.holds ≡ total weight store.holds
   hold_weight weight =
-      let sums = sums_of z runs seats spent in
+      let sums = sums_of z threshold runs seats spent in
       omega (
         arith,
         is.all.holds weight,
@@ -124,9 +132,30 @@ module _ (books : book_sizes.Sizes) (all : List SessionRun) (shards : List Shard
       counted_by (λ (step : Step). is_none (answer_at step.0 answers)) (served_steps 0 ran)
       ∙ weights none_in ∙ runs_none runs lists.runs_are
 
-  pub counted : IsCounted z ran journal (pool_end z last)
+  -- the journal pins no more than the sessions' calls did
+  pins_are : pins_found threshold ran journal
+      ≤ total (λ (run : Run). calls_pins threshold run.commands run.calls) runs
+  pins_are =
+      let most = shards_most (deed_pins threshold ran) (lists_told books.shards 0 runs) shards (length runs)
+      books.shards (lists_numbered books.shards 0 runs) lists.numbered
+      (subst (λ n. Each (AreNamed n) shards) (sym lists.as_many) (all_named books shards sessions lists.closed))
+      (subst (AreShared shards) lists.told (shares books shards sessions lists.closed)) in
+      omega (
+        arith,
+        journal_pins threshold ran shards lists.legal shards_meant,
+        most,
+        runs_weigh threshold ran books.shards 0 runs (λ k run there.
+            let one = run_of all k run there in (
+              session_in one.0,
+              get_map session_in all (0 + k) one.0 (subst (λ n. slice_get all n ≡ Some one.0) (omega arith) one.1),
+              ap (λ (r : Run). r.end.replies) one.2
+                  ∙ (each_at IsRun runs k run lists.runs_are there).replies_are,
+            )),
+      )
+
+  pub counted : IsCounted z threshold ran journal (pool_end z last)
   counted =
-      let sums = sums_of z runs seats spent in
+      let sums = sums_of z threshold runs seats spent in
       let claimed : (class : Class) → buffers_in z class last.claims + sums.missed class ≤ demand_of class commands =
       λ class. omega (
         arith,
@@ -144,10 +173,7 @@ module _ (books : book_sizes.Sizes) (all : List SessionRun) (shards : List Shard
         total-append (λ (v : View). looked_at b v.looks) spare seats,
         sums.looks b below,
       ) in
-      let all_missed =
-      total-add (λ (run : Run). missed_by run.calls) (λ (run : Run). missed_in run.behind) runs in
-      let picks : Picks (missing_writes ran journal) sums.missed =
-      pick _ sums.missed (omega (arith, missing_are, all_missed, sums.missed_are)) in
+      let whole = sums.whole in
       record {
         held_small = held Small;
         held_large = held Large;
@@ -155,23 +181,24 @@ module _ (books : book_sizes.Sizes) (all : List SessionRun) (shards : List Shard
           held_most (λ (weight : Holding → ℕ). total weight last.holds) 0 z.small,
           held_most (λ (weight : Holding → ℕ). total weight last.holds) z.small z.large,
         );
-        missed = picks.picked;
-        missed_are = picks.sum;
-        claims = λ class. omega (arith, claimed class, picks.within class);
+        missed = whole.missed;
+        missed_are = whole.missed_are ∙ sym missing_are;
+        needed = λ class. omega (arith, whole.needed class, weights (may_need class));
+        claims = λ class. omega (arith, claimed class, whole.within class);
         looks_small = λ b below.
             let small = class_of_range z Small b (omega arith) (omega arith) in
-            omega (arith, picks.within Small, seen b (omega arith), ap sums.missed small);
+            omega (arith, whole.within Small, seen b (omega arith), ap sums.missed small);
         looks_large = λ b from below.
             let large = class_of_range z Large b from below in
-            omega (arith, picks.within Large, seen b below, ap sums.missed large);
+            omega (arith, whole.within Large, seen b below, ap sums.missed large);
         exceeded = λ class some.
-            let whole = missed_whole z class (sums.missed class) last is.looked
-            (omega (arith, some, picks.within class))
+            let most = missed_whole z class (sums.missed class) last is.looked
+            (omega (arith, some, whole.within class))
             (λ b below same. omega (arith, seen b below, ap sums.missed same)) in
-            omega (arith, whole, claimed class, some, picks.within class);
+            omega (arith, most, claimed class, some, whole.within class);
         returned = omega (
           arith,
-          weights long_in,
+          pins_are,
           sums.returns,
           is.all.returns,
           total-append (λ (v : View). v.returns) spare seats,

@@ -1,5 +1,5 @@
 -- What the seats of all sessions claimed, looked at and gave back, together.
-use Rattle.std.proofs.Common.{◌≡◌, ℕ, suc, ◌+◌, ◌-◌, ◌<◌, ◌≤◌, min, Bool, cond, List, [], ◌∷◌, Option}
+use Rattle.std.proofs.Common.{◌≡◌, ℕ, suc, ◌+◌, ◌<◌, ◌≤◌, Bool, cond, List, [], ◌∷◌, Option}
 use Rattle.std.proofs.Common.{Some, None, is_none, fold, if◌then◌else◌, length, map, take, slice_get, zip}
 use Rattle.std.proofs.Common.{refl, ap, sym, ◌∙◌, arith}
 use Rattle.std.specs.List.{count_by}
@@ -20,44 +20,59 @@ use Rattle.flake_model.specs.Command.{Command, parts}
 use Rattle.flake_model.specs.Journal.{Step, answer_at, session_steps}
 use Rattle.flake_model.specs.Run.{served_steps}
 use Rattle.flake_model.specs.Store.{Operation, Answer}
-use Rattle.call_model.specs.Demand.{long_in}
 use Rattle.call_model.specs.Outcomes.{Outcomes, answers_told, missed_in}
 use Rattle.serve_model.specs.Demand.{session_row}
 use Rattle.serve_model.specs.Handed.{SessionRun, session_in, runs_in}
-use Rattle.serve_model.specs.Runs.{Run, IsRun, AreCalls, parts_told, missed_by}
+use Rattle.serve_model.specs.Misses.{calls_needing, WholeMisses}
+use Rattle.serve_model.specs.Runs.{Run, IsRun, AreCalls, parts_told, missed_by, calls_pins}
 use Rattle.serve_model.specs.Seats.{AreSpentSeats}
 use Rattle.serve_model.proofs.Ranges.{sum_from, sum_from-most, sum_from-total, class_of_range, range_below, range_most}
 
 -- what all sessions' seats have together
-pub record HasSums (z : pool_sizes.Sizes) (runs : List Run) (seats : List View) : Type 0 where
+pub record HasSums (z : pool_sizes.Sizes) (threshold : ℕ) (runs : List Run) (seats : List View) : Type 0 where
   pub missed : Class → ℕ
   pub missed_are : missed Small + missed Large
       ≡ total (λ (run : Run). missed_by run.calls + missed_in run.behind) runs
+  pub whole : WholeMisses (total (λ (run : Run). missed_by run.calls) runs) missed
+      (λ (class : Class). total (λ (run : Run). calls_needing class run.commands run.calls) runs)
   pub claims : (class : Class) → total (λ (v : View). buffers_in z class v.claims) seats + missed class
       ≤ total (λ (run : Run). session_row class run.commands) runs
   pub looks : (b : ℕ) → b < buffers z → missed (class_at z b) ≤ total (λ (v : View). looked_at b v.looks) seats
-  pub returns : total (λ (run : Run). total (λ p. long_in p.0 p.1) (parts_told run.commands run.calls)) runs
+  pub returns : total (λ (run : Run). calls_pins threshold run.commands run.calls) runs
       ≤ total (λ (v : View). v.returns) seats
   pub holds : (weight : Holding → ℕ) → total (λ (v : View). total weight v.holds) seats ≡ 0
 
-pub sums_of : (z : pool_sizes.Sizes) (runs : List Run) (seats : List View) → AreSpentSeats z runs seats
-    → HasSums z runs seats
-sums_of z [] [] spent = record {
+pub sums_of : (z : pool_sizes.Sizes) (threshold : ℕ) (runs : List Run) (seats : List View)
+    → AreSpentSeats z threshold runs seats → HasSums z threshold runs seats
+sums_of z threshold [] [] spent = record {
   missed = λ class. 0;
   missed_are = refl;
+  whole = record {
+    missed = λ class. 0;
+    missed_are = refl;
+    within = λ class. omega arith;
+    needed = λ class. omega arith;
+  };
   claims = λ class. omega arith;
   looks = λ b below. omega arith;
   returns = omega arith;
   holds = λ weight. refl;
 }
-sums_of z [] (seat ∷ seats) spent = absurd spent
-sums_of z (run ∷ runs) [] spent = absurd spent
-sums_of z (run ∷ runs) (seat ∷ seats) spent =
-    let rest = sums_of z runs seats spent.1 in
-    let own = spent.0.sought in
+sums_of z threshold [] (seat ∷ seats) spent = absurd spent
+sums_of z threshold (run ∷ runs) [] spent = absurd spent
+sums_of z threshold (run ∷ runs) (seat ∷ seats) spent =
+    let rest = sums_of z threshold runs seats spent.1 in
+    let own = spent.0.sought.sought in
+    let whole = spent.0.sought.whole in
     record {
       missed = λ class. own.missed class + rest.missed class;
       missed_are = omega (arith, own.missed_are, rest.missed_are);
+      whole = record {
+        missed = λ class. whole.missed class + rest.whole.missed class;
+        missed_are = omega (arith, whole.missed_are, rest.whole.missed_are);
+        within = λ class. omega (arith, whole.within class, rest.whole.within class);
+        needed = λ class. omega (arith, whole.needed class, rest.whole.needed class);
+      };
       claims = λ class. omega (arith, own.claims class, rest.claims class);
       looks = λ b below. omega (arith, own.looks b below, rest.looks b below);
       returns = omega (arith, spent.0.returned, rest.returns);
@@ -159,20 +174,3 @@ served_weight weight answers n (ran ∷ all) each =
       first,
       rest,
     )
-
--- of two numbers, so many in all
-pub record Picks (m : ℕ) (all : Class → ℕ) : Type 0 where
-  pub picked : Class → ℕ
-  pub sum : picked Small + picked Large ≡ m
-  pub within : (class : Class) → picked class ≤ all class
-
-abbrev pick_of : ℕ → (Class → ℕ) → Class → ℕ
-pick_of m all Small = min m (all Small)
-pick_of m all Large = m - min m (all Small)
-
-pick_within : (m : ℕ) (all : Class → ℕ) → m ≤ all Small + all Large → (class : Class) → pick_of m all class ≤ all class
-pick_within m all few Small = omega arith
-pick_within m all few Large = omega arith
-
-pub pick : (m : ℕ) (all : Class → ℕ) → m ≤ all Small + all Large → Picks m all
-pick m all few = record { picked = pick_of m all; sum = omega arith; within = pick_within m all few }

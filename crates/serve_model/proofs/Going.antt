@@ -11,39 +11,44 @@ use Rattle.flake_base.specs.declared.session.End.{End}
 use Rattle.flake_base.specs.declared.session.End.TheVariants.{Clean, Protocol, Truncated, TooLong, ReadFault, Memory}
 use Rattle.flake_base.specs.declared.session.End.TheVariants.{Left}
 use Rattle.pin_core.specs.declared.class.Class.{Class}
-use Rattle.pinned_pool.specs.Views.{nobody}
-use Rattle.pinned_pool.proofs.SoughtLaws.{sought_then, sought_nothing, sought_still}
+use Rattle.pin_core.specs.declared.sizes.Sizes.{Sizes}
+use Rattle.pinned_pool.specs.Classes.{buffers_in}
+use Rattle.pinned_pool.specs.Sought.{Sought}
+use Rattle.pinned_pool.specs.Views.{nobody, looked_at}
+use Rattle.pinned_pool.specs.declared.view.View.{View}
+use Rattle.pinned_pool.proofs.SoughtLaws.{sought_nothing}
 use Rattle.flake_model.specs.Store.{Operation}
 use Rattle.flake_model.specs.Command.{Command, parts}
 use Rattle.flake_model.specs.Reply.{Reply, reply_of, reply_text}
 use Rattle.flake_model.specs.Journal.{next_parts}
 use Rattle.flake_model.specs.Session.{IsBegun}
-use Rattle.call_model.specs.Demand.{parts_row, long_in}
+use Rattle.call_model.specs.Demand.{parts_row, call_pins}
+use Rattle.call_model.specs.Needed.{may_need, parts_needing, SoughtFor}
 use Rattle.call_model.specs.Outcomes.{Outcomes, SessionDeeds, AreOutcomes, call_told, answers_told, missed_in}
-use Rattle.call_model.proofs.Rows.{sought_as}
-use Rattle.serve_model.specs.Demand.{stage_row, commands_row}
-use Rattle.serve_model.specs.Runs.{calls_told, replies_told, parts_told, missed_by}
+use Rattle.call_model.proofs.Needed.{for_then, for_within, for_moved, for_nothing}
+use Rattle.serve_model.specs.Demand.{stage_row, commands_row, session_row}
+use Rattle.serve_model.specs.Misses.{calls_needing, WholeMisses, SoughtByRun}
+use Rattle.serve_model.specs.Runs.{Run, calls_told, replies_told, parts_told, missed_by, calls_pins}
 use Rattle.serve_model.specs.Steps.{GoingStarts, GoingRests, GoingOn, GoingEnds, GoingBreaks, WithStage, SessionRan}
 use Rattle.serve_model.proofs.Steps.{calls_add, first_calls}
 
 pub going_starts : GoingStarts
-going_starts z shards session opened = record {
+going_starts z threshold shards session opened = record {
   as_many = refl;
   are = tt;
   told_is = refl;
   texts_are = refl;
-  sought = sought_nothing z opened opened refl refl;
+  sought = for_nothing z _ _ opened opened refl refl;
   pinned = omega arith;
 }
 
 pub going_rests : GoingRests
-going_rests z shards session given calls texts pins told opened seat after claims looks going = record {
+going_rests z threshold shards session given calls texts pins told opened seat after claims looks going = record {
   as_many = going.as_many;
   are = going.are;
   told_is = going.told_is;
   texts_are = going.texts_are;
-  sought = sought_still z (λ (class : Class). commands_row class given) (missed_by calls) opened seat after
-      going.sought claims looks;
+  sought = for_moved z _ _ _ opened seat opened after going.sought refl refl claims looks;
   pinned = going.pinned;
 }
 
@@ -57,22 +62,31 @@ replies_more (c ∷ given) (o ∷ calls) command outcomes long =
     ap (λ (replies : List Reply). reply_of c (answers_told o) ∷ replies)
     (replies_more given calls command outcomes (omega arith))
 
-long_more : (given : List Command) (calls : List Outcomes) (command : Command) (outcomes : Outcomes)
+pins_more : (threshold : ℕ) (given : List Command) (calls : List Outcomes) (command : Command) (outcomes : Outcomes)
     → length calls ≡ length given
-    → total (λ p. long_in p.0 p.1) (parts_told (given ++ command ∷ []) (calls ++ outcomes ∷ []))
-    ≡ total (λ p. long_in p.0 p.1) (parts_told given calls)
-    + total (λ p. long_in p.0 p.1) (zip (parts command) (answers_told outcomes))
-long_more [] [] command outcomes long =
-    omega (arith, total-append (λ p. long_in p.0 p.1) (zip (parts command) (answers_told outcomes)) [])
-long_more [] (o ∷ calls) command outcomes long = absurd (let no : ⊥ = omega arith in no)
-long_more (c ∷ given) [] command outcomes long = absurd (let no : ⊥ = omega arith in no)
-long_more (c ∷ given) (o ∷ calls) command outcomes long =
+    → calls_pins threshold (given ++ command ∷ []) (calls ++ outcomes ∷ [])
+    ≡ calls_pins threshold given calls + call_pins threshold (parts command) outcomes
+pins_more threshold [] [] command outcomes long = omega arith
+pins_more threshold [] (o ∷ calls) command outcomes long = absurd (let no : ⊥ = omega arith in no)
+pins_more threshold (c ∷ given) [] command outcomes long = absurd (let no : ⊥ = omega arith in no)
+pins_more threshold (c ∷ given) (o ∷ calls) command outcomes long =
+    omega (arith, pins_more threshold given calls command outcomes (omega arith))
+
+needing_calls : (class : Class) (given : List Command) (calls : List Outcomes) (command : Command)
+    (outcomes : Outcomes) → length calls ≡ length given
+    → calls_needing class (given ++ command ∷ []) (calls ++ outcomes ∷ [])
+    ≡ calls_needing class given calls + parts_needing class (parts command) outcomes
+needing_calls class [] [] command outcomes long =
+    omega (arith, total-append (λ p. may_need class p.0 p.1) (zip (parts command) (answers_told outcomes)) [])
+needing_calls class [] (o ∷ calls) command outcomes long = absurd (let no : ⊥ = omega arith in no)
+needing_calls class (c ∷ given) [] command outcomes long = absurd (let no : ⊥ = omega arith in no)
+needing_calls class (c ∷ given) (o ∷ calls) command outcomes long =
     let here = zip (parts c) (answers_told o) in
     omega (
       arith,
-      total-append (λ p. long_in p.0 p.1) here (parts_told (given ++ command ∷ []) (calls ++ outcomes ∷ [])),
-      total-append (λ p. long_in p.0 p.1) here (parts_told given calls),
-      long_more given calls command outcomes (omega arith),
+      total-append (λ p. may_need class p.0 p.1) here (parts_told (given ++ command ∷ []) (calls ++ outcomes ∷ [])),
+      total-append (λ p. may_need class p.0 p.1) here (parts_told given calls),
+      needing_calls class given calls command outcomes (omega arith),
     )
 
 whole_row : (class : Class) (operations : List Operation) (outcomes : Outcomes) → length outcomes ≡ length operations
@@ -85,7 +99,8 @@ missed_calls : (calls : List Outcomes) (outcomes : Outcomes)
 missed_calls calls outcomes = omega (arith, total-append missed_in calls (outcomes ∷ []))
 
 pub going_on : GoingOn
-going_on z shards session given calls texts text pins more command outcomes old new opened seat after going done =
+going_on z threshold shards session given calls texts text pins more command outcomes old new opened seat after going
+    done =
     let one = calls_add shards session given calls command outcomes going.as_many in
     let here = call_told shards session (length given) 0 (parts command) outcomes in
     let reply = reply_of command (answers_told outcomes) in
@@ -96,17 +111,16 @@ going_on z shards session given calls texts text pins more command outcomes old 
       texts_are = (λ i. going.texts_are i ++ done.text_is i ∷ [])
           ∙ sym (map-append reply_text (replies_told given calls) (reply ∷ []))
           ∙ ap (map reply_text) (sym (replies_more given calls command outcomes going.as_many));
-      sought = sought_as z _ _ _ _ opened after
-          (sought_then z (λ class. commands_row class given)
-          (λ class. parts_row class (take (length outcomes) (parts command))) (missed_by calls)
-          (missed_in outcomes) opened seat after going.sought done.running.sought)
+      sought = for_within z _ _ _ _ _ _ opened after
+          (for_then z _ _ _ _ _ _ opened seat after going.sought done.running.sought)
           (λ class. omega (
             arith,
             whole_row class (parts command) outcomes done.whole,
             total-append (λ (c : Command). parts_row class (parts c)) given (command ∷ []),
           ))
+          (λ class. omega (arith, needing_calls class given calls command outcomes going.as_many))
           (sym (missed_calls calls outcomes));
-      pinned = omega (arith, going.pinned, done.pinned, long_more given calls command outcomes going.as_many);
+      pinned = omega (arith, going.pinned, done.pinned, pins_more threshold given calls command outcomes going.as_many);
     }
 
 begun_none : (end : End) (parts : ℕ) → IsBegun end 0 parts
@@ -122,8 +136,58 @@ rows_front : (class : Class) (given rest : List Command)
     → commands_row class given ≤ commands_row class (given ++ rest)
 rows_front class given rest = omega (arith, total-append (λ (c : Command). parts_row class (parts c)) given rest)
 
+-- where nothing was missed
+pub no_misses : {needing : Class → ℕ} → WholeMisses 0 (λ class. 0) needing
+no_misses = record {
+  missed = λ class. 0;
+  missed_are = refl;
+  within = λ class. omega arith;
+  needed = λ class. omega arith;
+}
+
+-- so many more rows, and the misses of a call that was cut short behind the whole ones
+with_behind : (z : Sizes) (rows more all : Class → ℕ) (run : Run) (u v w : View)
+    → SoughtFor z rows (λ (class : Class). calls_needing class run.commands run.calls) (missed_by run.calls) u v
+    → Sought z more (missed_in run.behind) v w → ((class : Class) → rows class + more class ≤ all class)
+    → SoughtByRun z all run u w
+with_behind z rows more all run u v w whole behind within = record {
+  sought = record {
+    missed = λ class. whole.sought.missed class + behind.missed class;
+    missed_are = omega (arith, whole.sought.missed_are, behind.missed_are);
+    claims = λ class. omega (arith, whole.sought.claims class, behind.claims class, within class);
+    looks = λ b near. omega (arith, whole.sought.looks b near, behind.looks b near);
+  };
+  whole = record {
+    missed = whole.sought.missed;
+    missed_are = whole.sought.missed_are;
+    within = λ class. omega arith;
+    needed = whole.few;
+  };
+}
+
+-- what a run sought, after a stage or after nothing, and up to a seat whose claims and looks stayed
+pub run_moved : (z : Sizes) (first rows all : Class → ℕ) (run : Run) (u v w last : View) → Sought z first 0 u v
+    → SoughtByRun z rows run v w → ((class : Class) → first class + rows class ≤ all class) → last.claims ≡ w.claims
+    → last.looks ≡ w.looks → SoughtByRun z all run u last
+run_moved z first rows all run u v w last stage calls within claims looks = record {
+  sought = record {
+    missed = λ class. stage.missed class + calls.sought.missed class;
+    missed_are = omega (arith, stage.missed_are, calls.sought.missed_are);
+    claims = λ class. omega
+        (arith, stage.claims class, calls.sought.claims class, within class, ap (buffers_in z class) claims);
+    looks = λ b near. omega
+        (arith, stage.looks b near, calls.sought.looks b near, ap (looked_at b) looks);
+  };
+  whole = record {
+    missed = calls.whole.missed;
+    missed_are = calls.whole.missed_are;
+    within = λ class. omega (arith, calls.whole.within class);
+    needed = calls.whole.needed;
+  };
+}
+
 pub going_ends : GoingEnds
-going_ends z shards session given rest calls texts pins told opened seat looks end going replies =
+going_ends z threshold shards session given rest calls texts pins told opened seat looks end going replies =
     let all = first_calls shards session given rest calls going.as_many in
     record {
       is_run = record {
@@ -134,8 +198,12 @@ going_ends z shards session given rest calls texts pins told opened seat looks e
       };
       told_is = going.told_is ∙ sym all.told ∙ sym (append-nil (calls_told shards session 0 (given ++ rest) calls));
       texts_are = going.texts_are ∙ ap (map reply_text) (sym all.replies);
-      sought = sought_as z _ _ _ _ opened seat going.sought (λ class. rows_front class given rest) (omega arith);
-      pinned = omega (arith, going.pinned, ap (total (λ p. long_in p.0 p.1)) all.parts);
+      sought = with_behind z (λ (class : Class). commands_row class given) (λ class. 0) _ _ opened seat seat
+          (for_within z _ _ _ _ _ _ opened seat going.sought (λ class. omega arith)
+          (λ class. omega (arith, ap (total (λ p. may_need class p.0 p.1)) all.parts)) refl)
+          (sought_nothing z seat seat refl refl)
+          (λ class. omega (arith, rows_front class given rest));
+      pinned = omega (arith, going.pinned, all.pins threshold);
     }
 
 -- the call behind the given ones
@@ -152,8 +220,8 @@ next_parts_are given calls command rest long =
     ∙ append-nil (parts command)
 
 pub going_breaks : GoingBreaks
-going_breaks z shards session given rest calls texts pins command outcomes old new opened seat after looks end going
-    short replies memory =
+going_breaks z threshold shards session given rest calls texts pins command outcomes old new opened seat after looks
+    end going short replies memory =
     let all = first_calls shards session given (command ∷ rest) calls going.as_many in
     let next = next_parts_are given calls command rest going.as_many in
     record {
@@ -167,27 +235,23 @@ going_breaks z shards session given rest calls texts pins command outcomes old n
       told_is = short.told ∙ (λ i. (going.told_is ∙ sym all.told) i
           ++ call_told shards session (sym going.as_many i) 0 (sym next i) outcomes);
       texts_are = going.texts_are ∙ ap (map reply_text) (sym all.replies);
-      sought = sought_as z _ _ _ _ opened after
-          (sought_then z (λ class. commands_row class given) (λ class. parts_row class (parts command))
-          (missed_by calls) (missed_in outcomes) opened seat after going.sought short.sought)
-          (λ class. omega (arith, total-append (λ (c : Command). parts_row class (parts c)) given (command ∷ rest)))
-          refl;
-      pinned = omega (arith, going.pinned, ap (total (λ p. long_in p.0 p.1)) all.parts);
+      sought = with_behind z (λ (class : Class). commands_row class given) _ _ _ opened seat after
+          (for_within z _ _ _ _ _ _ opened seat going.sought (λ class. omega arith)
+          (λ class. omega (arith, ap (total (λ p. may_need class p.0 p.1)) all.parts)) refl)
+          short.sought
+          (λ class. omega (arith, total-append (λ (c : Command). parts_row class (parts c)) given (command ∷ rest)));
+      pinned = omega (arith, going.pinned, all.pins threshold);
     }
 
 pub with_stage : WithStage
 with_stage z run opened seat stage calls =
-    let missed = missed_by run.calls + missed_in run.behind in
-    let whole = sought_then z stage_row (λ class. commands_row class run.commands) 0 missed nobody opened seat stage
-    calls in
-    sought_as z _ _ _ _ nobody seat whole (λ class. omega arith) (omega arith)
+    run_moved z _ _ _ run nobody opened seat seat stage calls (λ class. omega arith) refl refl
 
 pub session_ran : SessionRan
-session_ran z shards session given ended run texts pins told opened seat last stage is finished is_session =
-    let missed = missed_by run.calls + missed_in run.behind in
-    let sought = with_stage z run opened last stage
-    (sought_still z (λ (class : Class). commands_row class run.commands) missed opened seat last is.sought
-    finished.claims finished.looks) in
+session_ran z threshold shards session given ended run texts pins told opened seat last stage is finished is_session =
+    let sought = run_moved z stage_row (λ (class : Class). commands_row class run.commands)
+    (λ (class : Class). session_row class run.commands) run nobody opened seat last stage is.sought
+    (λ class. omega arith) finished.claims finished.looks in
     record {
       run = run;
       is_run = is.is_run;

@@ -12,6 +12,7 @@ pub mod Ranges
 pub mod Finals
 pub mod Held
 pub mod Counts
+pub mod Pinned
 pub mod Counted
 pub mod Complete
 pub mod Ran
@@ -20,3 +21,4 @@ pub mod Cuts
 pub mod Rows
 pub mod Worked
 pub mod Mixed
+pub mod Copied

@@ -1,11 +1,13 @@
 -- The wrong outcome claims and misses more large buffers than there is demand for.
 use Rattle.std.proofs.Common.{◌≡◌, ℕ, List, [], ◌∷◌, refl, lit≤, arith}
-use Rattle.pin_core.specs.declared.class.Class.TheVariants.{Large}
+use Rattle.pin_core.specs.declared.class.Class.TheVariants.{Small, Large}
 use Rattle.pinned_pool.specs.Classes.{buffers_in}
 use Rattle.pinned_pool.specs.Views.{looked_at}
 use Rattle.flake_model.specs.Run.{all_commands}
 use Rattle.serve_model.specs.Demand.{demand_of}
-use Rattle.serve_model.specs.Mixed.{mixed_pool, mixed_session, mixed_end, MixedIsNone}
+use Rattle.serve_model.specs.Mixed.{mixed_pool, mixed_session, mixed_journal, mixed_end, MixedIsNone}
+use Rattle.serve_model.specs.Mixed.{long_session, small_end, SmallIsNone}
+use Rattle.serve_model.specs.Shown.{missing_in_class}
 
 demand : (given : List ℕ) (taken : ℕ) → demand_of Large (all_commands (mixed_session given taken ∷ [])) ≡ 2
 demand given taken = refl
@@ -16,10 +18,31 @@ claimed = refl
 looked : looked_at 0 mixed_end.seat.looks ≡ 0
 looked = refl
 
+needed : (given : List ℕ) (taken : ℕ) → missing_in_class Small (long_session given taken ∷ []) mixed_journal ≡ 0
+needed given taken = refl
+
+not_looked : looked_at 1 small_end.seat.looks ≡ 0
+not_looked = refl
+
+pub small_is_none : (given : List ℕ) (taken : ℕ) → SmallIsNone given taken
+small_is_none given taken = record {
+  missing = refl;
+  not_so = λ threshold counted.
+      let no : ⊥ = omega (
+        arith,
+        counted.missed_are,
+        counted.needed Small,
+        needed given taken,
+        counted.looks_large 1 (lit≤ tt) (lit≤ tt),
+        not_looked,
+      ) in
+      no;
+}
+
 pub mixed_is_none : (given : List ℕ) (taken : ℕ) → MixedIsNone given taken
 mixed_is_none given taken = record {
   missing = refl;
-  not_so = λ counted.
+  not_so = λ threshold counted.
       let no : ⊥ = omega (
         arith,
         counted.claims Large,
@@ -30,7 +53,7 @@ mixed_is_none given taken = record {
         looked,
       ) in
       no;
-  not_far = λ sessions journal counted.
+  not_far = λ threshold sessions journal counted.
       let no : ⊥ = omega (arith, counted.nearby.0) in
       no;
 }

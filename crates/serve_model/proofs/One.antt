@@ -26,7 +26,8 @@ only_text (session ∷ sessions) commands journal end text ends texts =
     sym (ap first_text texts) ∙ ap (λ (e : SessionEnd). wire_text commands journal 0 e.replies) same
 
 pub one_ran : OneRan
-one_ran books z shards list journal store given ended end seat texts spare last closed sessions parts has is =
+one_ran books z threshold shards list journal store given ended end seat texts spare last closed sessions parts has
+    is =
     let one : OneRun = record {
       given = given;
       ended = ended;
@@ -35,8 +36,8 @@ one_ran books z shards list journal store given ended end seat texts spare last 
       seat = seat;
       texts = texts;
     } in
-    let served = all_served z books.shards (one ∷ []) (has, tt) in
-    let ran = was_run books z shards (list ∷ []) journal store (given ∷ []) (ended ∷ []) (end ∷ [])
+    let served = all_served z threshold books.shards (one ∷ []) (has, tt) in
+    let ran = was_run books z threshold shards (list ∷ []) journal store (given ∷ []) (ended ∷ []) (end ∷ [])
     (seat ∷ []) closed (sym sessions) parts served.0 last spare is in (
       ran.0,
       only_text ran.0.served.sessions _ journal end (flat_map (λ text. text) texts) ran.0.served.ends_are

@@ -26,7 +26,7 @@ use Rattle.order_book.specs.Pages.{shown_shard}
 use Rattle.order_book.specs.Pages.{shown_session}
 use Rattle.order_book.specs.Rule.{Rises}
 use Rattle.order_book.specs.Closed.{AreMeant, AreRising, journal_of}
-use Rattle.order_book.specs.declared.rule.Sizes.{Sizes}
+use Rattle.order_book.specs.declared.rule.BookSizes.{BookSizes}
 use Rattle.order_book.proofs.Among.{each-among, among-each, among-map}
 use Rattle.order_book.proofs.Ordered.{entry_of, all-among, in_session, session_page_of, rising_shown}
 use Rattle.call_model.specs.Outcomes.{Outcomes, call_told}
@@ -185,7 +185,7 @@ filter-map f g [] = refl
 filter-map f g (x ∷ xs) = ap (λ l. cond (f (g x)) (g x ∷ l) l) (filter-map f g xs)
     ∙ first_kept g (f (g x)) x (filter (λ y. f (g y)) xs)
 
-module _ (books : Sizes) (served : List SessionRun) (shards : List ShardList) (sessions : List SessionList)
+module _ (books : BookSizes) (served : List SessionRun) (shards : List ShardList) (sessions : List SessionList)
     (lists : AreLists books (runs_in served) shards sessions) (some : 0 < length (journal_of shards)) where
   abbrev ps : List Page
   ps = lists.closed.shard_pages
@@ -386,7 +386,7 @@ module _ (books : Sizes) (served : List SessionRun) (shards : List ShardList) (s
   }
 
 -- without a shard there is no part
-pub one_history : (books : Sizes) (served : List SessionRun) (shards : List ShardList) (sessions : List SessionList)
+pub one_history : (books : BookSizes) (served : List SessionRun) (shards : List ShardList) (sessions : List SessionList)
     → AreLists books (runs_in served) shards sessions
     → HasOneHistory (all_commands (map session_in served)) (journal_of shards)
 one_history books served [] sessions lists = record {

@@ -13,7 +13,7 @@ use Rattle.flake_model.specs.Run.{WasServed}
 use Rattle.flake_model.specs.Session.{Session, IsSession}
 use Rattle.order_book.specs.Closed.{AreClosed, journal_of}
 use Rattle.order_book.specs.Pages.{ShardList, SessionList}
-use Rattle.order_book.specs.declared.rule.Sizes as book_sizes
+use Rattle.order_book.specs.declared.rule.BookSizes as book_sizes
 use Rattle.order_book.proofs.Ordered.{has_ranks}
 use Rattle.call_model.specs.Stock.{AreParts}
 use Rattle.serve_model.specs.Handed.{SessionRun, session_in, runs_in, OneRun, AllRun, AreServed, IsLastSeat}
@@ -38,11 +38,11 @@ ends_mapped : (all : List SessionRun)
 ends_mapped [] = refl
 ends_mapped (ran ∷ all) = ap (λ (ends : List SessionEnd). ran.run.end ∷ ends) (ends_mapped all)
 
-module _ (books : book_sizes.Sizes) (z : pool_sizes.Sizes) (shards : List ShardList) (sessions : List SessionList)
-    (journal : List (List Entry)) (store : View) (givens : List (List ℕ)) (endeds : List Bool)
-    (ends : List SessionEnd) (seats : List View) (closed : AreClosed books shards sessions)
+module _ (books : book_sizes.BookSizes) (z : pool_sizes.Sizes) (threshold : ℕ) (shards : List ShardList)
+    (sessions : List SessionList) (journal : List (List Entry)) (store : View) (givens : List (List ℕ))
+    (endeds : List Bool) (ends : List SessionEnd) (seats : List View) (closed : AreClosed books shards sessions)
     (as_many : length sessions ≡ books.sessions) (parts : AreParts z books.shards shards journal store)
-    (served : AreServed z books.shards givens endeds ends sessions seats) where
+    (served : AreServed z threshold books.shards givens endeds ends sessions seats) where
   abbrev all : List SessionRun
   all = served.all
 
@@ -88,7 +88,7 @@ module _ (books : book_sizes.Sizes) (z : pool_sizes.Sizes) (shards : List ShardL
       subst Served (sym parts.journal_is) run
 
   abbrev Ran : View → List (List Entry) → Type 0
-  Ran last j = (run : WasRun z givens endeds ends j (pool_end z last)) × AreThose all run.served.sessions j
+  Ran last j = (run : WasRun z threshold givens endeds ends j (pool_end z last)) × AreThose all run.served.sessions j
 
   pub was_run : (last : View) (spare : List View) → IsLastSeat z store spare seats last → Ran last journal
   unfolding own
@@ -96,7 +96,7 @@ module _ (books : book_sizes.Sizes) (z : pool_sizes.Sizes) (shards : List ShardL
       let run : Ran last (journal_of shards) = (
         record {
           served = own;
-          counted = counted books all shards sessions lists z store last spare seats parts.stock parts.idle
+          counted = counted books all shards sessions lists z threshold store last spare seats parts.stock parts.idle
               served.seats_are is;
         },
         record {
@@ -108,7 +108,7 @@ module _ (books : book_sizes.Sizes) (z : pool_sizes.Sizes) (shards : List ShardL
       subst (Ran last) (sym parts.journal_is) run
 
 -- the sessions' runs, one behind the other
-record HasRuns (z : pool_sizes.Sizes) (shards session : ℕ) (each : List OneRun) : Type 0 where
+record HasRuns (z : pool_sizes.Sizes) (threshold shards session : ℕ) (each : List OneRun) : Type 0 where
   all : List SessionRun
   givens_are : map (λ (one : OneRun). one.given) each ≡ map (λ (ran : SessionRun). ran.given) all
   endeds_are : map (λ (one : OneRun). one.ended) each ≡ map (λ (ran : SessionRun). ran.ended) all
@@ -116,7 +116,7 @@ record HasRuns (z : pool_sizes.Sizes) (shards session : ℕ) (each : List OneRun
   sessions_are : Each (λ (ran : SessionRun). IsSession (session_in ran)) all
   runs_are : Each IsRun (runs_in all)
   told : map (λ (one : OneRun). one.list) each ≡ lists_told shards session (runs_in all)
-  seats_are : AreSpentSeats z (runs_in all) (map (λ (one : OneRun). one.seat) each)
+  seats_are : AreSpentSeats z threshold (runs_in all) (map (λ (one : OneRun). one.seat) each)
   texts_are : texts_told (runs_in all)
       ≡ map (λ (one : OneRun). (one.end.failed, flat_map (λ text. text) one.texts)) each
   replies_are : all_texts_told (runs_in all) ≡ map (λ (one : OneRun). (one.end.failed, one.texts)) each
@@ -128,9 +128,9 @@ in_one texts = (texts.0, flat_map (λ text. text) texts.1)
 run_text_is : (run : Run) → run_text run ≡ flat_map (λ text. text) (run_texts run)
 run_text_is run = sym (flat_map-map (λ text. text) reply_text (replies_told run.commands run.calls))
 
-runs_of : (z : pool_sizes.Sizes) (shards session : ℕ) (each : List OneRun) → AllRun z shards session each
-    → HasRuns z shards session each
-runs_of z shards session [] have = record {
+runs_of : (z : pool_sizes.Sizes) (threshold shards session : ℕ) (each : List OneRun)
+    → AllRun z threshold shards session each → HasRuns z threshold shards session each
+runs_of z threshold shards session [] have = record {
   all = [];
   givens_are = refl;
   endeds_are = refl;
@@ -142,8 +142,8 @@ runs_of z shards session [] have = record {
   texts_are = refl;
   replies_are = refl;
 }
-runs_of z shards session (one ∷ each) have =
-    let rest = runs_of z shards (session + 1) each have.1 in
+runs_of z threshold shards session (one ∷ each) have =
+    let rest = runs_of z threshold shards (session + 1) each have.1 in
     let has = have.0 in
     let texts : (has.run.end.failed, run_texts has.run) ≡ (one.end.failed, one.texts) =
     λ i. ((sym has.end_is i).failed, sym has.texts_are i) in
@@ -164,8 +164,8 @@ runs_of z shards session (one ∷ each) have =
 
 -- sessions that were run one by one, or beside each other, were served
 pub all_served : ServedTogether
-all_served z shards each have =
-    let found = runs_of z shards 0 each have in (
+all_served z threshold shards each have =
+    let found = runs_of z threshold shards 0 each have in (
       record {
         all = found.all;
         givens_are = found.givens_are;

@@ -18,7 +18,7 @@ use Rattle.flake_model.specs.Session.{Session, IsSession}
 use Rattle.order_book.specs.Pages.{Ranked, Page, deed_session as own_session, ShardList, SessionList, shown_shard}
 use Rattle.order_book.specs.Closed.{AreClosed, journal_of, own_deeds, AreRising, AreMeant, AreAnswered, IsReplayed}
 use Rattle.order_book.specs.Closed.{IsShared}
-use Rattle.order_book.specs.declared.rule.Sizes.{Sizes}
+use Rattle.order_book.specs.declared.rule.BookSizes.{BookSizes}
 use Rattle.order_book.proofs.Shared.{shares}
 use Rattle.order_book.proofs.Replayed.{replays}
 use Rattle.call_model.specs.Outcomes.{call_told}
@@ -78,7 +78,7 @@ list_behind (list ∷ shards) (suc k) history is =
     record { list = rest.list; is = rest.is; history_is = rest.history_is }
 
 -- each deed of a shard names a session of the book
-abbrev AreNamed : ℕ → ShardList → Type 0
+abbrev pub AreNamed : ℕ → ShardList → Type 0
 AreNamed sessions shard = AllByRecursion (λ (entry : Entry). entry.session < sessions) (entries_of shard.told)
 
 named_on : (sessions number : ℕ) (xs : List Ranked)
@@ -93,7 +93,7 @@ named_in : (sessions : ℕ) (pages : List Page)
 named_in sessions [] each = tt
 named_in sessions (p ∷ pages) each = (named_on sessions p.number p.deeds each.0, named_in sessions pages each.1)
 
-all_named : (books : Sizes) (shards : List ShardList) (sessions : List SessionList)
+pub all_named : (books : BookSizes) (shards : List ShardList) (sessions : List SessionList)
     → AreClosed books shards sessions → Each (AreNamed books.sessions) shards
 all_named books shards sessions closed =
     subst (Each (AreNamed books.sessions)) (sym closed.shards_shown)
@@ -156,7 +156,7 @@ ran_there sessions k session is = rw is refl
 ran_past : (sessions : List Session) (k : ℕ) → slice_get sessions k ≡ None → ran_by sessions k ≡ []
 ran_past sessions k is = rw is refl
 
-module _ (books : Sizes) (all : List SessionRun) (shards : List ShardList) (sessions : List SessionList)
+module _ (books : BookSizes) (all : List SessionRun) (shards : List ShardList) (sessions : List SessionList)
     (lists : AreLists books (runs_in all) shards sessions) where
   abbrev runs : List Run
   runs = runs_in all

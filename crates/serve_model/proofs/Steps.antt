@@ -3,8 +3,9 @@ use Rattle.std.proofs.Common.{◌≡◌, ℕ, suc, ◌+◌, List, [], ◌∷◌,
 use Rattle.std.specs.List.{zip}
 use Rattle.std.proofs.lemmas.List.{append_assoc}
 use Rattle.flake_model.specs.Command.{Command, parts}
+use Rattle.call_model.specs.Demand.{call_pins}
 use Rattle.call_model.specs.Outcomes.{Outcomes, SessionDeeds, AreOutcomes, call_told, answers_told}
-use Rattle.serve_model.specs.Runs.{calls_told, AreCalls, replies_told, parts_told}
+use Rattle.serve_model.specs.Runs.{calls_told, AreCalls, replies_told, parts_told, calls_pins}
 use Rattle.serve_model.specs.Steps.{CallsAdd, FirstCalls}
 
 module _ (shards session : ℕ) where
@@ -74,10 +75,18 @@ first_parts [] rest (o ∷ calls) long = absurd (let no : ⊥ = omega arith in n
 first_parts (c ∷ given) rest (o ∷ calls) long =
     ap (λ more. zip (parts c) (answers_told o) ++ more) (first_parts given rest calls (omega arith))
 
+first_pins : (threshold : ℕ) (given rest : List Command) (calls : List Outcomes) → length calls ≡ length given
+    → calls_pins threshold (given ++ rest) calls ≡ calls_pins threshold given calls
+first_pins threshold given rest [] long = refl
+first_pins threshold [] rest (o ∷ calls) long = absurd (let no : ⊥ = omega arith in no)
+first_pins threshold (c ∷ given) rest (o ∷ calls) long =
+    ap (λ n. call_pins threshold (parts c) o + n) (first_pins threshold given rest calls (omega arith))
+
 pub first_calls : FirstCalls
 first_calls shards session given rest calls long = record {
   told = first_told shards session 0 given rest calls long;
   are = first_are given rest calls;
   replies = first_replies given rest calls long;
   parts = first_parts given rest calls long;
+  pins = λ threshold. first_pins threshold given rest calls long;
 }

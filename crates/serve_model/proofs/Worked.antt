@@ -22,15 +22,18 @@ use Rattle.flake_model.specs.Resp.{Parses, array}
 use Rattle.flake_model.specs.Session.{IsSession}
 use Rattle.flake_model.specs.Store as part
 use Rattle.flake_model.specs.Store.{answer_on}
+use Rattle.flake_model.proofs.InTurn.{read_at_once}
 use Rattle.order_book.specs.Closed.{AreClosed, journal_of}
 use Rattle.order_book.specs.Pages.{ShardList}
 use Rattle.call_model.specs.Stock.{AreParts, IsStock, fragments_left}
 use Rattle.serve_model.specs.Demand.{session_row}
 use Rattle.serve_model.specs.Handed.{SessionRun, session_in, runs_in, AreServed, IsLastSeat}
+use Rattle.serve_model.specs.Misses.{calls_needing}
 use Rattle.serve_model.specs.Runs.{IsRun, texts_told}
 use Rattle.serve_model.specs.Worked.{pool, books, key_a, bytes, place, setting, getting, setting_other, set_input}
 use Rattle.serve_model.specs.Worked.{get_input, other_input, all, shard_pages, session_pages, shards, sessions, store}
 use Rattle.serve_model.specs.Worked.{seats, last, texts, WorkedRun}
+use Rattle.serve_model.proofs.Going.{no_misses}
 use Rattle.serve_model.proofs.Ran.{was_run}
 
 away : (a b : ℕ) → (a ≡ b → ⊥) → same a b ≡ 0
@@ -211,6 +214,7 @@ sessions_are = (
     taken_is = refl;
     replied = refl;
     begun_is = refl;
+    in_turn = read_at_once _ _ (lit≤ tt);
   },
   (
     record {
@@ -223,6 +227,7 @@ sessions_are = (
       taken_is = refl;
       replied = refl;
       begun_is = refl;
+      in_turn = read_at_once _ _ (lit≤ tt);
     },
     (
       record {
@@ -235,6 +240,7 @@ sessions_are = (
         taken_is = refl;
         replied = refl;
         begun_is = refl;
+        in_turn = read_at_once _ _ (lit≤ tt);
       },
       tt,
     ),
@@ -274,7 +280,12 @@ third_looks : (b : ℕ) → b < buffers pool → looked_at b [] + missed (class_
 third_looks zero below = omega arith
 third_looks (suc b) below = absurd (let no : ⊥ = omega arith in no)
 
-served : AreServed pool 1 (map (λ (ran : SessionRun). ran.given) all) (map (λ (ran : SessionRun). ran.ended) all)
+third_needed : (class : Class)
+    → missed class ≤ calls_needing class (setting_other ∷ []) ((None ∷ []) ∷ [])
+third_needed Small = omega arith
+third_needed Large = omega arith
+
+served : AreServed pool 512 1 (map (λ (ran : SessionRun). ran.given) all) (map (λ (ran : SessionRun). ran.ended) all)
     (map (λ (ran : SessionRun). ran.run.end) all) sessions seats
 unfolding digits
 served = record {
@@ -289,10 +300,13 @@ served = record {
     record {
       holds = refl;
       sought = record {
-        missed = λ class. 0;
-        missed_are = refl;
-        claims = first_claims;
-        looks = λ b below. omega arith;
+        sought = record {
+          missed = λ class. 0;
+          missed_are = refl;
+          claims = first_claims;
+          looks = λ b below. omega arith;
+        };
+        whole = no_misses;
       };
       returned = omega arith;
     },
@@ -300,17 +314,23 @@ served = record {
       record {
         holds = refl;
         sought = record {
-          missed = λ class. 0;
-          missed_are = refl;
-          claims = second_claims;
-          looks = λ b below. omega arith;
+          sought = record {
+            missed = λ class. 0;
+            missed_are = refl;
+            claims = second_claims;
+            looks = λ b below. omega arith;
+          };
+          whole = no_misses;
         };
         returned = omega arith;
       },
       (
         record {
           holds = refl;
-          sought = record { missed = missed; missed_are = refl; claims = third_claims; looks = third_looks };
+          sought = record {
+            sought = record { missed = missed; missed_are = refl; claims = third_claims; looks = third_looks };
+            whole = record { missed = missed; missed_are = refl; within = λ class. omega arith; needed = third_needed };
+          };
           returned = omega arith;
         },
         tt,
@@ -346,7 +366,7 @@ worked = record {
   parts = parts;
   served = served;
   last_is = is_last;
-  run = (was_run books pool shards sessions (journal_of shards) store _ _ _ seats closed refl parts served last
+  run = (was_run books pool 512 shards sessions (journal_of shards) store _ _ _ seats closed refl parts served last
       [] is_last).0;
   texts_are = sent;
 }

@@ -1,5 +1,6 @@
 pub mod Runs
 pub mod Demand
+pub mod Misses
 pub mod Seats
 pub mod Going
 pub mod Steps
@@ -14,3 +15,4 @@ pub mod Cuts
 pub mod Rows
 pub mod Worked
 pub mod Mixed
+pub mod Copied

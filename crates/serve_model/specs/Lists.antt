@@ -5,10 +5,10 @@ use Rattle.view_sums.specs.Total.{Each}
 use Rattle.flake_model.specs.Deed.{IsLegal}
 use Rattle.order_book.specs.Closed.{AreClosed}
 use Rattle.order_book.specs.Pages.{ShardList, SessionList}
-use Rattle.order_book.specs.declared.rule.Sizes.{Sizes}
+use Rattle.order_book.specs.declared.rule.BookSizes.{BookSizes}
 use Rattle.serve_model.specs.Runs.{Run, IsRun, lists_told}
 
-pub record AreLists (books : Sizes) (runs : List Run) (shards : List ShardList) (sessions : List SessionList)
+pub record AreLists (books : BookSizes) (runs : List Run) (shards : List ShardList) (sessions : List SessionList)
     : Type 0 where
   -- of the closed book
   pub closed : AreClosed books shards sessions

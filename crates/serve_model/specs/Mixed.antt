@@ -1,4 +1,4 @@
--- A wrong outcome: 200 small buffers and a large one, of which two writes of a long value and one of a short value all
+-- Wrong outcomes: 200 small buffers and a large one, of which two writes of a long value and one of a short value all
 -- found the large one held, and none was stored.
 use Rattle.std.specs.Prelude.{◌≡◌, ℕ, List, [], ◌∷◌, true, false, codes, replicate}
 use Rattle.flake_base.specs.declared.journal.Entry.{Entry}
@@ -45,9 +45,33 @@ mixed_end = record {
 abbrev pub far_end : End
 far_end = record { seat = view [] 4 (201 ∷ []) [] 0 []; small = 0; large = 0 }
 
+-- a session whose only write needs a large buffer alone
+abbrev pub long_session : List ℕ → ℕ → Session
+long_session given taken = record {
+  given = given;
+  ended = true;
+  commands = long_write ∷ [];
+  end = record { end = Clean; taken = taken; replies = 1; failed = false };
+  begun = 0;
+}
+
+-- a buffer of each class, of which the small one was found held, and the large one wasn't looked at
+abbrev pub small_pool : Sizes
+small_pool = record { small = 1; large = 1; credits = 4 }
+
+abbrev pub small_end : End
+small_end = record { seat = view [] 4 (0 ∷ []) ((0, 1) ∷ []) 0 []; small = 0; large = 0 }
+
+-- The long write is missing, and it didn't miss the small buffer.
+pub record SmallIsNone (given : List ℕ) (taken : ℕ) : Type 0 where
+  pub missing : missing_writes (long_session given taken ∷ []) mixed_journal ≡ 1
+  pub not_so : (threshold : ℕ)
+      → IsCounted small_pool threshold (long_session given taken ∷ []) mixed_journal small_end → ⊥
+
 -- All three writes are missing, and such an end isn't counted right, whatever the bytes were.
 pub record MixedIsNone (given : List ℕ) (taken : ℕ) : Type 0 where
   pub missing : missing_writes (mixed_session given taken ∷ []) mixed_journal ≡ 3
-  pub not_so : IsCounted mixed_pool (mixed_session given taken ∷ []) mixed_journal mixed_end → ⊥
-  pub not_far : (sessions : List Session) (journal : List (List Entry))
-      → IsCounted mixed_pool sessions journal far_end → ⊥
+  pub not_so : (threshold : ℕ)
+      → IsCounted mixed_pool threshold (mixed_session given taken ∷ []) mixed_journal mixed_end → ⊥
+  pub not_far : (threshold : ℕ) (sessions : List Session) (journal : List (List Entry))
+      → IsCounted mixed_pool threshold sessions journal far_end → ⊥

@@ -10,18 +10,18 @@ use Rattle.flake_model.specs.Journal.{wire_text}
 use Rattle.flake_model.specs.Run.{all_commands}
 use Rattle.order_book.specs.Closed.{AreClosed}
 use Rattle.order_book.specs.Pages.{ShardList, SessionList}
-use Rattle.order_book.specs.declared.rule.Sizes as book_sizes
+use Rattle.order_book.specs.declared.rule.BookSizes as book_sizes
 use Rattle.call_model.specs.Stock.{AreParts}
 use Rattle.serve_model.specs.Handed.{SessionHasRun, IsLastSeat}
 use Rattle.serve_model.specs.Shown.{WasRun}
 
 -- The only session of a book ran: so it is a whole run, in which the journal gives its replies' texts.
 abbrev pub OneRan : Type 0
-OneRan = (books : book_sizes.Sizes) (z : pool_sizes.Sizes) (shards : List ShardList) (list : SessionList)
-    (journal : List (List Entry)) (store : View) (given : List ℕ) (ended : Bool) (end : SessionEnd) (seat : View)
-    (texts : List (List ℕ)) (spare : List View) (last : View)
+OneRan = (books : book_sizes.BookSizes) (z : pool_sizes.Sizes) (threshold : ℕ) (shards : List ShardList)
+    (list : SessionList) (journal : List (List Entry)) (store : View) (given : List ℕ) (ended : Bool)
+    (end : SessionEnd) (seat : View) (texts : List (List ℕ)) (spare : List View) (last : View)
     → AreClosed books shards (list ∷ []) → books.sessions ≡ 1 → AreParts z books.shards shards journal store
-    → SessionHasRun z books.shards 0 given ended end list seat texts
+    → SessionHasRun z threshold books.shards 0 given ended end list seat texts
     → IsLastSeat z store spare (seat ∷ []) last
-    → (run : WasRun z (given ∷ []) (ended ∷ []) (end ∷ []) journal (pool_end z last))
+    → (run : WasRun z threshold (given ∷ []) (ended ∷ []) (end ∷ []) journal (pool_end z last))
     × (flat_map (λ text. text) texts ≡ wire_text (all_commands run.served.sessions) journal 0 end.replies)

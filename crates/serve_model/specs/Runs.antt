@@ -10,6 +10,7 @@ use Rattle.flake_model.specs.Deed.{Deed}
 use Rattle.flake_model.specs.Journal.{next_parts}
 use Rattle.flake_model.specs.Session.{Session, IsBegun}
 use Rattle.order_book.specs.Pages.{SessionList}
+use Rattle.call_model.specs.Demand.{call_pins}
 use Rattle.call_model.specs.Outcomes.{Outcomes, SessionDeeds, AreOutcomes, call_told, answers_told, missed_in}
 
 -- what a session is told of its first calls, from a call on
@@ -39,6 +40,13 @@ parts_told commands [] = []
 parts_told [] (outcomes ∷ calls) = []
 parts_told (command ∷ commands) (outcomes ∷ calls) =
     zip (parts command) (answers_told outcomes) ++ parts_told commands calls
+
+-- how many holds their answers pin, with this threshold
+abbrev pub calls_pins : ℕ → List Command → List Outcomes → ℕ
+calls_pins threshold commands [] = 0
+calls_pins threshold [] (outcomes ∷ calls) = 0
+calls_pins threshold (command ∷ commands) (outcomes ∷ calls) =
+    call_pins threshold (parts command) outcomes + calls_pins threshold commands calls
 
 -- how many of them found no buffer
 abbrev pub missed_by : List Outcomes → ℕ

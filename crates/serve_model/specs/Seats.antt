@@ -1,5 +1,5 @@
 -- What seats of the pool have together, and what a session's seat has at its end.
-use Rattle.std.specs.Prelude.{◌≡◌, ℕ, ◌+◌, ◌≤◌, List, [], ◌∷◌}
+use Rattle.std.specs.Prelude.{◌≡◌, ℕ, ◌≤◌, List, [], ◌∷◌}
 use Rattle.view_sums.specs.Total.{total, SameItems}
 use Rattle.pin_core.specs.Holding.{Holding}
 use Rattle.pin_core.specs.declared.class.Class.{Class}
@@ -8,11 +8,10 @@ use Rattle.pinned_pool.specs.Moves.{joined_views}
 use Rattle.pinned_pool.specs.Sought.{Sought}
 use Rattle.pinned_pool.specs.Views.{nobody, looked_at}
 use Rattle.pinned_pool.specs.declared.view.View.{View}
-use Rattle.call_model.specs.Demand.{long_in}
-use Rattle.call_model.specs.Outcomes.{missed_in}
 use Rattle.call_model.specs.Stock.{IsIdle}
 use Rattle.serve_model.specs.Demand.{session_row}
-use Rattle.serve_model.specs.Runs.{Run, missed_by, parts_told}
+use Rattle.serve_model.specs.Misses.{SoughtByRun}
+use Rattle.serve_model.specs.Runs.{Run, calls_pins}
 
 -- the seat has what these seats have together
 pub record HasAll (seats : List View) (all : View) : Type 0 where
@@ -45,16 +44,16 @@ pub record IsSpare (seat : View) : Type 0 where
   pub idle : IsIdle seat
 
 -- A session's seat at its end: within the rows of its stage and its commands, and with a pinned hold given back for
--- each long fragment that its GETs found.
-pub record IsSpentSeat (z : Sizes) (run : Run) (seat : View) : Type 0 where
+-- each piece of its answers that has the threshold's bytes.
+pub record IsSpentSeat (z : Sizes) (threshold : ℕ) (run : Run) (seat : View) : Type 0 where
   pub holds : seat.holds ≡ []
-  pub sought : Sought z (λ (class : Class). session_row class run.commands)
-      (missed_by run.calls + missed_in run.behind) nobody seat
-  pub returned : total (λ part. long_in part.0 part.1) (parts_told run.commands run.calls) ≤ seat.returns
+  pub sought : SoughtByRun z (λ (class : Class). session_row class run.commands) run nobody seat
+  pub returned : calls_pins threshold run.commands run.calls ≤ seat.returns
 
 -- each session has its seat
-abbrev pub AreSpentSeats : Sizes → List Run → List View → Type 0
-AreSpentSeats z [] [] = Unit {0}
-AreSpentSeats z [] (seat ∷ seats) = ⊥
-AreSpentSeats z (run ∷ runs) [] = ⊥
-AreSpentSeats z (run ∷ runs) (seat ∷ seats) = IsSpentSeat z run seat × AreSpentSeats z runs seats
+abbrev pub AreSpentSeats : Sizes → ℕ → List Run → List View → Type 0
+AreSpentSeats z threshold [] [] = Unit {0}
+AreSpentSeats z threshold [] (seat ∷ seats) = ⊥
+AreSpentSeats z threshold (run ∷ runs) [] = ⊥
+AreSpentSeats z threshold (run ∷ runs) (seat ∷ seats) =
+    IsSpentSeat z threshold run seat × AreSpentSeats z threshold runs seats

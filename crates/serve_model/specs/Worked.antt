@@ -11,7 +11,7 @@ use Rattle.flake_model.specs.Journal.{shard_of}
 use Rattle.flake_model.specs.Store as part
 use Rattle.order_book.specs.Closed.{AreClosed, journal_of}
 use Rattle.order_book.specs.Pages.{Ranked, Page, page, ShardList, SessionList, shown_shard, shown_session}
-use Rattle.order_book.specs.declared.rule.Sizes as book_sizes
+use Rattle.order_book.specs.declared.rule.BookSizes as book_sizes
 use Rattle.call_model.specs.Outcomes.{PartOutcome, Outcomes, entry_at, deed_of}
 use Rattle.call_model.specs.Stock.{AreParts}
 use Rattle.serve_model.specs.Handed.{SessionRun, runs_in, AreServed, IsLastSeat}
@@ -21,7 +21,7 @@ use Rattle.serve_model.specs.Shown.{WasRun}
 abbrev pub pool : pool_sizes.Sizes
 pool = record { small = 1; large = 0; credits = 4 }
 
-abbrev pub books : book_sizes.Sizes
+abbrev pub books : book_sizes.BookSizes
 books = record { shards = 1; sessions = 3 }
 
 abbrev pub key_a : List ℕ
@@ -126,9 +126,9 @@ pub record WorkedRun : Type 0 where
   pub closed : AreClosed books shards sessions
   pub as_many : length sessions ≡ books.sessions
   pub parts : AreParts pool books.shards shards (journal_of shards) store
-  pub served : AreServed pool books.shards (map (λ (ran : SessionRun). ran.given) all)
+  pub served : AreServed pool 512 books.shards (map (λ (ran : SessionRun). ran.given) all)
       (map (λ (ran : SessionRun). ran.ended) all) (map (λ (ran : SessionRun). ran.run.end) all) sessions seats
   pub last_is : IsLastSeat pool store [] seats last
-  pub run : WasRun pool (map (λ (ran : SessionRun). ran.given) all) (map (λ (ran : SessionRun). ran.ended) all)
+  pub run : WasRun pool 512 (map (λ (ran : SessionRun). ran.given) all) (map (λ (ran : SessionRun). ran.ended) all)
       (map (λ (ran : SessionRun). ran.run.end) all) (journal_of shards) (pool_end pool last)
   pub texts_are : texts_told (runs_in all) ≡ texts

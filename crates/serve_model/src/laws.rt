@@ -1,7 +1,8 @@
 //! What the clauses of parts, calls and sessions imply together, as contracts of calls that do nothing.
 ghost use Rattle.std.specs.Prelude.{ℕ, List};
+ghost use Rattle.serve_model.specs.Copied.{CopiedIsNone};
 ghost use Rattle.serve_model.specs.Cuts.{CutsAgree};
-ghost use Rattle.serve_model.specs.Mixed.{MixedIsNone};
+ghost use Rattle.serve_model.specs.Mixed.{MixedIsNone, SmallIsNone};
 ghost use Rattle.serve_model.specs.One.{OneRan};
 ghost use Rattle.serve_model.specs.Rows.{AreRows};
 ghost use Rattle.serve_model.specs.Seats.{JoinsAdd, OneSeat, AnyOrder, IdleStarts};
@@ -121,6 +122,16 @@ pub fn worked_rows()
 /// Writes that need large buffers and writes that need small ones don't miss the same one.
 pub fn not_mixed()
     ensures { (given : List ℕ) (taken : ℕ) → MixedIsNone given taken }
+{}
+
+/// A write that needs a large buffer alone doesn't miss a small one.
+pub fn not_small()
+    ensures { (given : List ℕ) (taken : ℕ) → SmallIsNone given taken }
+{}
+
+/// Answers whose pieces have the threshold's bytes aren't copied.
+pub fn not_copied()
+    ensures { (given : List ℕ) (taken : ℕ) → CopiedIsNone given taken }
 {}
 
 /// A worked run meets all that the layers hand up, so the laws are about something.

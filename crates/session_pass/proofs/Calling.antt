@@ -18,6 +18,7 @@ use Rattle.reply_planner.specs.Parcels.{Sent}
 use Rattle.reply_planner.specs.Places.{buffer_addresses}
 use Rattle.call_model.specs.Calls.{IsExecuted, IsCutShort}
 use Rattle.call_model.specs.Outcomes.{Outcomes, call_deeds}
+use Rattle.call_model.proofs.Needed.{for_moved}
 use Rattle.session_pass.specs.Views.{SessionView}
 use Rattle.session_pass.specs.Waiting.{waiting, room_left, free_of, FitsBeside}
 use Rattle.session_pass.specs.Calls.{CallPosts, CallRefused, KeepsAll}
@@ -58,21 +59,24 @@ fits_before {n} {old} {mid} needed reaps fits = record {
 module _ {z : Sizes} {shards : ℕ} {command : Command} where
   -- the same call, from the state before the reaps
   executed_earlier : (old mid new : SessionView) (outcomes : Outcomes) (text : List ℕ) (paid : ℕ) → KeepsAll old mid
-      → IsExecuted z shards mid.pass.list.number (length mid.posted) command outcomes text paid mid.pass.list.told
-      new.pass.list.told mid.pass.seat new.pass.seat
-      → IsExecuted z shards old.pass.list.number (length old.posted) command outcomes text paid old.pass.list.told
-      new.pass.list.told old.pass.seat new.pass.seat
+      → IsExecuted z mid.pass.threshold shards mid.pass.list.number (length mid.posted) command outcomes text paid
+      mid.pass.list.told new.pass.list.told mid.pass.seat new.pass.seat
+      → IsExecuted z old.pass.threshold shards old.pass.list.number (length old.posted) command outcomes text paid
+      old.pass.list.told new.pass.list.told old.pass.seat new.pass.seat
   executed_earlier old mid new outcomes text paid keeps ran =
-      let moved = subst (λ (l : SessionList). IsExecuted z shards l.number (length old.posted) command outcomes text
+      let t = old.pass.threshold in
+      let moved = subst (λ (l : SessionList). IsExecuted z t shards l.number (length old.posted) command outcomes text
       paid l.told new.pass.list.told mid.pass.seat new.pass.seat) keeps.list
-      (subst (λ (l : List Sent). IsExecuted z shards mid.pass.list.number (length l) command outcomes text paid
-      mid.pass.list.told new.pass.list.told mid.pass.seat new.pass.seat) keeps.posted ran) in
+      (subst (λ (l : List Sent). IsExecuted z t shards mid.pass.list.number (length l) command outcomes text paid
+      mid.pass.list.told new.pass.list.told mid.pass.seat new.pass.seat) keeps.posted
+      (subst (λ (n : ℕ). IsExecuted z n shards mid.pass.list.number (length mid.posted) command outcomes text paid
+      mid.pass.list.told new.pass.list.told mid.pass.seat new.pass.seat) keeps.rest.threshold ran)) in
       record {
         running = record {
           are = moved.running.are;
           told = moved.running.told;
-          sought = sought_earlier z _ _ old.pass.seat mid.pass.seat new.pass.seat keeps.claims keeps.looks
-              moved.running.sought;
+          sought = for_moved z _ _ _ mid.pass.seat new.pass.seat old.pass.seat new.pass.seat moved.running.sought
+              keeps.claims keeps.looks refl refl;
           free = λ none. let before = moved.running.free none in (before.0 ∙ keeps.claims, before.1 ∙ keeps.looks);
         };
         whole = moved.whole;

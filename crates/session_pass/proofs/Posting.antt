@@ -177,8 +177,8 @@ module _ (z : Sizes) (shards call : ℕ) (command : Command) (pass pass' : PassV
       record {
         outcomes = ran.outcomes;
         parcel = p;
-        executed = subst (λ (k : ℕ). IsExecuted z shards pass.list.number k command ran.outcomes p.text p.paid
-            pass.list.told pass'.list.told pass.seat pass'.seat)
+        executed = subst (λ (k : ℕ). IsExecuted z pass.threshold shards pass.list.number k command ran.outcomes p.text
+            p.paid pass.list.told pass'.list.told pass.seat pass'.seat)
             call_is ran.executed;
         gone = [];
         freed_is = refl;

@@ -40,8 +40,8 @@ pub record CallPosts (z : Sizes) (shards : ℕ) (command : Command) (old new : S
     (sent stored : List Seg) : Type 0 where
   pub outcomes : Outcomes
   pub parcel : Sent
-  pub executed : IsExecuted z shards old.pass.list.number (length old.posted) command outcomes parcel.text parcel.paid
-      old.pass.list.told new.pass.list.told old.pass.seat new.pass.seat
+  pub executed : IsExecuted z old.pass.threshold shards old.pass.list.number (length old.posted) command outcomes
+      parcel.text parcel.paid old.pass.list.told new.pass.list.told old.pass.seat new.pass.seat
   -- the oldest replies were reaped, so many that the need is there, and no more
   pub gone : List Sent
   pub freed_is : length gone ≡ freed

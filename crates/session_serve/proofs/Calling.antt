@@ -12,7 +12,7 @@ use Rattle.flake_model.specs.Journal.{next_parts}
 use Rattle.flake_model.specs.Resp.{judged_bytes}
 use Rattle.flake_model.specs.Session.{IsSession}
 use Rattle.command_pump.specs.Pump.{Origin, PumpState, IsPump, HasEnded, ended_at, session_at}
-use Rattle.command_pump.proofs.Pumped.{meant, stopped_at, bounded}
+use Rattle.command_pump.proofs.Meant.{meant, stopped_at, bounded}
 use Rattle.reply_planner.specs.Parcels.{Sent, texts_in}
 use Rattle.call_model.specs.Outcomes.{Outcomes, SessionDeeds}
 use Rattle.call_model.specs.Calls.{IsExecuted, IsCutShort}
@@ -36,17 +36,18 @@ pub work-starts : (z : Sizes) (shards : ℕ) (first : SessionView) (pump : PumpS
     → IsWorking z shards first pump.origin pump.faults [] [] first pump
 work-starts z shards first pump fresh =
     let n = first.pass.list.number in
+    let t = first.pass.threshold in
     let seat = first.pass.seat in
     record {
       pump_is = fresh.unread;
       count = ap length fresh.none_posted;
       numbered = numbered-none first.posted fresh.none_posted;
-      going = subst (λ (posted : List Sent). model.IsGoing z shards n [] [] (texts_in posted)
+      going = subst (λ (posted : List Sent). model.IsGoing z t shards n [] [] (texts_in posted)
           (holds_paid posted) first.pass.list.told seat seat)
           (sym fresh.none_posted)
-          (subst (λ (told : SessionDeeds). model.IsGoing z shards n [] [] [] 0 told seat seat) (sym fresh.none_told)
-          (going_starts z shards n seat));
-      same = record { number = refl; looks = refl; stage = refl; opened = refl };
+          (subst (λ (told : SessionDeeds). model.IsGoing z t shards n [] [] [] 0 told seat seat) (sym fresh.none_told)
+          (going_starts z t shards n seat));
+      same = record { number = refl; looks = refl; stage = refl; threshold = refl; opened = refl };
     }
 
 -- what the session knows of its device doesn't matter
@@ -60,7 +61,13 @@ work-told z shards first origin before given calls session told pump w = record 
   count = w.count;
   numbered = w.numbered;
   going = w.going;
-  same = record { number = w.same.number; looks = w.same.looks; stage = w.same.stage; opened = w.same.opened };
+  same = record {
+    number = w.same.number;
+    looks = w.same.looks;
+    stage = w.same.stage;
+    threshold = w.same.threshold;
+    opened = w.same.opened;
+  };
 }
 
 -- no command more was given
@@ -76,8 +83,8 @@ work-ends z shards first origin before given calls how session old new w e = rec
   commands = given ++ e.more;
   calls = calls;
   behind = [];
-  ended = λ failed. going_ends z shards first.pass.list.number given e.more calls (texts_in session.posted)
-      (holds_paid session.posted)
+  ended = λ failed. going_ends z first.pass.threshold shards first.pass.list.number given e.more calls
+      (texts_in session.posted) (holds_paid session.posted)
       session.pass.list.told first.pass.seat session.pass.seat session.pass.list.looks
       (ended_at how new.taken (length session.posted) failed) w.going w.count;
   is_session = λ failed. subst
@@ -96,6 +103,7 @@ pub work-breaks : (z : Sizes) (shards : ℕ) (first : SessionView) (origin : Ori
     → CallRefused z shards command old new → HasStopped z shards first origin before Memory new after
 work-breaks z shards first origin before given calls command old new pump after w p r =
     let n = first.pass.list.number in
+    let t = first.pass.threshold in
     let m = meant origin before (given ++ command ∷ []) after p.0 in
     let split : (given ++ command ∷ []) ++ m.more ≡ given ++ command ∷ m.more =
     append_assoc given (command ∷ []) m.more in
@@ -116,12 +124,12 @@ work-breaks z shards first origin before given calls command old new pump after 
       calls = calls;
       behind = r.outcomes;
       ended = λ failed. subst
-          (λ (ps : List Sent). model.CallsNoMore z shards n
+          (λ (ps : List Sent). model.CallsNoMore z t shards n
           (run_of (given ++ command ∷ m.more) calls r.outcomes new.pass.list.looks Memory after.taken
           (length ps) failed)
           (texts_in ps) (holds_paid ps) new.pass.list.told first.pass.seat new.pass.seat) (sym r.posted)
-          (going_breaks z shards n given m.more calls (texts_in old.posted) (holds_paid old.posted) command r.outcomes
-          old.pass.list.told new.pass.list.told first.pass.seat
+          (going_breaks z t shards n given m.more calls (texts_in old.posted) (holds_paid old.posted) command
+          r.outcomes old.pass.list.told new.pass.list.told first.pass.seat
           old.pass.seat new.pass.seat new.pass.list.looks (ended_at Memory after.taken (length old.posted) failed)
           w.going cut w.count refl);
       is_session = λ failed. subst
@@ -140,6 +148,7 @@ work-breaks z shards first origin before given calls command old new pump after 
         number = r.rest.number ∙ w.same.number;
         looks = r.rest.looks ∙ w.same.looks;
         stage = r.rest.stage ∙ w.same.stage;
+        threshold = r.rest.threshold ∙ w.same.threshold;
         opened = r.rest.opened ∙ w.same.opened;
       };
     }
@@ -160,14 +169,17 @@ pub work-goes-on : (z : Sizes) (shards : ℕ) (first : SessionView) (origin : Or
     → CallsMore z shards first origin before given calls new after
 work-goes-on z shards first origin before given calls command old new pump after call freed sent stored w p posts =
     let n = first.pass.list.number in
+    let t = first.pass.threshold in
     let reply = posts.parcel in
-    let executed : IsExecuted z shards n (length given) command posts.outcomes reply.text reply.paid old.pass.list.told
-    new.pass.list.told old.pass.seat new.pass.seat =
-    subst (λ (k : ℕ). IsExecuted z shards k (length given) command posts.outcomes reply.text reply.paid
+    let executed : IsExecuted z t shards n (length given) command posts.outcomes reply.text reply.paid
+    old.pass.list.told new.pass.list.told old.pass.seat new.pass.seat =
+    subst (λ (k : ℕ). IsExecuted z t shards k (length given) command posts.outcomes reply.text reply.paid
     old.pass.list.told new.pass.list.told old.pass.seat new.pass.seat) w.same.number
-    (subst (λ (k : ℕ). IsExecuted z shards old.pass.list.number k command posts.outcomes reply.text reply.paid
-    old.pass.list.told new.pass.list.told old.pass.seat new.pass.seat) w.count posts.executed) in
-    let going = going_on z shards n given calls (texts_in old.posted) reply.text (holds_paid old.posted) reply.paid
+    (subst (λ (k : ℕ). IsExecuted z t shards old.pass.list.number k command posts.outcomes reply.text reply.paid
+    old.pass.list.told new.pass.list.told old.pass.seat new.pass.seat) w.count
+    (subst (λ (k : ℕ). IsExecuted z k shards old.pass.list.number (length old.posted) command posts.outcomes reply.text
+    reply.paid old.pass.list.told new.pass.list.told old.pass.seat new.pass.seat) w.same.threshold posts.executed)) in
+    let going = going_on z t shards n given calls (texts_in old.posted) reply.text (holds_paid old.posted) reply.paid
     command posts.outcomes old.pass.list.told new.pass.list.told
     first.pass.seat old.pass.seat new.pass.seat w.going executed in
     let more = old.posted ++ reply ∷ [] in
@@ -187,19 +199,20 @@ work-goes-on z shards first origin before given calls command old new pump after
         numbered = subst AreNumberedByPlace (sym posts.posted)
             (numbered-more old.posted reply w.numbered (posts.numbered ∙ posts.call_is));
         going = subst
-            (λ (ps : List Sent). model.IsGoing z shards n (given ++ command ∷ []) (calls ++ posts.outcomes ∷ [])
+            (λ (ps : List Sent). model.IsGoing z t shards n (given ++ command ∷ []) (calls ++ posts.outcomes ∷ [])
             (texts_in ps) (holds_paid ps) new.pass.list.told first.pass.seat new.pass.seat)
             (sym posts.posted)
-            (subst (λ (t : List (List ℕ)). model.IsGoing z shards n (given ++ command ∷ [])
-            (calls ++ posts.outcomes ∷ []) t (holds_paid more) new.pass.list.told first.pass.seat new.pass.seat)
+            (subst (λ (l : List (List ℕ)). model.IsGoing z t shards n (given ++ command ∷ [])
+            (calls ++ posts.outcomes ∷ []) l (holds_paid more) new.pass.list.told first.pass.seat new.pass.seat)
             (sym (texts-more old.posted reply))
-            (subst (λ (k : ℕ). model.IsGoing z shards n (given ++ command ∷ []) (calls ++ posts.outcomes ∷ [])
+            (subst (λ (k : ℕ). model.IsGoing z t shards n (given ++ command ∷ []) (calls ++ posts.outcomes ∷ [])
             (texts_in old.posted ++ reply.text ∷ []) k new.pass.list.told first.pass.seat new.pass.seat)
             (sym (paid-more old.posted reply)) going));
         same = record {
           number = posts.rest.number ∙ w.same.number;
           looks = posts.rest.looks ∙ w.same.looks;
           stage = posts.rest.stage ∙ w.same.stage;
+          threshold = posts.rest.threshold ∙ w.same.threshold;
           opened = posts.rest.opened ∙ w.same.opened;
         };
       };

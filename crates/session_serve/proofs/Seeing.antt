@@ -31,31 +31,33 @@ pub work-sees : (z : Sizes) (shards : ℕ) (first : SessionView) (origin : Origi
     → IsWorking z shards (as_seeing new.pass.list first) origin before given calls new pump
 work-sees z shards first origin before given calls old new pump sees w =
     let n = first.pass.list.number in
+    let t = first.pass.threshold in
     record {
       pump_is = w.pump_is;
       count = ap (λ (s : SessionView). length s.posted) sees.rest ∙ w.count;
       numbered = subst (λ (s : SessionView). AreNumberedByPlace s.posted) (sym sees.rest) w.numbered;
-      going = subst (λ (told : SessionDeeds). model.IsGoing z shards n given calls (texts_in new.posted)
+      going = subst (λ (told : SessionDeeds). model.IsGoing z t shards n given calls (texts_in new.posted)
           (holds_paid new.posted) told first.pass.seat new.pass.seat) (sym sees.deeds.told)
-          (subst (λ (s : SessionView). model.IsGoing z shards n given calls (texts_in s.posted)
+          (subst (λ (s : SessionView). model.IsGoing z t shards n given calls (texts_in s.posted)
           (holds_paid s.posted) old.pass.list.told first.pass.seat s.pass.seat) (sym sees.rest) w.going);
       same = record {
         number = sees.deeds.number ∙ w.same.number;
         looks = refl;
         stage = ap (λ (s : SessionView). s.pass.stage) sees.rest ∙ w.same.stage;
+        threshold = ap (λ (s : SessionView). s.pass.threshold) sees.rest ∙ w.same.threshold;
         opened = ap (λ (s : SessionView). s.opened) sees.rest ∙ w.same.opened;
       };
     }
 
 -- what it has seen doesn't matter
-no_more-looks : (z : Sizes) (shards n : ℕ) (commands : List Command) (calls : List Outcomes) (behind : Outcomes)
+no_more-looks : (z : Sizes) (t shards n : ℕ) (commands : List Command) (calls : List Outcomes) (behind : Outcomes)
     (looks more : List ShardSeen) (how : End) (taken replies : ℕ) (failed : Bool) (texts : List (List ℕ)) (pins : ℕ)
     (told : SessionDeeds) (opened seat : View)
-    → model.CallsNoMore z shards n (run_of commands calls behind looks how taken replies failed) texts pins told opened
-    seat
-    → model.CallsNoMore z shards n (run_of commands calls behind more how taken replies failed) texts pins told opened
-    seat
-no_more-looks z shards n commands calls behind looks more how taken replies failed texts pins told opened seat c =
+    → model.CallsNoMore z t shards n (run_of commands calls behind looks how taken replies failed) texts pins told
+    opened seat
+    → model.CallsNoMore z t shards n (run_of commands calls behind more how taken replies failed) texts pins told
+    opened seat
+no_more-looks z t shards n commands calls behind looks more how taken replies failed texts pins told opened seat c =
     record {
       is_run = record {
         replies_are = c.is_run.replies_are;
@@ -65,7 +67,7 @@ no_more-looks z shards n commands calls behind looks more how taken replies fail
       };
       told_is = c.told_is;
       texts_are = c.texts_are;
-      sought = c.sought;
+      sought = record { sought = c.sought.sought; whole = c.sought.whole };
       pinned = c.pinned;
     }
 
@@ -76,6 +78,7 @@ pub stopped-sees : (z : Sizes) (shards : ℕ) (first : SessionView) (origin : Or
     → HasStopped z shards (as_seeing new.pass.list first) origin before how new pump
 stopped-sees z shards first origin before how old new pump sees s =
     let n = first.pass.list.number in
+    let t = first.pass.threshold in
     let opened = first.pass.seat in
     let run : SessionView → Bool → Run = λ v failed. run_of s.commands s.calls s.behind new.pass.list.looks how
     pump.taken (length v.posted) failed in
@@ -86,11 +89,11 @@ stopped-sees z shards first origin before how old new pump sees s =
       commands = s.commands;
       calls = s.calls;
       behind = s.behind;
-      ended = λ failed. subst (λ (told : SessionDeeds). model.CallsNoMore z shards n (run new failed)
+      ended = λ failed. subst (λ (told : SessionDeeds). model.CallsNoMore z t shards n (run new failed)
           (texts_in new.posted) (holds_paid new.posted) told opened new.pass.seat) (sym sees.deeds.told)
-          (subst (λ (v : SessionView). model.CallsNoMore z shards n (run v failed) (texts_in v.posted)
+          (subst (λ (v : SessionView). model.CallsNoMore z t shards n (run v failed) (texts_in v.posted)
           (holds_paid v.posted) old.pass.list.told opened v.pass.seat) (sym sees.rest)
-          (no_more-looks z shards n s.commands s.calls s.behind old.pass.list.looks new.pass.list.looks how pump.taken
+          (no_more-looks z t shards n s.commands s.calls s.behind old.pass.list.looks new.pass.list.looks how pump.taken
           (length old.posted) failed (texts_in old.posted) (holds_paid old.posted) old.pass.list.told opened
           old.pass.seat (s.ended failed)));
       is_session = λ failed. subst (λ (v : SessionView). IsSession (session_of pump.given pump.ended (run v failed)))
@@ -100,6 +103,7 @@ stopped-sees z shards first origin before how old new pump sees s =
         number = sees.deeds.number ∙ s.same.number;
         looks = refl;
         stage = ap (λ (v : SessionView). v.pass.stage) sees.rest ∙ s.same.stage;
+        threshold = ap (λ (v : SessionView). v.pass.threshold) sees.rest ∙ s.same.threshold;
         opened = ap (λ (v : SessionView). v.opened) sees.rest ∙ s.same.opened;
       };
     }

@@ -54,10 +54,11 @@ holds-none z first session pump seat mine fresh stage opened left =
 ran-so : (z : Sizes) (shards : ℕ) (first session : SessionView) (unread pump : PumpState) (how : End) (failed : Bool)
     (seat : View) (mine : SessionList) → IsFresh z first unread
     → HasStopped z shards first unread.origin unread.faults how session pump → IsLeft session seat mine
-    → SessionHasRun z shards first.pass.list.number pump.given pump.ended
+    → SessionHasRun z first.pass.threshold shards first.pass.list.number pump.given pump.ended
     (ended_at how pump.taken (length session.posted) failed) mine seat (texts_in session.posted)
 ran-so z shards first session unread pump how failed seat mine fresh s left =
     let n = first.pass.list.number in
+    let t = first.pass.threshold in
     let last = session.pass.seat in
     let run = run_of s.commands s.calls s.behind session.pass.list.looks how pump.taken (length session.posted) failed
     in
@@ -68,10 +69,11 @@ ran-so z shards first session unread pump how failed seat mine fresh s left =
     let told : session.pass.list.told ≡ mine.told = ap (λ (l : SessionList). l.told) (sym left.list) in
     let list : record { number = n; told = mine.told; looks = run.looks } ≡ mine =
     λ i. record { number = sym number i; told = mine.told; looks = sym looks i } in
-    subst (λ (l : SessionList). SessionHasRun z shards n pump.given pump.ended run.end l seat texts) list
-    (session_ran z shards n pump.given pump.ended run texts pins mine.told first.opened last seat fresh.claimed
-    (subst (λ (v : View). CallsNoMore z shards n run texts pins mine.told v last) (sym fresh.opened)
-    (subst (λ (t : SessionDeeds). CallsNoMore z shards n run texts pins t first.pass.seat last) told (s.ended failed)))
+    subst (λ (l : SessionList). SessionHasRun z t shards n pump.given pump.ended run.end l seat texts) list
+    (session_ran z t shards n pump.given pump.ended run texts pins mine.told first.opened last seat fresh.claimed
+    (subst (λ (v : View). CallsNoMore z t shards n run texts pins mine.told v last) (sym fresh.opened)
+    (subst (λ (told : SessionDeeds). CallsNoMore z t shards n run texts pins told first.pass.seat last) told
+    (s.ended failed)))
     (record {
       holds = holds-none z first session unread seat mine fresh s.same.stage s.same.opened left;
       claims = left.claims;
@@ -148,15 +150,16 @@ module _
   served-so z shards first session unread pump how end bytes between seat mine given ended old middle new fresh stopped
       is_left end_is given_is ended_is forwards flushed whole =
       let n = first.pass.list.number in
+      let t = first.pass.threshold in
       let texts = texts_in session.posted in
       let sent : each_as_sent mtu session.posted ≡ all_as_sent mtu texts = each-all mtu session.posted
       stopped.numbered in
       record {
         texts = texts;
-        ran = subst (λ (e : SessionEnd). SessionHasRun z shards n given ended e mine seat texts) (sym end_is)
-            (subst (λ (l : List ℕ). SessionHasRun z shards n l ended
+        ran = subst (λ (e : SessionEnd). SessionHasRun z t shards n given ended e mine seat texts) (sym end_is)
+            (subst (λ (l : List ℕ). SessionHasRun z t shards n l ended
             (ended_at how pump.taken (length session.posted) end.failed) mine seat texts) (sym given_is)
-            (subst (λ (b : Bool). SessionHasRun z shards n pump.given b
+            (subst (λ (b : Bool). SessionHasRun z t shards n pump.given b
             (ended_at how pump.taken (length session.posted) end.failed) mine seat texts) (sym ended_is)
             (ran-so z shards (as_seeing session.pass.list first) session unread pump how end.failed seat mine
             (fresh-as_seeing z session.pass.list first unread fresh) stopped is_left)));

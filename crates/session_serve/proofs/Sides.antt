@@ -91,20 +91,22 @@ pub work-rests : (z : Sizes) (shards : ℕ) (first : SessionView) (origin : Orig
 work-rests z shards first origin before given calls old new pump waited w =
     let k = waited.keeps in
     let n = first.pass.list.number in
+    let t = first.pass.threshold in
     record {
       pump_is = w.pump_is;
       count = ap length k.posted ∙ w.count;
       numbered = subst AreNumberedByPlace (sym k.posted) w.numbered;
-      going = subst (λ (ps : List Sent). model.IsGoing z shards n given calls (texts_in ps)
+      going = subst (λ (ps : List Sent). model.IsGoing z t shards n given calls (texts_in ps)
           (holds_paid ps) new.pass.list.told first.pass.seat new.pass.seat) (sym k.posted)
-          (subst (λ (l : SessionList). model.IsGoing z shards n given calls (texts_in old.posted)
+          (subst (λ (l : SessionList). model.IsGoing z t shards n given calls (texts_in old.posted)
           (holds_paid old.posted) l.told first.pass.seat new.pass.seat) (sym k.list)
-          (going_rests z shards n given calls (texts_in old.posted) (holds_paid old.posted) old.pass.list.told
+          (going_rests z t shards n given calls (texts_in old.posted) (holds_paid old.posted) old.pass.list.told
           first.pass.seat old.pass.seat new.pass.seat k.claims k.looks w.going));
       same = record {
         number = k.rest.number ∙ w.same.number;
         looks = k.rest.looks ∙ w.same.looks;
         stage = k.rest.stage ∙ w.same.stage;
+        threshold = k.rest.threshold ∙ w.same.threshold;
         opened = k.rest.opened ∙ w.same.opened;
       };
     }

@@ -27,7 +27,7 @@ module _
   pub record IsServed (z : Sizes) (shards : ℕ) (session : SessionView) (given : List ℕ) (ended : Bool)
       (end : SessionEnd) (bytes : ℕ) (list : SessionList) (last : View) (old new : W) : Type 0 where
     pub texts : List (List ℕ)
-    pub ran : SessionHasRun z shards session.pass.list.number given ended end list last texts
+    pub ran : SessionHasRun z session.pass.threshold shards session.pass.list.number given ended end list last texts
     pub sends : SendsOut put_may flush_may false end.failed (joined (all_as_sent mtu texts)) old new
     pub whole : SentWhole put_may flush_may end.failed (all_as_sent mtu texts) texts bytes old new
 

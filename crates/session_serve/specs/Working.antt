@@ -62,6 +62,7 @@ pub record IsSame (first session : SessionView) : Type 0 where
   pub number : session.pass.list.number ≡ first.pass.list.number
   pub looks : session.pass.list.looks ≡ first.pass.list.looks
   pub stage : session.pass.stage ≡ first.pass.stage
+  pub threshold : session.pass.threshold ≡ first.pass.threshold
   pub opened : session.opened ≡ first.opened
 
 -- Of a source with this origin, and from a count of faults on, these commands were given and called, with these
@@ -71,8 +72,8 @@ pub record IsWorking (z : Sizes) (shards : ℕ) (first : SessionView) (origin : 
   pub pump_is : IsPump origin before given pump
   pub count : length session.posted ≡ length given
   pub numbered : AreNumberedByPlace session.posted
-  pub going : model.IsGoing z shards first.pass.list.number given calls (texts_in session.posted)
-      (holds_paid session.posted) session.pass.list.told first.pass.seat session.pass.seat
+  pub going : model.IsGoing z first.pass.threshold shards first.pass.list.number given calls
+      (texts_in session.posted) (holds_paid session.posted) session.pass.list.told first.pass.seat session.pass.seat
   pub same : IsSame first session
 
 -- one command more
@@ -101,7 +102,7 @@ pub record HasStopped (z : Sizes) (shards : ℕ) (first : SessionView) (origin :
   pub commands : List Command
   pub calls : List Outcomes
   pub behind : Outcomes
-  pub ended : (failed : Bool) → model.CallsNoMore z shards first.pass.list.number
+  pub ended : (failed : Bool) → model.CallsNoMore z first.pass.threshold shards first.pass.list.number
       (run_of commands calls behind session.pass.list.looks how pump.taken (length session.posted) failed)
       (texts_in session.posted) (holds_paid session.posted) session.pass.list.told first.pass.seat session.pass.seat
   pub is_session : (failed : Bool) → IsSession (session_of pump.given pump.ended

@@ -8,7 +8,6 @@ use Rattle.std.specs.Result.{IfOk, IfErr, OnErr}
 use Rattle.std.specs.Ordering.{nat_cmp, eq_by_cmp}
 use Rattle.std.specs.Cmp.Lexicographic.{slice_cmp, nat_list_cmp_total, nat_list_eq_equiv, texts_ties, bytes_decides}
 use Rattle.std.specs.FinMap as finite
-use Rattle.pin_core.specs.Holding.{Holding}
 use Rattle.pin_core.specs.declared.sizes.Sizes.{Sizes}
 use Rattle.pin_core.specs.declared.class.Class.{Class}
 use Rattle.pinned_pool.specs.Addresses.{address_of}
@@ -40,6 +39,7 @@ use Rattle.shard_core.specs.Moved.{IsCarried, IsLonger}
 use Rattle.shard_core.specs.Paid.{IsPaid, WhyPartRefused, WhyUnadded}
 use Rattle.shard_core.specs.Pieces.{segs_at, size_stored, answer_pieces}
 use Rattle.shard_core.specs.Done.{IsDone}
+use Rattle.shard_core.specs.ShardMaps.{ShardState}
 use Rattle.shard_core.specs.declared.answer.PartAnswer.{PartAnswer}
 use Rattle.shard_core.specs.declared.answer.PartAnswer.TheVariants as say
 use Rattle.shard_core.proofs.Changed.{Put}
@@ -110,16 +110,17 @@ none_told (unadded.TooLong n) = refl
 none_told (unadded.NoBuffer none) = refl
 none_told unadded.Memory = refl
 
-module _ (z : Sizes) (key bytes : List ℕ) (s : Store) (p : Places) (now : Entries) (holds : List Holding)
-    (segs0 segs1 : List Seg) (t : List TakenPiece) (o : Option (List ℕ)) (there : finite.get s key ≡ o) where
+module _ (z : Sizes) (key bytes : List ℕ) (s : Store) (p : Places) (before after : ShardState)
+    (untaken : after.taken ≡ before.taken) (o : Option (List ℕ)) (there : finite.get s key ≡ o) where
   -- an append that is done
   pub add_done : (n : ℕ) (v : Frags) → n ≡ length (bytes_of o ++ bytes) → length (bytes_of o ++ bytes) ≤ value_limit
       → IsCut (length (bytes_of o ++ bytes)) v
       → take (kept_fragments (bytes_of o) (append key bytes)) (value_addresses z v)
       ≡ take (kept_fragments (bytes_of o) (append key bytes)) (places_at p key)
-      → segs1 ≡ segs0 ++ segs_of z v
-      → Agrees z now holds (finite.insert s key (bytes_of o ++ bytes)) (finite.insert p key (value_addresses z v))
-      → IsDone z (append key bytes) s p now holds (say.Length n) segs0 segs1 t t
+      → after.stored ≡ before.stored ++ segs_of z v
+      → Agrees z after.shard.entries after.shard.seat.holds (finite.insert s key (bytes_of o ++ bytes))
+      (finite.insert p key (value_addresses z v))
+      → IsDone z (append key bytes) s p (say.Length n) before after
   add_done n v size fits cut kept segs agrees =
       let whole : List ℕ = bytes_of o ++ bytes in
       let stored : List ℕ = value_addresses z v in
@@ -134,30 +135,31 @@ module _ (z : Sizes) (key bytes : List ℕ) (s : Store) (p : Places) (now : Entr
       record {
         stored = stored;
         says = ap (λ (m : ℕ). say.Length m) size ∙ ap answer_shown (sym answer_is);
-        agrees = subst (λ what. Agrees z now holds (changed s key what) (places_with p key what stored))
-            (sym change_is) agrees;
+        agrees = subst (λ what. Agrees z after.shard.entries after.shard.seat.holds (changed s key what)
+            (places_with p key what stored)) (sym change_is) agrees;
         stored_is = subst (λ (y : Option (List ℕ) × Change). AreStored y.1
             (kept_fragments (bytes_of y.0) (append key bytes)) (places_at p key) stored)
             (λ i. (sym there i, sym change_is i)) (count-addresses z whole v cut, kept);
-        segs_are = segs ∙ ap (λ l. segs0 ++ l)
+        segs_are = segs ∙ ap (λ l. before.stored ++ l)
             (segs-cut z (length whole) v cut ∙ ap (λ a. segs_at stored (size_stored (append key bytes) a))
             (sym answer_is));
-        pieces = sym (append-nil t) ∙ ap (λ a. t ++ answer_pieces (append key bytes) a (places_at p key) 0)
-            (sym answer_is);
+        pieces = untaken ∙ sym (append-nil before.taken)
+            ∙ ap (λ a. before.taken ++ answer_pieces (append key bytes) a (places_at p key) 0) (sym answer_is);
       }
 
   -- and one that would be too long
-  pub add_refused : value_limit < length (bytes_of o ++ bytes) → segs1 ≡ segs0 → Agrees z now holds s p
-      → IsDone z (append key bytes) s p now holds say.TooLong segs0 segs1 t t
+  pub add_refused : value_limit < length (bytes_of o ++ bytes) → after.stored ≡ before.stored
+      → Agrees z after.shard.entries after.shard.seat.holds s p
+      → IsDone z (append key bytes) s p say.TooLong before after
   add_refused long segs agrees =
       let no : nat_le (length (bytes_of (finite.get s key) ++ bytes)) value_limit ≡ false =
       ap (λ q. nat_le (length (bytes_of q ++ bytes)) value_limit) there
       ∙ false_from_ne_true _
       (λ e. absurd (omega (arith, long, leb-true (length (bytes_of o ++ bytes)) value_limit e))) in
-      same_done z (append key bytes) s p now holds say.TooLong segs0 segs1 t t too_long
+      same_done z (append key bytes) s p say.TooLong before after too_long
       (ap (λ b. cond b (puts (bytes_of (finite.get s key) ++ bytes)) keeps) no)
       (ap (λ b. cond b (length_is (length (bytes_of (finite.get s key) ++ bytes))) too_long) no) refl agrees segs
-      (sym (append-nil t))
+      (untaken ∙ sym (append-nil before.taken))
 
 -- maps that change at one key twice
 tied : (bs cs : List ℕ) → eq_by_cmp (slice_cmp nat_cmp) cs bs ≡ same_bytes bs cs
@@ -247,12 +249,30 @@ module _ (z : Sizes) (key : List ℕ) (es es1 now : Entries) (own new : View) (v
   old_size : length (value_bytes own.holds v) ≡ size_of v
   old_size = length-bytes-value own.holds v (has_found z es [] own.holds kept.held key v there).filled
 
-  pub more_refused : (bytes : List ℕ) (segs0 segs1 : List Seg) → w ≡ v → value_bytes new.holds v
+  -- what stands before and after, with these segments and pieces
+  abbrev pub before_it : View → List Seg → List TakenPiece → ShardState
+  before_it payer segs t = record {
+    shard = record { entries = es; seat = own };
+    payer = payer;
+    stored = segs;
+    taken = t;
+  }
+
+  abbrev pub behind_it : View → List Seg → List TakenPiece → ShardState
+  behind_it payer segs t = record {
+    shard = record { entries = now; seat = new };
+    payer = payer;
+    stored = segs;
+    taken = t;
+  }
+
+  pub more_refused : (payer after : View) (bytes : List ℕ) (segs0 segs1 : List Seg) → w ≡ v → value_bytes new.holds v
       ≡ value_bytes own.holds v → 65536 < size_of v + length bytes → segs1 ≡ segs0
       → (s : Store) (p : Places) (t : List TakenPiece) → Agrees z es own.holds s p
-      → IsDone z (append key bytes) s p now new.holds say.TooLong segs0 segs1 t t
-  more_refused bytes segs0 segs1 same text long segs s p t a =
-      add_refused z key bytes s p now new.holds segs0 segs1 t (Some (value_bytes own.holds v)) (old_bytes s p a)
+      → IsDone z (append key bytes) s p say.TooLong (before_it payer segs0 t) (behind_it after segs1 t)
+  more_refused payer after bytes segs0 segs1 same text long segs s p t a =
+      add_refused z key bytes s p (before_it payer segs0 t) (behind_it after segs1 t) refl
+      (Some (value_bytes own.holds v)) (old_bytes s p a)
       (omega (arith, long, old_size, length-append (value_bytes own.holds v) bytes)) segs
       (restored_same same text s p a)
 
@@ -260,13 +280,16 @@ module _ (z : Sizes) (key : List ℕ) (es es1 now : Entries) (own new : View) (v
       (r : Result PartAnswer PlaceError) → r ≡ outcome_of e → WhyUnadded z v bytes e payer after → w ≡ v
       → value_bytes new.holds v ≡ value_bytes own.holds v → (s : Store) (p : Places) (t : List TakenPiece)
       → Agrees z es own.holds s p
-      → IfOk r (λ said. IsDone z (append key bytes) s p now new.holds said segs segs t t)
+      → IfOk r (λ said. IsDone z (append key bytes) s p said (before_it payer segs t) (behind_it after segs t))
   more_back payer after bytes segs e r is why same text s p t a =
-      subst (λ x. IfOk x (λ said. IsDone z (append key bytes) s p now new.holds said segs segs t t)) (sym is) (by e why)
+      subst (λ x. IfOk x
+      (λ said. IsDone z (append key bytes) s p said (before_it payer segs t) (behind_it after segs t)))
+      (sym is) (by e why)
     where
       by : (e : AppendError) → WhyUnadded z v bytes e payer after
-          → IfOk (outcome_of e) (λ said. IsDone z (append key bytes) s p now new.holds said segs segs t t)
-      by (unadded.TooLong n) why = more_refused bytes segs segs same text why.0 refl s p t a
+          → IfOk (outcome_of e)
+          (λ said. IsDone z (append key bytes) s p said (before_it payer segs t) (behind_it after segs t))
+      by (unadded.TooLong n) why = more_refused payer after bytes segs segs same text why.0 refl s p t a
       by (unadded.NoBuffer none) why = tt
       by unadded.Memory why = tt
 
@@ -283,11 +306,11 @@ module _ (z : Sizes) (key : List ℕ) (es es1 now : Entries) (own new : View) (v
       ap (λ l. take n (value_addresses z l)) is ∙ ap (take n) (map-append (λ (q : ℕ × ℕ). address_of z q.0) x y)
       ∙ take_at (value_addresses z x) (value_addresses z y) n (length-map x ∙ sym size)
 
-  pub more_done : (bytes : List ℕ) (segs0 segs1 : List Seg) (n : ℕ) → IsValue z v
+  pub more_done : (payer after : View) (bytes : List ℕ) (segs0 segs1 : List Seg) (n : ℕ) → IsValue z v
       → IsLonger v w bytes own.holds new.holds → n ≡ size_of w → segs1 ≡ segs0 ++ segs_of z w
       → (s : Store) (p : Places) (t : List TakenPiece) → Agrees z es own.holds s p
-      → IsDone z (append key bytes) s p now new.holds (say.Length n) segs0 segs1 t t
-  more_done bytes segs0 segs1 n value longer size segs s p t a =
+      → IsDone z (append key bytes) s p (say.Length n) (before_it payer segs0 t) (behind_it after segs1 t)
+  more_done payer after bytes segs0 segs1 n value longer size segs s p t a =
       let old : List ℕ = value_bytes own.holds v in
       let whole : List ℕ = old ++ bytes in
       let long : size_of w ≡ length whole = sym (length-bytes-value new.holds w carried.filled)
@@ -297,7 +320,8 @@ module _ (z : Sizes) (key : List ℕ) (es es1 now : Entries) (own new : View) (v
       omega (arith, old_size, ps.size, size-full (whole_fragments v) (full-are v)) in
       let places : places_at p key ≡ value_addresses z v = places_of z es own.holds s p key a
       ∙ ap (λ o. value_addresses z (frags_of o)) there in
-      add_done z key bytes s p now new.holds segs0 segs1 t (Some old) (old_bytes s p a) n w (size ∙ long)
+      add_done z key bytes s p (before_it payer segs0 t) (behind_it after segs1 t) refl (Some old) (old_bytes s p a)
+      n w (size ∙ long)
       (omega (arith, longer.few, old_size, length-append old bytes)) (subst (λ m. IsCut m w) long carried.value.cut)
       (kept_as key old bytes (value_addresses z w) (places_at p key)
       (λ none. ap (value_addresses z) (longer.same none) ∙ sym places)

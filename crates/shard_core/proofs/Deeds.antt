@@ -5,19 +5,20 @@ use Rattle.std.specs.Option.{option_map}
 use Rattle.std.specs.FinMap as finite
 use Rattle.pin_core.specs.Holding.{Holding}
 use Rattle.pin_core.specs.declared.sizes.Sizes.{Sizes}
-use Rattle.flake_base.specs.declared.segment.Seg.{Seg}
 use Rattle.flake_model.specs.Store.{Store, When, always, if_missing, if_present, Operation, set, Answer, keeps, puts}
 use Rattle.flake_model.specs.Store.{removes, found, done, missing, stores, key_of, answer, change_by, changed, bytes_at}
 use Rattle.flake_model.specs.Store.{first_at}
 use Rattle.flake_model.specs.Deed.{Places, places_at, places_with, kept_fragments, AreStored}
 use Rattle.frag_value.specs.Values.{IsCut, value_bytes}
-use Rattle.frag_value.specs.Taken.{entire, TakenPiece}
+use Rattle.frag_value.specs.Taken.{entire}
 use Rattle.shard_core.specs.Kept.{Entries, value_at, frags_of, bytes_kept, Agrees, value_addresses, segs_of}
 use Rattle.frag_value.specs.Values.{Frags}
 use Rattle.shard_core.specs.Answers.{answer_shown, old_answer}
 use Rattle.shard_core.specs.Pieces.{pieces_at, answer_pieces}
 use Rattle.shard_core.specs.Done.{IsDone}
+use Rattle.shard_core.specs.ShardMaps.{ShardState}
 use Rattle.shard_core.specs.declared.answer.PartAnswer.{PartAnswer}
+use Rattle.shard_core.specs.declared.answer.PartAnswer.TheVariants as say
 use Rattle.shard_core.proofs.Holds.{places_of}
 use Rattle.shard_core.proofs.Runs.{segs-cut, count-addresses}
 
@@ -42,18 +43,25 @@ over_pieces if_missing true key bytes None were e = refl
 over_pieces if_missing false key bytes None were e = refl
 over_pieces if_missing asks key bytes (Some v) were e = absurd (cc)
 
-module _ (z : Sizes) (w : When) (asks : Bool) (key bytes : List ℕ) (s : Store) (p : Places) (es now : Entries)
-    (hs mid holds : List Holding) (said : PartAnswer) (segs0 segs1 : List Seg) (t0 t1 : List TakenPiece)
-    (a : Agrees z es hs s p) where
+module _ (z : Sizes) (w : When) (asks : Bool) (key bytes : List ℕ) (s : Store) (p : Places) (said : PartAnswer)
+    (before after : ShardState) (mid : List Holding)
+    (a : Agrees z before.shard.entries before.shard.seat.holds s p) where
+  abbrev pub es : Entries
+  es = before.shard.entries
+
+  abbrev pub hs : List Holding
+  hs = before.shard.seat.holds
+
   -- a set that stores
   pub set_done : (old : Option Frags) (v : Frags) → stores w (bytes_kept key es hs) ≡ true → old ≡ value_at key es
       → value_bytes mid (frags_of old) ≡ value_bytes hs (frags_of old)
       → said ≡ answer_shown (old_answer asks (option_map (value_bytes mid) old))
-      → t1 ≡ t0 ++ pieces_at entire true (old_answer asks (option_map (value_bytes mid) old))
+      → after.taken ≡ before.taken ++ pieces_at entire true (old_answer asks (option_map (value_bytes mid) old))
       (value_addresses z (frags_of old)) 0
-      → segs1 ≡ segs0 ++ segs_of z v → IsCut (length bytes) v
-      → Agrees z now holds (finite.insert s key bytes) (finite.insert p key (value_addresses z v))
-      → IsDone z (set w asks key bytes) s p now holds said segs0 segs1 t0 t1
+      → after.stored ≡ before.stored ++ segs_of z v → IsCut (length bytes) v
+      → Agrees z after.shard.entries after.shard.seat.holds (finite.insert s key bytes)
+      (finite.insert p key (value_addresses z v))
+      → IsDone z (set w asks key bytes) s p said before after
   set_done old v does was same says taken segs cut agrees =
       let stored : List ℕ = value_addresses z v in
       let there : option_map (value_bytes mid) old ≡ finite.get s key = same_old (value_bytes mid)
@@ -66,34 +74,36 @@ module _ (z : Sizes) (w : When) (asks : Bool) (key bytes : List ℕ) (s : Store)
       record {
         stored = stored;
         says = says ∙ ap (λ o. answer_shown (old_answer asks o)) there ∙ ap answer_shown (sym answer_is);
-        agrees = subst (λ what. Agrees z now holds (changed s key what) (places_with p key what stored))
-            (sym change_is) agrees;
+        agrees = subst (λ what. Agrees z after.shard.entries after.shard.seat.holds (changed s key what)
+            (places_with p key what stored)) (sym change_is) agrees;
         stored_is = subst (λ what. AreStored what 0 (places_at p key) stored) (sym change_is)
             (count-addresses z bytes v cut, refl);
-        segs_are = segs ∙ ap (λ l. segs0 ++ l) (segs-cut z (length bytes) v cut);
-        pieces = taken ∙ ap (λ l. t0 ++ l) ((λ i. pieces_at entire true (old_answer asks (there i)) (sym places i) 0)
+        segs_are = segs ∙ ap (λ l. before.stored ++ l) (segs-cut z (length bytes) v cut);
+        pieces = taken
+            ∙ ap (λ l. before.taken ++ l) ((λ i. pieces_at entire true (old_answer asks (there i)) (sym places i) 0)
             ∙ over_pieces w asks key bytes (finite.get s key) (places_at p key) yes
             ∙ ap (λ x. answer_pieces (set w asks key bytes) x (places_at p key) 0) (sym answer_is));
       }
 
 -- a part that changes nothing
-pub same_done : (z : Sizes) (operation : Operation) (s : Store) (p : Places) (now : Entries) (holds : List Holding)
-    (said : PartAnswer) (segs0 segs1 : List Seg) (t0 t1 : List TakenPiece) (says_is : Answer)
+pub same_done : (z : Sizes) (operation : Operation) (s : Store) (p : Places) (said : PartAnswer)
+    (before after : ShardState) (says_is : Answer)
     → change_by s operation ≡ keeps → answer s operation ≡ says_is → said ≡ answer_shown says_is
-    → Agrees z now holds s p → segs1 ≡ segs0
-    → t1 ≡ t0 ++ answer_pieces operation says_is (places_at p (key_of operation)) (first_at s operation)
-    → IsDone z operation s p now holds said segs0 segs1 t0 t1
-same_done z operation s p now holds said segs0 segs1 t0 t1 says_is change_is answer_is says agrees segs taken =
+    → Agrees z after.shard.entries after.shard.seat.holds s p → after.stored ≡ before.stored
+    → after.taken ≡ before.taken ++ answer_pieces operation says_is (places_at p (key_of operation))
+    (first_at s operation)
+    → IsDone z operation s p said before after
+same_done z operation s p said before after says_is change_is answer_is says agrees segs taken =
     let key : List ℕ = key_of operation in
     record {
       stored = [];
       says = says ∙ ap answer_shown (sym answer_is);
-      agrees = subst (λ what. Agrees z now holds (changed s key what) (places_with p key what []))
-          (sym change_is) agrees;
+      agrees = subst (λ what. Agrees z after.shard.entries after.shard.seat.holds (changed s key what)
+          (places_with p key what [])) (sym change_is) agrees;
       stored_is = subst (λ what. AreStored what (kept_fragments (bytes_at s key) operation) (places_at p key) [])
           (sym change_is) refl;
-      segs_are = segs ∙ sym (append-nil segs0);
-      pieces = taken ∙ ap (λ l. t0 ++ l)
+      segs_are = segs ∙ sym (append-nil before.stored);
+      pieces = taken ∙ ap (λ l. before.taken ++ l)
           (ap (λ x. answer_pieces operation x (places_at p key) (first_at s operation)) (sym answer_is));
     }
 
@@ -106,38 +116,53 @@ kept_pieces if_present asks key bytes None were e = refl
 kept_pieces if_present asks key bytes (Some v) were e = absurd (cc)
 
 -- a set that stores nothing, and answers what its key has
-pub asked_done : (z : Sizes) (w : When) (asks : Bool) (key bytes : List ℕ) (s : Store) (p : Places) (now : Entries)
-    (holds : List Holding) (said : PartAnswer) (segs : List Seg) (t0 t1 : List TakenPiece)
+pub asked_done : (z : Sizes) (w : When) (asks : Bool) (key bytes : List ℕ) (s : Store) (p : Places)
+    (said : PartAnswer) (before after : ShardState)
     → asks ≡ true → stores w (finite.get s key) ≡ false → said ≡ answer_shown (found (finite.get s key))
-    → Agrees z now holds s p
-    → t1 ≡ t0 ++ pieces_at entire false (found (finite.get s key)) (places_at p key) 0
-    → IsDone z (set w asks key bytes) s p now holds said segs segs t0 t1
-asked_done z w asks key bytes s p now holds said segs t0 t1 asking idle says agrees taken =
+    → Agrees z after.shard.entries after.shard.seat.holds s p → after.stored ≡ before.stored
+    → after.taken ≡ before.taken ++ pieces_at entire false (found (finite.get s key)) (places_at p key) 0
+    → IsDone z (set w asks key bytes) s p said before after
+asked_done z w asks key bytes s p said before after asking idle says agrees segs taken =
     let had : Answer = found (finite.get s key) in
     let change_is : change_by s (set w asks key bytes) ≡ keeps = ap (λ t. cond t (puts bytes) keeps) idle in
     let answer_is : answer s (set w asks key bytes) ≡ had =
     ap (λ t. cond t had (cond (stores w (finite.get s key)) done missing)) asking in
-    same_done z (set w asks key bytes) s p now holds said segs segs t0 t1 had change_is answer_is says agrees refl
-    (taken ∙ ap (λ l. t0 ++ l) (kept_pieces w asks key bytes (finite.get s key) (places_at p key) idle))
+    same_done z (set w asks key bytes) s p said before after had change_is answer_is says agrees segs
+    (taken ∙ ap (λ l. before.taken ++ l) (kept_pieces w asks key bytes (finite.get s key) (places_at p key) idle))
+
+-- a set that stores nothing, and is not asked for what its key has
+pub unasked_done : (z : Sizes) (w : When) (asks : Bool) (key bytes : List ℕ) (s : Store) (p : Places)
+    (before after : ShardState) → asks ≡ false → stores w (finite.get s key) ≡ false
+    → Agrees z after.shard.entries after.shard.seat.holds s p → after.stored ≡ before.stored
+    → after.taken ≡ before.taken → IsDone z (set w asks key bytes) s p say.Null before after
+unasked_done z w asks key bytes s p before after asking idle agrees segs taken =
+    let change_is : change_by s (set w asks key bytes) ≡ keeps = ap (λ t. cond t (puts bytes) keeps) idle in
+    let answer_is : answer s (set w asks key bytes) ≡ missing =
+    ap (λ t. cond t (found (finite.get s key)) (cond (stores w (finite.get s key)) done missing)) asking
+    ∙ ap (λ t. cond t done missing) idle in
+    same_done z (set w asks key bytes) s p say.Null before after missing change_is answer_is refl agrees segs
+    (taken ∙ sym (append-nil before.taken))
 
 -- a key that goes
-pub gone_done : (z : Sizes) (operation : Operation) (s : Store) (p : Places) (now : Entries) (holds : List Holding)
-    (said : PartAnswer) (segs : List Seg) (t : List TakenPiece) (says_is : Answer)
+pub gone_done : (z : Sizes) (operation : Operation) (s : Store) (p : Places) (said : PartAnswer)
+    (before after : ShardState) (says_is : Answer)
     → change_by s operation ≡ removes → answer s operation ≡ says_is → said ≡ answer_shown says_is
-    → Agrees z now holds (finite.remove s (key_of operation)) (finite.remove p (key_of operation))
+    → Agrees z after.shard.entries after.shard.seat.holds (finite.remove s (key_of operation))
+    (finite.remove p (key_of operation))
+    → after.stored ≡ before.stored → after.taken ≡ before.taken
     → answer_pieces operation says_is (places_at p (key_of operation)) (first_at s operation) ≡ []
-    → IsDone z operation s p now holds said segs segs t t
-gone_done z operation s p now holds said segs t says_is change_is answer_is says agrees none =
+    → IsDone z operation s p said before after
+gone_done z operation s p said before after says_is change_is answer_is says agrees segs taken none =
     let key : List ℕ = key_of operation in
     record {
       stored = [];
       says = says ∙ ap answer_shown (sym answer_is);
-      agrees = subst (λ what. Agrees z now holds (changed s key what) (places_with p key what []))
-          (sym change_is) agrees;
+      agrees = subst (λ what. Agrees z after.shard.entries after.shard.seat.holds (changed s key what)
+          (places_with p key what [])) (sym change_is) agrees;
       stored_is = subst (λ what. AreStored what (kept_fragments (bytes_at s key) operation) (places_at p key) [])
           (sym change_is) refl;
-      segs_are = sym (append-nil segs);
-      pieces = sym (append-nil t)
-          ∙ ap (λ l. t ++ l) (sym none ∙ ap (λ x. answer_pieces operation x (places_at p key) (first_at s operation))
-          (sym answer_is));
+      segs_are = segs ∙ sym (append-nil before.stored);
+      pieces = taken ∙ sym (append-nil before.taken)
+          ∙ ap (λ l. before.taken ++ l) (sym none
+          ∙ ap (λ x. answer_pieces operation x (places_at p key) (first_at s operation)) (sym answer_is));
     }

@@ -1,6 +1,6 @@
 -- An append that fits stores a value, and one that is refused because it is too long is free.
 use Rattle.std.proofs.Common.{◌≡◌, ℕ, ◌+◌, ◌≤◌, true, cond, List, ◌++◌, length, Option, None, Some, Result, nat_le}
-use Rattle.std.proofs.Common.{is_ok, sym, ap, ◌∙◌, arith}
+use Rattle.std.proofs.Common.{is_ok, sym, ap, ◌∙◌, subst, arith}
 use Rattle.std.proofs.lemmas.Bool.{le-leb}
 use Rattle.std.proofs.lemmas.List.{length-append}
 use Rattle.std.specs.Option.{option_map}
@@ -19,6 +19,7 @@ use Rattle.shard_core.specs.Answers.{outcome_of}
 use Rattle.shard_core.specs.Kept.{Entries, value_at, IsKept, Agrees}
 use Rattle.frag_value.specs.Values.{Frags}
 use Rattle.shard_core.specs.Paid.{PaysToStore, WhyUnadded}
+use Rattle.shard_core.specs.ShardMaps.{ShardMapView, ShardState}
 use Rattle.shard_core.specs.declared.answer.PartAnswer.{PartAnswer}
 use Rattle.shard_core.proofs.Holds.{has_found}
 
@@ -44,12 +45,15 @@ module _ (z : Sizes) (key bytes : List ℕ) (es : Entries) (own : View) (v : Fra
       append_stores s key bytes (Some old) (ap (option_map (value_bytes own.holds)) (sym there) ∙ a.bytes key)
       (omega (arith, few, size, length-append old bytes)) none
 
-  pub refused_free : (e : AppendError) (r : Result PartAnswer PlaceError) (old new : View) → r ≡ outcome_of e
-      → WhyUnadded z v bytes e old new → PaysToStore z (append key bytes) es own.holds r old new
-  refused_free (unadded.TooLong n) r old new is why = λ s p a none. record {
+  pub refused_free : (e : AppendError) (r : Result PartAnswer PlaceError) (old new : ShardState) → r ≡ outcome_of e
+      → old.shard ≡ record { entries = es; seat = own } → WhyUnadded z v bytes e old.payer new.payer
+      → PaysToStore z (append key bytes) r old new
+  refused_free (unadded.TooLong n) r old new is at why = λ s p a none. record {
     answered = ap is_ok is;
     claims = why.1;
     looks = why.2;
   }
-  refused_free (unadded.NoBuffer none) r old new is why = λ s p a stored. absurd (more_stores why.0 s p a stored)
-  refused_free unadded.Memory r old new is why = λ s p a stored. absurd (more_stores why s p a stored)
+  refused_free (unadded.NoBuffer none) r old new is at why = λ s p a stored.
+      absurd (more_stores why.0 s p (subst (λ (m : ShardMapView). Agrees z m.entries m.seat.holds s p) at a) stored)
+  refused_free unadded.Memory r old new is at why = λ s p a stored.
+      absurd (more_stores why s p (subst (λ (m : ShardMapView). Agrees z m.entries m.seat.holds s p) at a) stored)

@@ -9,4 +9,5 @@ pub mod Extended
 pub mod Deeds
 pub mod Appends
 pub mod Free
+pub mod Doing
 pub mod PinnedAll

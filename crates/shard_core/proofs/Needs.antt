@@ -1,21 +1,18 @@
 -- The buffers that a part needs: one for each fragment that it puts.
-use Rattle.std.proofs.Common.{◌≡◌, ℕ, zero, suc, ◌+◌, ◌-◌, ◌*◌, ◌/◌, ◌<◌, ◌≤◌, ◌⊎◌, inl, inr, Bool, true, cond, List}
+use Rattle.std.proofs.Common.{◌≡◌, ℕ, zero, suc, ◌+◌, ◌-◌, ◌*◌, ◌/◌, ◌<◌, ◌≤◌, Bool, true, cond, List}
 use Rattle.std.proofs.Common.{[], ◌∷◌, ◌++◌, length, drop, Option, None, Some, Result, Ok, Err, nat_le, refl, sym, ap}
 use Rattle.std.proofs.Common.{◌∙◌, subst, arith}
 use Rattle.std.proofs.lemmas.Bool.{le-leb}
 use Rattle.std.proofs.lemmas.List.{length-append, length-drop, drop-append-le, drop-drop, drop_at}
 use Rattle.std.specs.Option.{option_map}
 use Rattle.std.specs.Result.{IfErr}
-use Rattle.std.specs.FinMap as finite
 use Rattle.view_sums.specs.Total.{Each}
-use Rattle.view_sums.proofs.Eachs.{each-front, each-back}
+use Rattle.view_sums.proofs.Eachs.{each-front}
 use Rattle.pin_core.specs.Holding.{Holding}
 use Rattle.pin_core.specs.declared.sizes.Sizes.{Sizes}
-use Rattle.pinned_pool.specs.Classes.{buffers_in}
 use Rattle.pinned_pool.specs.declared.view.View.{View}
 use Rattle.flake_base.specs.Limits.{value_limit}
-use Rattle.flake_model.specs.Store.{Store, When, set, append, keeps, puts, stores, bytes_put, bytes_of}
-use Rattle.flake_model.specs.Deed.{Places}
+use Rattle.flake_model.specs.Store.{When, set, append, keeps, puts, stores, bytes_put, bytes_of}
 use Rattle.flake_model.specs.Fragments.{full_fragments}
 use Rattle.frag_value.specs.Changes.{WhyUnplaced}
 use Rattle.frag_value.specs.Fragments.{pieces, stored_fragments, fragments_in}
@@ -24,9 +21,10 @@ use Rattle.frag_value.specs.declared.error.AppendError.{AppendError}
 use Rattle.frag_value.specs.declared.error.AppendError.TheVariants as unadded
 use Rattle.frag_value.specs.declared.error.PlaceError.{PlaceError}
 use Rattle.frag_value.specs.declared.error.PlaceError.TheVariants as unplaced
-use Rattle.frag_value.proofs.Cuts.{AreFull, parts, full-are, length-bytes-value, bytes-append, size-append}
+use Rattle.frag_value.proofs.Cuts.{AreFull, parts, full-are, length-bytes-value, bytes-append}
 use Rattle.shard_core.specs.Answers.{outcome_of}
 use Rattle.shard_core.specs.Kept.{Entries, value_at, IsKept, Agrees, bytes_kept}
+use Rattle.shard_core.specs.ShardMaps.{ShardMapView, ShardState}
 use Rattle.shard_core.specs.Paid.{fragments_put, LacksBuffers, NeedsBuffers, LacksBehind, WhyUnadded}
 use Rattle.shard_core.specs.declared.answer.PartAnswer.{PartAnswer}
 use Rattle.shard_core.proofs.Holds.{has_found}
@@ -86,15 +84,15 @@ behind_full z hs v is filled =
     size-full (q ∷ x) f = omega (arith, f.0, size-full x f.1)
 
 -- a set that stores
-pub set_needs : (z : Sizes) (when : When) (asks : Bool) (key bytes : List ℕ) (es : Entries) (holds : List Holding)
-    (r : Result PartAnswer PlaceError) (old new : View) → stores when (bytes_kept key es holds) ≡ true
-    → IfErr r (λ e. WhyUnplaced z (stored_fragments bytes) e old new)
-    → IfErr r (λ e. NeedsBuffers z (set when asks key bytes) es holds e old new)
-set_needs z when asks key bytes es holds (Ok said) old new does why = tt
-set_needs z when asks key bytes es holds (Err e) old new does why = by e why
+pub set_needs : (z : Sizes) (when : When) (asks : Bool) (key bytes : List ℕ) (r : Result PartAnswer PlaceError)
+    (old new : ShardState) → stores when (bytes_kept key old.shard.entries old.shard.seat.holds) ≡ true
+    → IfErr r (λ e. WhyUnplaced z (stored_fragments bytes) e old.payer new.payer)
+    → IfErr r (λ e. NeedsBuffers z (set when asks key bytes) e old new)
+set_needs z when asks key bytes (Ok said) old new does why = tt
+set_needs z when asks key bytes (Err e) old new does why = by e why
   where
-    by : (e : PlaceError) → WhyUnplaced z (stored_fragments bytes) e old new
-        → NeedsBuffers z (set when asks key bytes) es holds e old new
+    by : (e : PlaceError) → WhyUnplaced z (stored_fragments bytes) e old.payer new.payer
+        → NeedsBuffers z (set when asks key bytes) e old new
     by (unplaced.NoBuffer none) why = λ s p a. record {
       bytes = bytes;
       stores = ap (λ t. bytes_put (cond t (puts bytes) keeps)) (ap (stores when) (sym (a.bytes key)) ∙ does);
@@ -110,36 +108,41 @@ has_room_for o bytes few =
     (le-leb (length (bytes_of o ++ bytes)) value_limit few)
 
 -- an append to a key that is missing
-pub first_needs : (z : Sizes) (key bytes : List ℕ) (es : Entries) (holds : List Holding) (e : PlaceError)
-    (old new : View) → bytes_kept key es holds ≡ None → length bytes ≤ value_limit
-    → WhyUnplaced z (stored_fragments bytes) e old new → NeedsBuffers z (append key bytes) es holds e old new
-first_needs z key bytes es holds (unplaced.NoBuffer none) old new missing few why = λ s p a.
-    subst (λ (o : Option (List ℕ)). LacksBuffers z o (append key bytes) none old new)
+pub first_needs : (z : Sizes) (key bytes : List ℕ) (e : PlaceError) (old new : ShardState)
+    → bytes_kept key old.shard.entries old.shard.seat.holds ≡ None → length bytes ≤ value_limit
+    → WhyUnplaced z (stored_fragments bytes) e old.payer new.payer → NeedsBuffers z (append key bytes) e old new
+first_needs z key bytes (unplaced.NoBuffer none) old new missing few why = λ s p a.
+    subst (λ (o : Option (List ℕ)). LacksBuffers z o (append key bytes) none old.payer new.payer)
     (sym missing ∙ a.bytes key)
     (record {
       bytes = bytes;
       stores = has_room_for None bytes few;
       less = omega (arith, why.fewer, ap (fragments_in none.class) (first_fragments bytes key));
     })
-first_needs z key bytes es holds unplaced.Memory old new missing few why = tt
+first_needs z key bytes unplaced.Memory old new missing few why = tt
 
 -- and to one that is there
 pub more_needs : (z : Sizes) (key bytes : List ℕ) (es : Entries) (own : View) (v : Frags) → IsKept z es own
-    → value_at key es ≡ Some v → (e : AppendError) (r : Result PartAnswer PlaceError) (old new : View)
-    → r ≡ outcome_of e → WhyUnadded z v bytes e old new → LacksBehind z (value_bytes own.holds v) bytes e old new
-    → IfErr r (λ x. NeedsBuffers z (append key bytes) es own.holds x old new)
-more_needs z key bytes es own v kept there e r old new is why lacks =
-    subst (λ x. IfErr x (λ y. NeedsBuffers z (append key bytes) es own.holds y old new)) (sym is) (by e why lacks)
+    → value_at key es ≡ Some v → (e : AppendError) (r : Result PartAnswer PlaceError) (old new : ShardState)
+    → r ≡ outcome_of e → old.shard ≡ record { entries = es; seat = own }
+    → WhyUnadded z v bytes e old.payer new.payer
+    → LacksBehind z (value_bytes own.holds v) bytes e old.payer new.payer
+    → IfErr r (λ x. NeedsBuffers z (append key bytes) x old new)
+more_needs z key bytes es own v kept there e r old new is at why lacks =
+    subst (λ x. IfErr x (λ y. NeedsBuffers z (append key bytes) y old new)) (sym is) (by e why lacks)
   where
-    by : (e : AppendError) → WhyUnadded z v bytes e old new → LacksBehind z (value_bytes own.holds v) bytes e old new
-        → IfErr (outcome_of e) (λ y. NeedsBuffers z (append key bytes) es own.holds y old new)
+    by : (e : AppendError) → WhyUnadded z v bytes e old.payer new.payer
+        → LacksBehind z (value_bytes own.holds v) bytes e old.payer new.payer
+        → IfErr (outcome_of e) (λ y. NeedsBuffers z (append key bytes) y old new)
     by (unadded.TooLong n) why lacks = tt
     by (unadded.NoBuffer none) why lacks = λ s p a.
         let text : List ℕ = value_bytes own.holds v in
         let size : length text ≡ size_of v = length-bytes-value own.holds v
         (has_found z es _ own.holds kept.held key v there).filled in
-        subst (λ (o : Option (List ℕ)). LacksBuffers z o (append key bytes) none old new)
-        (ap (option_map (value_bytes own.holds)) (sym there) ∙ a.bytes key)
+        let agreed : Agrees z es own.holds s p =
+        subst (λ (m : ShardMapView). Agrees z m.entries m.seat.holds s p) at a in
+        subst (λ (o : Option (List ℕ)). LacksBuffers z o (append key bytes) none old.payer new.payer)
+        (ap (option_map (value_bytes own.holds)) (sym there) ∙ agreed.bytes key)
         (record {
           bytes = text ++ bytes;
           stores = has_room_for (Some text) bytes (omega (arith, why.0, size, length-append text bytes));

@@ -1,8 +1,8 @@
 -- The values of a map, pinned one after another.
-use Rattle.std.proofs.Common.{◌≡◌, ℕ, zero, suc, ◌+◌, ◌<◌, ◌≤◌, List, [], ◌∷◌, ◌++◌, length, map, take, drop, Some}
-use Rattle.std.proofs.Common.{refl, sym, ap, ◌∙◌, subst, add-one, append_assoc, length-append, arith}
+use Rattle.std.proofs.Common.{◌≡◌, ℕ, zero, suc, ◌+◌, ◌<◌, ◌≤◌, List, [], ◌∷◌, ◌++◌, length, take, drop, Some}
+use Rattle.std.proofs.Common.{refl, sym, ap, ◌∙◌, add-one, append_assoc, length-append, arith}
 use Rattle.std.specs.Global.{Vec}
-use Rattle.std.specs.List.{slice_get, flat_map}
+use Rattle.std.specs.List.{slice_get}
 use Rattle.std.specs.List.Sorted.{IsPermutation}
 use Rattle.std.specs.FinMap as finite
 use Rattle.std.specs.Option.{option_map}
@@ -10,9 +10,9 @@ use Rattle.view_sums.specs.Total.{total, same, Each}
 use Rattle.view_sums.proofs.Eachs.{each-append, each-imp}
 use Rattle.view_sums.proofs.Sums.{total-append}
 use Rattle.pin_core.specs.Buffers.{buffers}
-use Rattle.pin_core.specs.Holding.{Holding, Key, loose_at}
+use Rattle.pin_core.specs.Holding.{Holding}
 use Rattle.pin_core.specs.declared.sizes.Sizes.{Sizes}
-use Rattle.pinned_pool.specs.Moves.{loose_key, same_key}
+use Rattle.pinned_pool.specs.Moves.{loose_key}
 use Rattle.pinned_pool.specs.Named.{IsSeat}
 use Rattle.pinned_pool.specs.declared.view.View.{View}
 use Rattle.pinned_pool.proofs.AfterSteps.{times-loose}
@@ -21,11 +21,10 @@ use Rattle.flake_model.specs.Deed.{Places}
 use Rattle.frag_value.specs.Values.{Frags, HasValue, IsFilled, IsPlaced, IsValue, keys_of, uses, value_bytes}
 use Rattle.frag_value.proofs.Lists.{each-at, take-more, map-more}
 use Rattle.frag_value.proofs.Released.{asked-loose}
-use Rattle.value_pins.specs.Pins.{KeyFrags, all_frags, pairs_shown, pin_holds}
-use Rattle.value_pins.specs.Few.{AreFew}
+use Rattle.value_pins.specs.Pins.{KeyFrags, all_frags, pairs_shown}
 use Rattle.value_pins.proofs.FewSteps.{are_few}
 use Rattle.key_order.specs.Ascending.{IsAscending, pairs_of}
-use Rattle.shard_core.specs.Kept.{Entries, value_at, AreHeld, Agrees, entries_weight}
+use Rattle.shard_core.specs.Kept.{Entries, value_at, AreHeld, Agrees}
 use Rattle.shard_core.specs.Rooms.{FitRooms, key_frags}
 use Rattle.shard_core.proofs.Changed.{total-permutation, each-permutation}
 use Rattle.shard_core.proofs.Holds.{asks, wanted, counted}

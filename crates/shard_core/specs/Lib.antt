@@ -1,10 +1,12 @@
 pub mod Keys
 pub mod Kept
+pub mod ShardMaps
+pub mod KeptViews
 pub mod Answers
 pub mod Pieces
+pub mod Takers
 pub mod Demand
 pub mod Paid
 pub mod Moved
 pub mod Done
-pub mod ShardMaps
 pub mod Rooms

@@ -2,7 +2,6 @@
 use Rattle.std.specs.Prelude.{◌≡◌, ℕ, ◌+◌, ◌*◌, ◌<◌, ◌≤◌, true, List, [], ◌++◌, length, drop, Option, Some}
 use Rattle.std.specs.Prelude.{None, Result, is_ok}
 use Rattle.std.specs.FinMap as finite
-use Rattle.pin_core.specs.Holding.{Holding}
 use Rattle.pin_core.specs.Buffers.{buffers}
 use Rattle.pin_core.specs.declared.sizes.Sizes.{Sizes}
 use Rattle.pin_core.specs.declared.class.Class.{Class}
@@ -22,7 +21,8 @@ use Rattle.frag_value.specs.declared.error.AppendError.{AppendError}
 use Rattle.frag_value.specs.declared.error.AppendError.TheVariants as unadded
 use Rattle.frag_value.specs.declared.error.PlaceError.{PlaceError}
 use Rattle.frag_value.specs.declared.error.PlaceError.TheVariants as unplaced
-use Rattle.shard_core.specs.Kept.{Entries, Agrees}
+use Rattle.shard_core.specs.Kept.{Agrees}
+use Rattle.shard_core.specs.ShardMaps.{ShardState}
 use Rattle.frag_value.specs.Values.{Frags}
 use Rattle.shard_core.specs.Demand.{part_row}
 use Rattle.shard_core.specs.declared.answer.PartAnswer.{PartAnswer}
@@ -56,11 +56,10 @@ pub record IsFree (result : Result PartAnswer PlaceError) (old new : View) : Typ
   pub looks : new.looks ≡ old.looks
 
 -- a part that stores nothing, on any store that agreed, is free
-abbrev pub PaysToStore : Sizes → Operation → Entries → List Holding → Result PartAnswer PlaceError → View → View
-    → Type 0
-PaysToStore z operation es hs result old new =
-    (store : Store) (places : Places) → Agrees z es hs store places
-    → stored_value store operation ≡ None → IsFree result old new
+abbrev pub PaysToStore : Sizes → Operation → Result PartAnswer PlaceError → ShardState → ShardState → Type 0
+PaysToStore z operation result old new =
+    (store : Store) (places : Places) → Agrees z old.shard.entries old.shard.seat.holds store places
+    → stored_value store operation ≡ None → IsFree result old.payer new.payer
 
 -- the fragments that an operation puts into new buffers: those behind the ones that it leaves where they are
 abbrev pub fragments_put : List ℕ → Operation → List ℕ → List (List ℕ)
@@ -76,11 +75,11 @@ pub record LacksBuffers (z : Sizes) (had : Option (List ℕ)) (operation : Opera
       + fragments_in none.class (fragments_put (bytes_of had) operation bytes)
 
 -- so it is where a part finds no buffer, on any store that agreed
-abbrev pub NeedsBuffers : Sizes → Operation → Entries → List Holding → PlaceError → View → View → Type 0
-NeedsBuffers z operation es hs (unplaced.NoBuffer none) old new =
-    (store : Store) (places : Places) → Agrees z es hs store places
-    → LacksBuffers z (finite.get store (key_of operation)) operation none old new
-NeedsBuffers z operation es hs unplaced.Memory old new = Unit {0}
+abbrev pub NeedsBuffers : Sizes → Operation → PlaceError → ShardState → ShardState → Type 0
+NeedsBuffers z operation (unplaced.NoBuffer none) old new =
+    (store : Store) (places : Places) → Agrees z old.shard.entries old.shard.seat.holds store places
+    → LacksBuffers z (finite.get store (key_of operation)) operation none old.payer new.payer
+NeedsBuffers z operation unplaced.Memory old new = Unit {0}
 
 -- where an append finds no buffer, fewer of the class were claimed than the bytes behind the full fragments need
 abbrev pub LacksBehind : Sizes → List ℕ → List ℕ → AppendError → View → View → Type 0

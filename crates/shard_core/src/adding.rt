@@ -1,18 +1,15 @@
 //! Appends.
-ghost use Rattle.std.specs.Prelude.{◌≡◌, ◌+◌, ◌<◌, ◌≤◌, List, Some, None, length, IfErr, OnErr};
+ghost use Rattle.std.specs.Prelude.{◌≡◌, ◌+◌, ◌<◌, ◌≤◌, List, Some, None, length};
 ghost use Rattle.indexmap.specs.IndexMap.{index_of_by};
 ghost use Rattle.flake_model.specs.Store.{append as append_op};
-ghost use Rattle.frag_value.specs.Changes.{found_none};
 ghost use Rattle.frag_value.specs.Fragments.{frags_limit};
 ghost use Rattle.flake_base.specs.Limits.{value_limit};
 ghost use Rattle.frag_value.specs.Taken.{TakenPiece};
-ghost use Rattle.pin_core.specs.declared.class.Class.{Class};
-ghost use Rattle.shard_core.specs.Demand.{part_row};
-ghost use Rattle.shard_core.specs.Done.{Does, StandsAsBefore};
+ghost use Rattle.shard_core.specs.Done.{DoesPart};
 ghost use Rattle.shard_core.specs.Keys.{is_key};
-ghost use Rattle.shard_core.specs.Kept.{IsKept, value_at};
+ghost use Rattle.shard_core.specs.Kept.{IsKept};
+ghost use Rattle.shard_core.specs.KeptViews.{kept_state};
 ghost use Rattle.shard_core.specs.Answers.{outcome_of};
-ghost use Rattle.shard_core.specs.Paid.{IsPaid, NeedsBuffers, PaysToStore, WhyPartRefused};
 
 use crate::answer::PartAnswer;
 use crate::carrying::extend;
@@ -22,11 +19,9 @@ use crate::showing::show;
 use flake_base::Segs;
 use frag_value::{AppendError, PlaceError, Value};
 use pinned_pool::{Pool, PoolName, PoolSeat};
-use std::alloc::Global;
 
 // Bytes for a key that is missing.
 fn add_first<P: PoolName>(
-    alloc: Global,
     pool: &Pool<P>,
     kept: &mut Kept<P>,
     payer: &mut PoolSeat<P>,
@@ -40,22 +35,12 @@ fn add_first<P: PoolName>(
     requires credits { 1 < payer.old.credits }
     requires spare { frags_limit ≤ stored.old.spare }
     ensures kept { IsKept P.sizes kept.new.values.entries kept.new.own }
-    ensures done { (t : List TakenPiece) → Does P.sizes (append_op key.now bytes.now)
-        kept.old.values.entries kept.old.own.holds kept.new.values.entries kept.new.own.holds result
-        stored.old.items stored.new.items t t }
-    ensures same { StandsAsBefore P.sizes kept.old.values.entries kept.old.own.holds
-        kept.new.values.entries kept.new.own.holds result }
-    ensures untold { OnErr result (stored.new.items ≡ stored.old.items) }
+    ensures part { (t : List TakenPiece) → DoesPart P.sizes (append_op key.now bytes.now) result
+        (kept_state kept.old payer.old stored.old.items t)
+        (kept_state kept.new payer.new stored.new.items t) }
     ensures spare { stored.old.spare + length stored.old.items ≤ stored.new.spare + length stored.new.items }
-    ensures cause { IfErr result (λ e. WhyPartRefused P.sizes (append_op key.now bytes.now) e payer.old payer.new) }
-    ensures needs { IfErr result (λ e. NeedsBuffers P.sizes (append_op key.now bytes.now)
-        kept.old.values.entries kept.old.own.holds e payer.old payer.new) }
-    ensures paid { IsPaid P.sizes (λ (class : Class). part_row class (append_op key.now bytes.now)) (found_none result)
-        payer.old payer.new }
-    ensures pays { PaysToStore P.sizes (append_op key.now bytes.now)
-        kept.old.values.entries kept.old.own.holds result payer.old payer.new }
 {
-    match place_first(alloc, pool, kept, payer, key, bytes, stored) {
+    match place_first(pool, kept, payer, key, bytes, stored) {
         Ok(()) => {}
         Err(error) => return Err(error),
     }
@@ -76,7 +61,6 @@ fn refused(error: AppendError) -> Result<PartAnswer, PlaceError>
 
 // Bytes behind the value that the key has at this index. While it is away, an empty value has its place.
 fn add_more<P: PoolName>(
-    alloc: Global,
     pool: &Pool<P>,
     kept: &mut Kept<P>,
     payer: &mut PoolSeat<P>,
@@ -91,25 +75,23 @@ fn add_more<P: PoolName>(
     requires credits { 1 < payer.old.credits }
     requires spare { frags_limit ≤ stored.old.spare }
     ensures kept { IsKept P.sizes kept.new.values.entries kept.new.own }
-    ensures done { (t : List TakenPiece) → Does P.sizes (append_op key.now bytes.now)
-        kept.old.values.entries kept.old.own.holds kept.new.values.entries kept.new.own.holds result
-        stored.old.items stored.new.items t t }
-    ensures same { StandsAsBefore P.sizes kept.old.values.entries kept.old.own.holds
-        kept.new.values.entries kept.new.own.holds result }
-    ensures untold { OnErr result (stored.new.items ≡ stored.old.items) }
+    ensures part { (t : List TakenPiece) → DoesPart P.sizes (append_op key.now bytes.now) result
+        (kept_state kept.old payer.old stored.old.items t)
+        (kept_state kept.new payer.new stored.new.items t) }
     ensures spare { stored.old.spare + length stored.old.items ≤ stored.new.spare + length stored.new.items }
-    ensures cause { IfErr result (λ e. WhyPartRefused P.sizes (append_op key.now bytes.now) e payer.old payer.new) }
-    ensures needs { IfErr result (λ e. NeedsBuffers P.sizes (append_op key.now bytes.now)
-        kept.old.values.entries kept.old.own.holds e payer.old payer.new) }
-    ensures paid { IsPaid P.sizes (λ (class : Class). part_row class (append_op key.now bytes.now)) (found_none result)
-        payer.old payer.new }
-    ensures pays { PaysToStore P.sizes (append_op key.now bytes.now)
-        kept.old.values.entries kept.old.own.holds result payer.old payer.new }
 {
     kept.own.is_seat();
-    let old = exchange(&mut kept.values, key, index, Value::empty(alloc));
+    let old = exchange(&mut kept.values, key, index, Value::empty(kept.alloc));
     old.is_value();
-    match extend(alloc, pool, &mut kept.own, payer, old, bytes, kept.start) {
+    match extend(
+        kept.alloc,
+        pool,
+        &mut kept.own,
+        payer,
+        old,
+        bytes,
+        kept.start,
+    ) {
         Ok(value) => {
             let length = value.len();
             show(pool, &value, stored);
@@ -125,7 +107,6 @@ fn add_more<P: PoolName>(
 
 /// Puts bytes behind what the key has.
 pub(crate) fn add<P: PoolName>(
-    alloc: Global,
     pool: &Pool<P>,
     kept: &mut Kept<P>,
     payer: &mut PoolSeat<P>,
@@ -138,23 +119,13 @@ pub(crate) fn add<P: PoolName>(
     requires credits { 1 < payer.old.credits }
     requires spare { frags_limit ≤ stored.old.spare }
     ensures kept { IsKept P.sizes kept.new.values.entries kept.new.own }
-    ensures done { (t : List TakenPiece) → Does P.sizes (append_op key.now bytes.now)
-        kept.old.values.entries kept.old.own.holds kept.new.values.entries kept.new.own.holds result
-        stored.old.items stored.new.items t t }
-    ensures same { StandsAsBefore P.sizes kept.old.values.entries kept.old.own.holds
-        kept.new.values.entries kept.new.own.holds result }
-    ensures untold { OnErr result (stored.new.items ≡ stored.old.items) }
+    ensures part { (t : List TakenPiece) → DoesPart P.sizes (append_op key.now bytes.now) result
+        (kept_state kept.old payer.old stored.old.items t)
+        (kept_state kept.new payer.new stored.new.items t) }
     ensures spare { stored.old.spare + length stored.old.items ≤ stored.new.spare + length stored.new.items }
-    ensures cause { IfErr result (λ e. WhyPartRefused P.sizes (append_op key.now bytes.now) e payer.old payer.new) }
-    ensures needs { IfErr result (λ e. NeedsBuffers P.sizes (append_op key.now bytes.now)
-        kept.old.values.entries kept.old.own.holds e payer.old payer.new) }
-    ensures paid { IsPaid P.sizes (λ (class : Class). part_row class (append_op key.now bytes.now)) (found_none result)
-        payer.old payer.new }
-    ensures pays { PaysToStore P.sizes (append_op key.now bytes.now)
-        kept.old.values.entries kept.old.own.holds result payer.old payer.new }
 {
     match kept.values.get_index_of(key) {
-        Some(index) => add_more(alloc, pool, kept, payer, key, index, bytes, stored),
-        None => add_first(alloc, pool, kept, payer, key, bytes, stored),
+        Some(index) => add_more(pool, kept, payer, key, index, bytes, stored),
+        None => add_first(pool, kept, payer, key, bytes, stored),
     }
 }

@@ -1,5 +1,5 @@
 //! A value that a key no longer has.
-ghost use Rattle.std.specs.Prelude.{◌≡◌, ◌+◌, ◌<◌, ◌≤◌, ◌++◌, None, true, length};
+ghost use Rattle.std.specs.Prelude.{◌≡◌, ◌++◌, true, false};
 ghost use Rattle.std.specs.Option.{option_map};
 ghost use Rattle.pinned_pool.specs.Moves.{without_keys};
 ghost use Rattle.frag_value.specs.Taken.{entire};
@@ -7,6 +7,7 @@ ghost use Rattle.frag_value.specs.Values.{HasValue, keys_of, value_bytes};
 ghost use Rattle.shard_core.specs.Kept.{frags_of, value_addresses, KeepsIdle};
 ghost use Rattle.shard_core.specs.Pieces.{pieces_at};
 ghost use Rattle.shard_core.specs.Answers.{answer_shown, old_answer};
+ghost use Rattle.shard_core.specs.Takers.{MayTake, KeepsTaker, taking};
 
 use crate::answer::PartAnswer;
 use frag_value::{Taker, Value, hand_over, release};
@@ -21,17 +22,14 @@ pub(crate) fn give_up<P: PoolName, T: Taker<P>>(
     taker: &mut T,
 ) -> PartAnswer
     requires value { HasValue own.old.holds (frags_of old) }
-    requires room { asks ≡ true → 0 < T.room taker.old }
-    requires none { T.begun taker.old ≡ None }
+    requires taker { MayTake asks false (taking T.Taker taker.old) }
     ensures holds { own.new.holds ≡ without_keys (keys_of (frags_of old)) own.old.holds }
     ensures idle { KeepsIdle own.old own.new }
     ensures says { result ≡ answer_shown (old_answer asks (option_map (value_bytes own.old.holds) old)) }
     ensures taken { let answer = old_answer asks (option_map (value_bytes own.old.holds) old) in
         T.taken taker.new ≡ T.taken taker.old ++ pieces_at entire true answer (value_addresses P.sizes (frags_of old))
         0 }
-    ensures none { T.begun taker.new ≡ None }
-    ensures base { T.base taker.new ≡ T.base taker.old }
-    ensures room { T.room taker.old + length (T.taken taker.old) ≤ T.room taker.new + length (T.taken taker.new) }
+    ensures taker { KeepsTaker false (taking T.Taker taker.old) (taking T.Taker taker.new) }
 {
     match old {
         Some(old) => {

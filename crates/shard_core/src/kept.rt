@@ -7,13 +7,15 @@ ghost use Rattle.shard_core.specs.Kept.{value_at};
 use frag_value::Value;
 use indexmap::IndexMap;
 use pinned_pool::{ClaimStart, PoolName, PoolSeat};
+use std::alloc::Global;
 use std::mem::replace;
 
 pub(crate) type Values<P> = IndexMap<Vec<u8>, Value<P>>;
 
-/// A shard's values, the seat that holds their fragments, and where the claims for them begin.
+/// A shard's values, the seat that holds their fragments, what memory is taken from, and where the claims begin.
 #[derive(Drop)]
 pub(crate) struct Kept<P: PoolName> {
+    pub(crate) alloc: Global,
     pub(crate) own: PoolSeat<P>,
     pub(crate) values: Values<P>,
     pub(crate) start: ClaimStart,

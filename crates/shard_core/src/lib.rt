@@ -4,7 +4,6 @@
 
 mod adding;
 mod answer;
-mod applying;
 mod carrying;
 mod giving;
 mod kept;

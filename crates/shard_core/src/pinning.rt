@@ -68,7 +68,6 @@ fn pin_each<P: PoolName>(
 
 /// Pins all values. All memory is taken before the first pin.
 pub(crate) fn pin_values<P: PoolName>(
-    alloc: Global,
     pool: &Pool<P>,
     kept: &mut Kept<P>,
     taker: &mut PoolSeat<P>,
@@ -88,7 +87,7 @@ pub(crate) fn pin_values<P: PoolName>(
     ensures memory { OnErr result ((taker.new ≡ taker.old) × (kept.new.own ≡ kept.old.own)) }
 {
     sort_entries(&mut kept.values)?;
-    let rooms = rooms_for(alloc, &kept.values)?;
-    let room = Vec::with_capacity(alloc, kept.values.len())?;
+    let rooms = rooms_for(kept.alloc, &kept.values)?;
+    let room = Vec::with_capacity(kept.alloc, kept.values.len())?;
     Ok(pin_each(pool, &mut kept.own, &kept.values, taker, rooms, room))
 }

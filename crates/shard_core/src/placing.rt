@@ -45,7 +45,6 @@ pub(crate) fn bring<P: PoolName>(
 
 // Puts a new value in the place of the one that the key has, which is handed back.
 fn place_over<P: PoolName>(
-    alloc: Global,
     pool: &Pool<P>,
     kept: &mut Kept<P>,
     payer: &mut PoolSeat<P>,
@@ -70,14 +69,13 @@ fn place_over<P: PoolName>(
         (found_none result)
         payer.old payer.new }
 {
-    let value = bring(alloc, pool, &mut kept.own, payer, bytes, kept.start)?;
+    let value = bring(kept.alloc, pool, &mut kept.own, payer, bytes, kept.start)?;
     show(pool, &value, stored);
     Ok(exchange(&mut kept.values, key, index, value))
 }
 
 /// Puts a value at a key that is missing.
 pub(crate) fn place_first<P: PoolName>(
-    alloc: Global,
     pool: &Pool<P>,
     kept: &mut Kept<P>,
     payer: &mut PoolSeat<P>,
@@ -101,13 +99,13 @@ pub(crate) fn place_first<P: PoolName>(
         (found_none result)
         payer.old payer.new }
 {
-    let Ok(name) = Vec::from_slice(alloc, key) else {
+    let Ok(name) = Vec::from_slice(kept.alloc, key) else {
         return Err(PlaceError::Memory);
     };
     let Ok(()) = kept.values.reserve(1) else {
         return Err(PlaceError::Memory);
     };
-    let value = bring(alloc, pool, &mut kept.own, payer, bytes, kept.start)?;
+    let value = bring(kept.alloc, pool, &mut kept.own, payer, bytes, kept.start)?;
     show(pool, &value, stored);
     insert(&mut kept.values, name, value);
     Ok(())
@@ -115,7 +113,6 @@ pub(crate) fn place_first<P: PoolName>(
 
 /// Puts a new value at a key, which was looked up. What the key had is handed back, and its holds are still there.
 pub(crate) fn place<P: PoolName>(
-    alloc: Global,
     pool: &Pool<P>,
     kept: &mut Kept<P>,
     payer: &mut PoolSeat<P>,
@@ -142,11 +139,11 @@ pub(crate) fn place<P: PoolName>(
 {
     match found {
         Some(index) => {
-            let old = place_over(alloc, pool, kept, payer, key, index, bytes, stored)?;
+            let old = place_over(pool, kept, payer, key, index, bytes, stored)?;
             Ok(Some(old))
         }
         None => {
-            place_first(alloc, pool, kept, payer, key, bytes, stored)?;
+            place_first(pool, kept, payer, key, bytes, stored)?;
             Ok(None)
         }
     }

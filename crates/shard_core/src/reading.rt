@@ -1,5 +1,5 @@
 //! Parts that change nothing.
-ghost use Rattle.std.specs.Prelude.{◌≡◌, ◌+◌, ◌<◌, ◌≤◌, ◌++◌, None, length, is_some, false};
+ghost use Rattle.std.specs.Prelude.{◌≡◌, ◌++◌, length, is_some, true, false};
 ghost use Rattle.std.specs.FinMap as finite;
 ghost use Rattle.indexmap.specs.IndexMap.{index_of_by};
 ghost use Rattle.flake_model.specs.Range.{first_place, range_of};
@@ -10,6 +10,7 @@ ghost use Rattle.shard_core.specs.Keys.{is_key};
 ghost use Rattle.shard_core.specs.Kept.{IsKept, Agrees, StillAgrees};
 ghost use Rattle.shard_core.specs.Pieces.{pieces_at};
 ghost use Rattle.shard_core.specs.Answers.{answer_shown};
+ghost use Rattle.shard_core.specs.Takers.{MayTake, KeepsTaker, taking};
 
 use crate::answer::PartAnswer;
 use crate::kept::{Kept, value_in};
@@ -28,8 +29,7 @@ pub(crate) fn get<P: PoolName, T: Taker<P>>(
 ) -> PartAnswer
     requires found { index_of_by (is_key key.now) kept.old.values ≡ found }
     requires kept { IsKept P.sizes kept.old.values.entries kept.old.own }
-    requires room { 0 < T.room taker.old }
-    requires none { T.begun taker.old ≡ None }
+    requires taker { MayTake true false (taking T.Taker taker.old) }
     ensures kept { IsKept P.sizes kept.new.values.entries kept.new.own }
     ensures agrees { let hs = kept.old.own.holds in let now = kept.new.own.holds in
         StillAgrees P.sizes kept.old.values.entries hs kept.new.values.entries now }
@@ -38,9 +38,7 @@ pub(crate) fn get<P: PoolName, T: Taker<P>>(
     ensures taken { (s : Store) (p : Places) → Agrees P.sizes kept.old.values.entries kept.old.own.holds s p
         → T.taken taker.new ≡ T.taken taker.old
         ++ pieces_at entire false (answer_found (finite.get s key.now)) (places_at p key.now) 0 }
-    ensures none { T.begun taker.new ≡ None }
-    ensures base { T.base taker.new ≡ T.base taker.old }
-    ensures room { T.room taker.old + length (T.taken taker.old) ≤ T.room taker.new + length (T.taken taker.new) }
+    ensures taker { KeepsTaker false (taking T.Taker taker.old) (taking T.Taker taker.new) }
 {
     match found {
         Some(index) => {
@@ -63,8 +61,7 @@ pub(crate) fn get_range<P: PoolName, T: Taker<P>>(
     taker: &mut T,
 ) -> PartAnswer
     requires kept { IsKept P.sizes kept.old.values.entries kept.old.own }
-    requires room { 0 < T.range_room taker.old }
-    requires none { T.begun taker.old ≡ None }
+    requires taker { MayTake false true (taking T.Taker taker.old) }
     ensures kept { IsKept P.sizes kept.new.values.entries kept.new.own }
     ensures agrees { let hs = kept.old.own.holds in let now = kept.new.own.holds in
         StillAgrees P.sizes kept.old.values.entries hs kept.new.values.entries now }
@@ -73,10 +70,7 @@ pub(crate) fn get_range<P: PoolName, T: Taker<P>>(
         → T.taken taker.new ≡ T.taken taker.old
         ++ pieces_at ranged false (answered (range_of (bytes_at s key.now) start end)) (places_at p key.now)
         (first_place (length (bytes_at s key.now)) start) }
-    ensures none { T.begun taker.new ≡ None }
-    ensures base { T.base taker.new ≡ T.base taker.old }
-    ensures room { T.range_room taker.old + length (T.taken taker.old)
-        ≤ T.range_room taker.new + length (T.taken taker.new) }
+    ensures taker { KeepsTaker true (taking T.Taker taker.old) (taking T.Taker taker.new) }
 {
     match kept.values.get(key) {
         Some(value) => {

@@ -1,6 +1,5 @@
 //! One shard's values.
-ghost use Rattle.std.specs.Prelude.{◌≡◌, ◌+◌, ◌<◌, ◌≤◌, ℕ, List, [], true, false, None, length, map};
-ghost use Rattle.std.specs.Prelude.{IfOk, IfErr, OnErr};
+ghost use Rattle.std.specs.Prelude.{◌≡◌, ◌+◌, ◌<◌, ◌≤◌, ℕ, List, [], length, map, IfOk, OnErr};
 ghost use Rattle.std.specs.FinMap as finite;
 ghost use Rattle.std.specs.List.{IsDistinct};
 ghost use Rattle.view_sums.specs.Total.{Each};
@@ -9,28 +8,28 @@ ghost use Rattle.flake_model.specs.Store.{Store};
 ghost use Rattle.flake_model.specs.Deed.{Places};
 ghost use Rattle.frag_value.specs.Values.{IsFilled, unmarked_view};
 ghost use Rattle.value_pins.specs.Pins.{all_frags, pairs_shown, pin_holds, pinning};
-ghost use Rattle.frag_value.specs.Changes.{found_none};
 ghost use Rattle.frag_value.specs.Fragments.{frags_limit};
 ghost use Rattle.flake_base.specs.Limits.{value_limit};
 ghost use Rattle.pinned_pool.specs.Named.{IsSeat};
-ghost use Rattle.pin_core.specs.declared.class.Class.{Class};
-ghost use Rattle.shard_core.specs.Demand.{part_row};
-ghost use Rattle.shard_core.specs.Done.{Does, StandsAsBefore, is_taking, is_ranged};
+ghost use Rattle.shard_core.specs.Done.{DoesPart, is_taking, is_ranged};
 ghost use Rattle.shard_core.specs.Keys.{key_eq};
 ghost use Rattle.shard_core.specs.Kept.{IsKept, Agrees, value_at};
-ghost use Rattle.shard_core.specs.Paid.{IsPaid, NeedsBuffers, PaysToStore, WhyPartRefused};
 ghost use Rattle.shard_core.specs.ShardMaps.{IsBare, keys_on};
+ghost use Rattle.shard_core.specs.Takers.{MayTake, KeepsTaker, taking};
 ghost use Rattle.shard_part.specs.Parts.{operation_of};
 
+use crate::adding::add;
 use crate::answer::PartAnswer;
-use crate::applying::apply;
 use crate::kept::Kept;
 use crate::pinning::pin_values;
+use crate::reading::{exists, get, get_range, size};
+use crate::setting::del;
 use flake_base::{Memory, Segs};
 use frag_value::{PlaceError, Taker};
 use indexmap::IndexMap;
 use pinned_pool::{ClaimStart, Pool, PoolName, PoolSeat};
-use shard_part::Part;
+use shard_part::When::{Always, IfMissing, IfPresent};
+use shard_part::{Part, PartOp};
 use std::alloc::Global;
 use std::marker::Model;
 use value_pins::PinnedPair;
@@ -68,6 +67,7 @@ impl<P: PoolName> ShardMap<P> {
     {
         ShardMap {
             kept: Kept {
+                alloc,
                 own: seat,
                 values: IndexMap::new(alloc),
                 start,
@@ -79,7 +79,6 @@ impl<P: PoolName> ShardMap<P> {
     /// here once the new one stands. After a refusal nothing has changed but the payer's claims and looks.
     pub fn apply<T: Taker<P>>(
         &mut self,
-        alloc: Global,
         pool: &Pool<P>,
         payer: &mut PoolSeat<P>,
         part: &Part<'_>,
@@ -89,40 +88,53 @@ impl<P: PoolName> ShardMap<P> {
         requires few { length part.now.value.now ≤ value_limit }
         requires credits { 1 < payer.old.credits }
         requires spare { frags_limit ≤ stored.old.spare }
-        requires room { is_taking (operation_of part.now) ≡ true → 0 < T.room taker.old }
-        requires range_room { is_ranged (operation_of part.now) ≡ true → 0 < T.range_room taker.old }
-        requires none { T.begun taker.old ≡ None }
-        ensures done { Does P.sizes (operation_of part.now)
-            self.old.entries self.old.seat.holds self.new.entries self.new.seat.holds result
-            stored.old.items stored.new.items (T.taken taker.old) (T.taken taker.new) }
-        ensures same { StandsAsBefore P.sizes self.old.entries self.old.seat.holds
-            self.new.entries self.new.seat.holds result }
-        ensures untold { OnErr result (stored.new.items ≡ stored.old.items) }
+        requires taker { let op = operation_of part.now in
+            MayTake (is_taking op) (is_ranged op) (taking T.Taker taker.old) }
+        ensures part { DoesPart P.sizes (operation_of part.now) result
+            (record { shard = self.old; payer = payer.old; stored = stored.old.items; taken = T.taken taker.old })
+            (record { shard = self.new; payer = payer.new; stored = stored.new.items; taken = T.taken taker.new }) }
         ensures spare { stored.old.spare + length stored.old.items ≤ stored.new.spare + length stored.new.items }
-        ensures untaken { OnErr result (T.taken taker.new ≡ T.taken taker.old) }
-        ensures cause { IfErr result (λ e. WhyPartRefused P.sizes (operation_of part.now) e payer.old payer.new) }
-        ensures needs { IfErr result (λ e. NeedsBuffers P.sizes (operation_of part.now)
-            self.old.entries self.old.seat.holds e payer.old payer.new) }
-        ensures paid { IsPaid P.sizes (λ (class : Class). part_row class (operation_of part.now)) (found_none result)
-            payer.old payer.new }
-        ensures pays { PaysToStore P.sizes (operation_of part.now)
-            self.old.entries self.old.seat.holds result payer.old payer.new }
-        ensures none { T.begun taker.new ≡ None }
-        ensures base { T.base taker.new ≡ T.base taker.old }
-        ensures room { is_ranged (operation_of part.now) ≡ false
-            → T.room taker.old + length (T.taken taker.old) ≤ T.room taker.new + length (T.taken taker.new) }
-        ensures range_room { is_ranged (operation_of part.now) ≡ true
-            → T.range_room taker.old + length (T.taken taker.old)
-            ≤ T.range_room taker.new + length (T.taken taker.new) }
+        ensures taker { let range = is_ranged (operation_of part.now) in
+            KeepsTaker range (taking T.Taker taker.old) (taking T.Taker taker.new) }
     {
-        apply(alloc, pool, &mut self.kept, payer, part, taker, stored)
+        match part.op {
+            PartOp::Get => {
+                let found = self.kept.values.get_index_of(part.key);
+                Ok(get(pool, &mut self.kept, part.key, found, taker))
+            }
+            PartOp::Set => self
+                .kept
+                .set(pool, payer, part, Always, false, taker, stored),
+            PartOp::SetNx => self
+                .kept
+                .set(pool, payer, part, IfMissing, false, taker, stored),
+            PartOp::SetXx => self
+                .kept
+                .set(pool, payer, part, IfPresent, false, taker, stored),
+            PartOp::SetGet => self
+                .kept
+                .set(pool, payer, part, Always, true, taker, stored),
+            PartOp::SetNxGet => self
+                .kept
+                .set(pool, payer, part, IfMissing, true, taker, stored),
+            PartOp::SetXxGet => self
+                .kept
+                .set(pool, payer, part, IfPresent, true, taker, stored),
+            PartOp::Append => add(pool, &mut self.kept, payer, part.key, part.value, stored),
+            PartOp::Del => Ok(PartAnswer::Did(del(pool, &mut self.kept, part.key))),
+            PartOp::Exists => Ok(PartAnswer::Did(exists(&self.kept, part.key))),
+            PartOp::StrLen => Ok(PartAnswer::Length(size(&self.kept, part.key))),
+            PartOp::GetRange { start, end } => {
+                let answer = get_range(pool, &mut self.kept, part.key, start, end, taker);
+                Ok(answer)
+            }
+        }
     }
 
     /// All values under pinned holds of the taker, with their keys, in ascending byte order of the keys. It takes all
     /// memory before the first pin, and after want of memory nothing has changed.
     pub fn pin_all(
         &mut self,
-        alloc: Global,
         pool: &Pool<P>,
         taker: &mut PoolSeat<P>,
     ) -> Result<Vec<PinnedPair<P>>, Memory>
@@ -138,7 +150,7 @@ impl<P: PoolName> ShardMap<P> {
             → pairs_shown self.old.seat.holds pairs.items ≡ finite.entries s) }
         ensures memory { OnErr result ((taker.new ≡ taker.old) × (self.new.seat ≡ self.old.seat)) }
     {
-        pin_values(alloc, pool, &mut self.kept, taker)
+        pin_values(pool, &mut self.kept, taker)
     }
 
     /// Does nothing, and tells a proof what is true of every shard_map.
@@ -157,6 +169,7 @@ impl<P: PoolName> ShardMap<P> {
     {
         let ShardMap { kept } = self;
         let Kept {
+            alloc: _,
             own,
             values: _,
             start: _,

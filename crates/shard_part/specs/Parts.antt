@@ -1,11 +1,12 @@
 -- What a part of the code stands for.
-use Rattle.std.specs.Prelude.{◌≡◌, List, [], ℕ, true, false}
+use Rattle.std.specs.Prelude.{◌≡◌, List, [], ℕ, Bool, true, false, is_some}
 use Rattle.flake_model.specs.Store as store
 use Rattle.flake_model.specs.Store.{Operation}
 use Rattle.shard_part.specs.declared.part.Part.{Part}
 use Rattle.shard_part.specs.declared.part.PartOp.{PartOp}
 use Rattle.shard_part.specs.declared.part.PartOp.TheVariants.{Set, SetNx, SetXx, SetGet, SetNxGet, SetXxGet}
 use Rattle.shard_part.specs.declared.part.PartOp.TheVariants.{Get, Append, Del, Exists, StrLen, GetRange}
+use Rattle.shard_part.specs.Settings.{when_by, set_part, setting_of}
 
 -- the operation on a key, with a value where it takes one
 abbrev pub operation_by : PartOp → List ℕ → List ℕ → Operation
@@ -25,9 +26,22 @@ operation_by (GetRange start end) key value = store.get_range key start end
 abbrev pub operation_of : Part → Operation
 operation_of part = operation_by part.op part.key.now part.value.now
 
+-- the part that does an operation
+abbrev pub part_by : Operation → PartOp
+part_by (store.get key) = Get
+part_by (store.set when asks key bytes) = set_part (when_by when) asks
+part_by (store.append key bytes) = Append
+part_by (store.del key) = Del
+part_by (store.exists key) = Exists
+part_by (store.str_len key) = StrLen
+part_by (store.get_range key first last) = GetRange first last
+
+abbrev pub takes_value : PartOp → Bool
+takes_value Append = true
+takes_value part = is_some (setting_of part)
+
 -- a part that takes no value has none
 abbrev pub HasOwnValue : PartOp → List ℕ → Type 0
-HasOwnValue Get value = value ≡ []
 HasOwnValue Set value = Unit {0}
 HasOwnValue SetNx value = Unit {0}
 HasOwnValue SetXx value = Unit {0}
@@ -35,7 +49,4 @@ HasOwnValue SetGet value = Unit {0}
 HasOwnValue SetNxGet value = Unit {0}
 HasOwnValue SetXxGet value = Unit {0}
 HasOwnValue Append value = Unit {0}
-HasOwnValue Del value = value ≡ []
-HasOwnValue Exists value = value ≡ []
-HasOwnValue StrLen value = value ≡ []
-HasOwnValue (GetRange start end) value = value ≡ []
+HasOwnValue part value = value ≡ []

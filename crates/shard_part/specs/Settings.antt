@@ -3,7 +3,6 @@ use Rattle.std.specs.Prelude.{ℕ, Bool, true, false, List, Option, Some, None}
 use Rattle.flake_model.specs.Store as store
 use Rattle.shard_part.specs.declared.part.PartOp.{PartOp}
 use Rattle.shard_part.specs.declared.part.PartOp.TheVariants.{Set, SetNx, SetXx, SetGet, SetNxGet, SetXxGet}
-use Rattle.shard_part.specs.declared.part.PartOp.TheVariants.{Get, Append, Del, Exists, StrLen, GetRange}
 use Rattle.shard_part.specs.declared.setting.When.{When}
 use Rattle.shard_part.specs.declared.setting.When.TheVariants.{Always, IfMissing, IfPresent}
 use Rattle.shard_part.specs.declared.setting.Setting.{Setting}
@@ -12,6 +11,11 @@ abbrev pub when_of : When → store.When
 when_of Always = store.always
 when_of IfMissing = store.if_missing
 when_of IfPresent = store.if_present
+
+abbrev pub when_by : store.When → When
+when_by store.always = Always
+when_by store.if_missing = IfMissing
+when_by store.if_present = IfPresent
 
 -- the part that sets so
 abbrev pub set_part : When → Bool → PartOp
@@ -37,9 +41,4 @@ setting_of SetXx = sets IfPresent false
 setting_of SetGet = sets Always true
 setting_of SetNxGet = sets IfMissing true
 setting_of SetXxGet = sets IfPresent true
-setting_of Get = None
-setting_of Append = None
-setting_of Del = None
-setting_of Exists = None
-setting_of StrLen = None
-setting_of (GetRange start end) = None
+setting_of part = None

@@ -5,6 +5,7 @@ mod hash;
 mod part;
 mod setting;
 
+pub use flake_base::VALUE_LIMIT;
 pub use hash::shard_of;
-pub use part::{Part, PartOp, VALUE_LIMIT};
+pub use part::{Part, PartOp};
 pub use setting::{Setting, When};

@@ -1,10 +1,8 @@
 ghost use Rattle.std.specs.Prelude.{◌≡◌};
 ghost use Rattle.shard_part.specs.Settings.{setting_of};
+ghost use Rattle.shard_part.specs.Parts.{takes_value};
 
 use crate::{Setting, When};
-
-/// The most bytes of a value, and of what is appended to one.
-pub const VALUE_LIMIT: usize = 65_536;
 
 /// What is done to a key.
 #[derive(Clone, Copy, Debug, PartialEq, Eq)]
@@ -42,6 +40,22 @@ impl PartOp {
             _ => return None,
         };
         Some(Setting { when, asks })
+    }
+
+    /// Whether the part takes a value: the sets and `Append` do.
+    pub fn takes_value(self) -> bool
+        ensures { result ≡ takes_value self }
+    {
+        match self {
+            PartOp::Set
+            | PartOp::SetNx
+            | PartOp::SetXx
+            | PartOp::SetGet
+            | PartOp::SetNxGet
+            | PartOp::SetXxGet
+            | PartOp::Append => true,
+            _ => false,
+        }
     }
 }
 

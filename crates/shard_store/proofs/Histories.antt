@@ -1,11 +1,10 @@
 -- A shard's history with one deed more.
 use Rattle.std.proofs.Common.{OnErr, Ok, Err, Result, ◌≡◌, ℕ, ◌-◌, List, [], ◌∷◌, ◌++◌, length, take, drop, refl, sym}
-use Rattle.std.proofs.Common.{ap, ◌∙◌, subst, arith}
+use Rattle.std.proofs.Common.{Option, ap, ◌∙◌, subst, arith}
 use Rattle.std.proofs.lemmas.List.{map-append, drop_at, take_all, length-drop}
 use Rattle.std.specs.Ordering.{nat_cmp}
 use Rattle.std.specs.Cmp.Lexicographic.{slice_cmp}
 use Rattle.std.specs.FinMap as finite
-use Rattle.pin_core.specs.Holding.{Holding}
 use Rattle.pin_core.specs.declared.sizes.Sizes.{Sizes}
 use Rattle.pin_core.specs.declared.class.Class.{Class}
 use Rattle.pin_core.specs.declared.class.Class.TheVariants.{Small, Large}
@@ -21,13 +20,12 @@ use Rattle.flake_model.specs.Store.{missing, done, length_is, did, too_long, key
 use Rattle.flake_model.specs.Deed.{Deed, deed_at, Places, places_after, found_at, IsLegalDeed, IsLegalFrom, store_left}
 use Rattle.flake_model.specs.Deed.{places_left, final_store, final_places}
 use Rattle.frag_value.specs.Changes.{found_none}
-use Rattle.frag_value.specs.Taken.{TakenPiece}
 use Rattle.frag_value.specs.declared.error.PlaceError.{PlaceError}
 use Rattle.frag_value.specs.declared.error.PlaceError.TheVariants as unplaced
 use Rattle.pinned_pool.specs.declared.pool.NoBuffer.{NoBuffer}
 use Rattle.order_book.specs.Pages.{ShardList, SessionList, shard_with, session_with, new_shard}
-use Rattle.shard_core.specs.Kept.{Entries, IsKept, Agrees}
-use Rattle.shard_core.specs.ShardMaps.{ShardMapView}
+use Rattle.shard_core.specs.Kept.{IsKept, Agrees}
+use Rattle.shard_core.specs.ShardMaps.{ShardMapView, ShardState}
 use Rattle.shard_core.specs.Demand.{part_row}
 use Rattle.shard_core.specs.Done.{IsDone}
 use Rattle.shard_core.specs.Paid.{IsPaid, HasNone, LacksBuffers, NeedsBuffers, WhyPartRefused}
@@ -37,6 +35,10 @@ use Rattle.shard_core.proofs.Holds.{are_apart}
 use Rattle.shard_part.specs.Parts.{operation_by}
 use Rattle.shard_part.specs.declared.part.PartOp.{PartOp}
 use Rattle.shard_part.specs.declared.part.PartOp.TheVariants as part
+use Rattle.call_model.specs.Needed.{may_need, SoughtFor}
+use Rattle.call_model.specs.Outcomes.{PartOutcome, answer_told, missed_in}
+use Rattle.call_model.specs.Parts.{KeepsSeat}
+use Rattle.call_model.proofs.Needed.{needs_one}
 use Rattle.shard_store.specs.Shards.{IsShard, answer_after, found_after, first_after, segment_addresses}
 
 store-snoc : (s : Store) (ds : List Deed) (d : Deed) → store_left s (ds ++ d ∷ []) ≡ after (store_left s ds) d.operation
@@ -70,11 +72,13 @@ begins z number shard_map own list journal none new empty =
       };
     })
 
-module _ (z : Sizes) (number : ℕ) (shard_map now : ShardMapView) (list : ShardList) (journal : List Entry) (at : Entry)
-    (operation : Operation) (said : PartAnswer) (segs0 segs1 : List Seg) (t0 t1 : List TakenPiece)
-    (was : IsShard z number shard_map list journal)
-    (d : IsDone z operation (final_store list.told) (final_places list.told) now.entries now.seat.holds said segs0
-    segs1 t0 t1) where
+module _ (z : Sizes) (number : ℕ) (list : ShardList) (journal : List Entry) (at : Entry)
+    (operation : Operation) (said : PartAnswer) (old new : ShardState)
+    (was : IsShard z number old.shard list journal)
+    (d : IsDone z operation (final_store list.told) (final_places list.told) said old new) where
+  abbrev pub now : ShardMapView
+  now = new.shard
+
   -- the deed, by the definitions
   abbrev pub the_deed : Deed
   the_deed = deed_at at operation (answer_after list.told operation) (found_after list.told operation)
@@ -194,11 +198,38 @@ refused z operation e none u w is paid why = (
   subst (λ x. WhyPartRefused z operation x u w) is why,
 )
 
-pub needed : (z : Sizes) (operation : Operation) (es : Entries) (holds : List Holding) (e : PlaceError)
-    (none : NoBuffer) (u w : View) → e ≡ unplaced.NoBuffer none → NeedsBuffers z operation es holds e u w
-    → (store : Store) (places : Places) → Agrees z es holds store places
-    → LacksBuffers z (finite.get store (key_of operation)) operation none u w
-needed z operation es holds e none u w is needs = subst (λ x. NeedsBuffers z operation es holds x u w) is needs
+pub needed : (z : Sizes) (operation : Operation) (e : PlaceError) (none : NoBuffer) (old new : ShardState)
+    → e ≡ unplaced.NoBuffer none → NeedsBuffers z operation e old new
+    → (store : Store) (places : Places) → Agrees z old.shard.entries old.shard.seat.holds store places
+    → LacksBuffers z (finite.get store (key_of operation)) operation none old.payer new.payer
+needed z operation e none old new is needs = subst (λ x. NeedsBuffers z operation x old new) is needs
+
+-- a part for which memory was wanting
+pub wanting : (z : Sizes) (operation : Operation) (e : PlaceError) (u w : View) → e ≡ unplaced.Memory
+    → IsPaid z (λ (class : Class). part_row class operation) (found_none {A = PartAnswer} (Err e)) u w
+    → IsPaid z (λ (class : Class). part_row class operation) 0 u w
+wanting z operation e u w is paid =
+    subst (λ x. IsPaid z (λ (class : Class). part_row class operation) (found_none {A = PartAnswer} (Err x)) u w) is
+    paid
+
+-- of each class a part misses only what it may need
+pub paid_part : (z : Sizes) (operation : Operation) (outcome : Option PartOutcome) (u w : View)
+    → IsPaid z (λ (class : Class). part_row class operation) (missed_in (outcome ∷ [])) u w
+    → SoughtFor z (λ (class : Class). part_row class operation)
+    (λ (class : Class). may_need class operation (answer_told outcome)) (missed_in (outcome ∷ [])) u w
+paid_part z operation outcome u w paid = needs_one z operation outcome u w paid.sought (λ class. omega (
+  arith,
+  ap (buffers_in z class) paid.claims.1,
+  buffers-append z class u.claims paid.claims.0,
+))
+
+-- what is paid keeps the seat
+pub seat_kept : (z : Sizes) (rows : Class → ℕ) (requests : ℕ) (u w : View) → IsPaid z rows requests u w → KeepsSeat u w
+seat_kept z rows requests u w paid = record {
+  holds = paid.holds;
+  credits = paid.credits;
+  returns = paid.returns;
+}
 
 pub on_err : {A E : Type 0} (P : Type 0) (r : Result A E) → P → OnErr r P
 on_err P (Ok a) p = tt

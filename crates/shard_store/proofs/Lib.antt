@@ -6,3 +6,4 @@ mod Counted
 mod Stocked
 mod Gathering
 pub mod Imaged
+mod Seating

@@ -1,17 +1,13 @@
 //! One of the shards' locks.
-ghost use Rattle.std.specs.Prelude.{◌≡◌, ◌+◌, ◌≤◌, true, nat_lt, min, is_some, length, IfOk, OnErr};
+ghost use Rattle.std.specs.Prelude.{◌≡◌, ◌+◌, true, nat_lt, min, is_some, length};
 ghost use Rattle.view_sums.specs.Total.{Each};
 ghost use Rattle.order_book.specs.Pages.{new_shards};
 ghost use Rattle.shard_core.specs.ShardMaps.{IsBare};
-ghost use Rattle.pin_core.specs.Buffers.{buffers};
-ghost use Rattle.shard_store.specs.Images.{IsImage};
 
-use crate::image::ShardImage;
 use crate::shard::Shard;
 use crate::spread::ClaimSpread;
-use flake_base::Memory;
-use order_book::{Book, BookName, SessionSeat, ShardSeats};
-use pinned_pool::{Pool, PoolName, PoolSeat, PoolSeats};
+use order_book::{BookName, ShardSeats};
+use pinned_pool::{PoolName, PoolSeats};
 use std::alloc::Global;
 use std::sync::{Mutex, MutexGuard, Wait};
 
@@ -51,24 +47,4 @@ pub(crate) fn locked<'a, R: Wait, N: BookName, P: PoolName, const I: u16>(
 {
     let Some(lock) = lock else { unreachable!() };
     lock.lock(rt)
-}
-
-/// Pins all values of the shard behind the lock.
-pub(crate) fn pin_in<R: Wait, N: BookName, P: PoolName, const I: u16>(
-    rt: &R,
-    alloc: Global,
-    pool: &Pool<P>,
-    book: &Book<N>,
-    seat: &mut PoolSeat<P>,
-    mine: &mut SessionSeat<N>,
-    lock: &Option<Mutex<Shard<N, P, I>>>,
-) -> Result<ShardImage<P>, Memory>
-    requires open { is_some lock.now ≡ true }
-    requires credits { buffers P.sizes + 4 ≤ seat.old.credits }
-    ensures image { IfOk result (λ i. IsImage P.sizes I i.place i.pairs.items mine.old mine.new seat.old seat.new) }
-    ensures memory { OnErr result ((seat.new ≡ seat.old) × (mine.new ≡ mine.old)) }
-{
-    let Some(lock) = lock else { unreachable!() };
-    let mut guard = lock.lock(rt);
-    guard.pin(alloc, pool, book, seat, mine)
 }

@@ -1,17 +1,19 @@
 //! What stands behind a shard's lock.
-ghost use Rattle.std.specs.Prelude.{◌≡◌, ◌+◌, ◌<◌, ◌≤◌, true, false, None, length, IfOk, OnErr};
+ghost use Rattle.std.specs.Prelude.{◌≡◌, ◌+◌, ◌<◌, ◌≤◌, length, IfOk, OnErr};
 ghost use Rattle.flake_model.specs.Journal.{shard_of as shard_of_key};
 ghost use Rattle.frag_value.specs.Fragments.{frags_limit};
 ghost use Rattle.flake_base.specs.Limits.{value_limit};
 ghost use Rattle.order_book.specs.Pages.{new_shard};
 ghost use Rattle.shard_core.specs.Done.{is_taking, is_ranged};
 ghost use Rattle.shard_core.specs.ShardMaps.{IsBare};
+ghost use Rattle.shard_core.specs.Takers.{MayTake, KeepsTaker, taking};
 ghost use Rattle.shard_part.specs.Parts.{operation_of};
-ghost use Rattle.call_model.specs.Parts.{PartShows, IsUntold, KeepsSeat};
+ghost use Rattle.call_model.specs.Parts.{PartEnds};
 ghost use Rattle.pin_core.specs.Buffers.{buffers};
 ghost use Rattle.shard_store.specs.Shards.{IsFreeAfter};
 ghost use Rattle.shard_store.specs.Images.{IsImage};
 
+use crate::asked::{AskedPart, Commons};
 use crate::done::DonePart;
 use crate::image::ShardImage;
 use flake_base::{Entry, Memory, Segs};
@@ -19,7 +21,6 @@ use frag_value::{PlaceError, Taker};
 use order_book::{Book, BookName, SessionSeat, ShardSeat};
 use pinned_pool::{ClaimStart, Pool, PoolName, PoolSeat};
 use shard_core::{PartAnswer, ShardMap};
-use shard_part::Part;
 use std::alloc::Global;
 use std::marker::Model;
 use std::snapshot::Snapshot;
@@ -64,58 +65,45 @@ impl<N: BookName, P: PoolName, const I: u16> Shard<N, P, I> {
     /// Does the part, and enters it last in the shard's history and in the session's list.
     pub(crate) fn run<T: Taker<P>>(
         &mut self,
-        alloc: Global,
-        pool: &Pool<P>,
-        book: &Book<N>,
+        commons: &Commons<'_, N, P>,
         payer: &mut PoolSeat<P>,
         mine: &mut SessionSeat<N>,
-        at: Entry,
-        part: &Part<'_>,
+        asked: &AskedPart<'_>,
         taker: &mut T,
         stored: &mut Segs,
     ) -> Result<PartAnswer, Memory>
-        requires here { shard_of_key N.sizes.shards part.now.key.now ≡ I }
-        requires session { at.session ≡ mine.old.number }
-        requires few { length part.now.value.now ≤ value_limit }
+        requires here { shard_of_key N.sizes.shards asked.now.part.key.now ≡ I }
+        requires session { asked.now.at.session ≡ mine.old.number }
+        requires few { length asked.now.part.value.now ≤ value_limit }
         requires credits { 1 < payer.old.credits }
         requires spare { frags_limit ≤ stored.old.spare }
-        requires room { is_taking (operation_of part.now) ≡ true → 0 < T.room taker.old }
-        requires range_room { is_ranged (operation_of part.now) ≡ true → 0 < T.range_room taker.old }
-        requires none { T.begun taker.old ≡ None }
-        ensures told { IfOk result (λ said. PartShows P.sizes N.sizes.shards at (operation_of part.now) said
-            mine.old mine.new payer.old payer.new stored.old.items stored.new.items
-            (T.taken taker.old) (T.taken taker.new)) }
-        ensures untold { OnErr result (IsUntold P.sizes (operation_of part.now)
-            mine.old mine.new payer.old payer.new stored.old.items stored.new.items
-            (T.taken taker.old) (T.taken taker.new)) }
-        ensures payer { KeepsSeat payer.old payer.new }
-        ensures free { IsFreeAfter self.old.told (operation_of part.now) result payer.old payer.new }
+        requires taker { let op = operation_of asked.now.part in
+            MayTake (is_taking op) (is_ranged op) (taking T.Taker taker.old) }
+        ensures part { PartEnds P.sizes N.sizes.shards asked.now.at (operation_of asked.now.part) result
+            (record { list = mine.old; seat = payer.old; stored = stored.old.items; taken = T.taken taker.old })
+            (record { list = mine.new; seat = payer.new; stored = stored.new.items; taken = T.taken taker.new }) }
+        ensures free { IsFreeAfter self.old.told (operation_of asked.now.part) result payer.old payer.new }
         ensures spare { stored.old.spare + length stored.old.items ≤ stored.new.spare + length stored.new.items }
-        ensures none { T.begun taker.new ≡ None }
-        ensures base { T.base taker.new ≡ T.base taker.old }
-        ensures room { is_ranged (operation_of part.now) ≡ false
-            → T.room taker.old + length (T.taken taker.old) ≤ T.room taker.new + length (T.taken taker.new) }
-        ensures range_room { is_ranged (operation_of part.now) ≡ true
-            → T.range_room taker.old + length (T.taken taker.old)
-            ≤ T.range_room taker.new + length (T.taken taker.new) }
+        ensures taker { let range = is_ranged (operation_of asked.now.part) in
+            KeepsTaker range (taking T.Taker taker.old) (taking T.Taker taker.new) }
     {
         self.journal.reserve(1)?;
         self.shard_map.is_shard_map();
         let from = stored.len();
         match self
             .shard_map
-            .apply(alloc, pool, payer, part, taker, stored)
+            .apply(commons.pool, payer, &asked.part, taker, stored)
         {
             Ok(answer) => {
                 self.shard_map.is_shard_map();
                 let deed = DonePart {
-                    at,
-                    part: *part,
+                    at: asked.at,
+                    part: asked.part,
                     history: Snapshot::of(&self.seat),
                     stored: &stored.as_slice()[from..],
                 };
-                book.meet(&mut self.seat, mine, &deed);
-                self.journal.push_reserved(at);
+                commons.book.meet(&mut self.seat, mine, &deed);
+                self.journal.push_reserved(asked.at);
                 Ok(answer)
             }
             Err(PlaceError::NoBuffer(none)) => Ok(PartAnswer::NoBuffer(none)),
@@ -127,7 +115,6 @@ impl<N: BookName, P: PoolName, const I: u16> Shard<N, P, I> {
     /// changed.
     pub(crate) fn pin(
         &mut self,
-        alloc: Global,
         pool: &Pool<P>,
         book: &Book<N>,
         seat: &mut PoolSeat<P>,
@@ -138,7 +125,7 @@ impl<N: BookName, P: PoolName, const I: u16> Shard<N, P, I> {
             mine.old mine.new seat.old seat.new) }
         ensures memory { OnErr result ((seat.new ≡ seat.old) × (mine.new ≡ mine.old)) }
     {
-        let pairs = self.shard_map.pin_all(alloc, pool, seat)?;
+        let pairs = self.shard_map.pin_all(pool, seat)?;
         seat.is_seat();
         let place = book.both_lists(&mut self.seat, mine);
         Ok(ShardImage { place, pairs })

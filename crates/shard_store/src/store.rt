@@ -1,5 +1,5 @@
 //! The shards, each behind a lock of its own.
-ghost use Rattle.std.specs.Prelude.{◌≡◌, ◌+◌, ◌<◌, ◌≤◌, true, false, nat_lt, min, is_some, None, [], length};
+ghost use Rattle.std.specs.Prelude.{◌≡◌, ◌+◌, ◌<◌, ◌≤◌, nat_lt, min, is_some, [], length};
 ghost use Rattle.std.specs.Prelude.{IfOk, IfErr, OnErr};
 ghost use Rattle.view_sums.specs.Total.{Each};
 ghost use Rattle.frag_value.specs.Fragments.{frags_limit};
@@ -7,24 +7,26 @@ ghost use Rattle.flake_base.specs.Limits.{value_limit};
 ghost use Rattle.order_book.specs.Pages.{new_shards};
 ghost use Rattle.shard_core.specs.Done.{is_taking, is_ranged};
 ghost use Rattle.shard_core.specs.ShardMaps.{IsBare};
+ghost use Rattle.shard_core.specs.Takers.{MayTake, KeepsTaker, taking};
 ghost use Rattle.shard_part.specs.Parts.{operation_of};
-ghost use Rattle.call_model.specs.Parts.{PartShows, IsUntold, KeepsSeat};
+ghost use Rattle.call_model.specs.Parts.{PartEnds};
 ghost use Rattle.call_model.specs.Stock.{AreParts, HasValuesLeft};
 ghost use Rattle.flake_base.specs.Histories.{histories};
 ghost use Rattle.pin_core.specs.Buffers.{buffers};
 ghost use Rattle.shard_store.specs.Images.{IsImage};
 
+use crate::asked::{AskedPart, Commons};
 use crate::image::ShardImage;
-use crate::locks::{locked, open_lock, pin_in};
+use crate::locks::{locked, open_lock};
 use crate::parts::{Parts, Room, all_taken, first_lock, take_lock};
 use crate::shard::Shard;
 use crate::spread::ClaimSpread;
-use flake_base::{Entry, Memory, Segs, Sequence};
+use flake_base::{Memory, Segs, Sequence};
 use frag_value::Taker;
 use order_book::{Book, BookName, SessionSeat, ShardSeats};
 use pinned_pool::{Pool, PoolName, PoolSeat, PoolSeats};
 use shard_core::PartAnswer;
-use shard_part::{Part, shard_of};
+use shard_part::shard_of;
 use std::alloc::Global;
 use std::sync::{Mutex, Wait};
 
@@ -57,7 +59,6 @@ macro_rules! in_shard {
 /// since all that a lock tells is its type.
 #[derive(Drop)]
 pub struct Store<N: BookName, P: PoolName> {
-    alloc: Global,
     shards: u16,
     shard0: Option<Mutex<Shard<N, P, 0>>>,
     shard1: Option<Mutex<Shard<N, P, 1>>>,
@@ -158,7 +159,6 @@ impl<N: BookName, P: PoolName> Store<N, P> {
         let shard1 = open_lock(alloc, shards, spread, &mut seats, &mut books);
         let shard0 = open_lock(alloc, shards, spread, &mut seats, &mut books);
         Store {
-            alloc,
             shards,
             shard0,
             shard1,
@@ -186,42 +186,28 @@ impl<N: BookName, P: PoolName> Store<N, P> {
     pub fn run_part<R: Wait, T: Taker<P>>(
         &self,
         rt: &R,
-        pool: &Pool<P>,
-        book: &Book<N>,
+        commons: &Commons<'_, N, P>,
         seat: &mut PoolSeat<P>,
         mine: &mut SessionSeat<N>,
-        at: Entry,
-        part: &Part<'_>,
+        asked: &AskedPart<'_>,
         taker: &mut T,
         stored: &mut Segs,
     ) -> Result<PartAnswer, Memory>
-        requires session { at.session ≡ mine.old.number }
-        requires few { length part.now.value.now ≤ value_limit }
+        requires session { asked.now.at.session ≡ mine.old.number }
+        requires few { length asked.now.part.value.now ≤ value_limit }
         requires credits { 1 < seat.old.credits }
         requires spare { frags_limit ≤ stored.old.spare }
-        requires room { is_taking (operation_of part.now) ≡ true → 0 < T.room taker.old }
-        requires range_room { is_ranged (operation_of part.now) ≡ true → 0 < T.range_room taker.old }
-        requires none { T.begun taker.old ≡ None }
-        ensures told { IfOk result (λ said. PartShows P.sizes N.sizes.shards at (operation_of part.now) said
-            mine.old mine.new seat.old seat.new stored.old.items stored.new.items
-            (T.taken taker.old) (T.taken taker.new)) }
-        ensures untold { OnErr result (IsUntold P.sizes (operation_of part.now)
-            mine.old mine.new seat.old seat.new stored.old.items stored.new.items
-            (T.taken taker.old) (T.taken taker.new)) }
-        ensures seat { KeepsSeat seat.old seat.new }
+        requires taker { let op = operation_of asked.now.part in
+            MayTake (is_taking op) (is_ranged op) (taking T.Taker taker.old) }
+        ensures part { PartEnds P.sizes N.sizes.shards asked.now.at (operation_of asked.now.part) result
+            (record { list = mine.old; seat = seat.old; stored = stored.old.items; taken = T.taken taker.old })
+            (record { list = mine.new; seat = seat.new; stored = stored.new.items; taken = T.taken taker.new }) }
         ensures spare { stored.old.spare + length stored.old.items ≤ stored.new.spare + length stored.new.items }
-        ensures none { T.begun taker.new ≡ None }
-        ensures base { T.base taker.new ≡ T.base taker.old }
-        ensures room { is_ranged (operation_of part.now) ≡ false
-            → T.room taker.old + length (T.taken taker.old) ≤ T.room taker.new + length (T.taken taker.new) }
-        ensures range_room { is_ranged (operation_of part.now) ≡ true
-            → T.range_room taker.old + length (T.taken taker.old)
-            ≤ T.range_room taker.new + length (T.taken taker.new) }
+        ensures taker { let range = is_ranged (operation_of asked.now.part) in
+            KeepsTaker range (taking T.Taker taker.old) (taking T.Taker taker.new) }
     {
-        let number = shard_of(part.key, self.shards);
-        in_shard!(self, rt, number, shard => {
-            shard.run(self.alloc, pool, book, seat, mine, at, part, taker, stored)
-        })
+        let number = shard_of(asked.part.key, self.shards);
+        in_shard!(self, rt, number, shard => shard.run(commons, seat, mine, asked, taker, stored))
     }
 
     /// How many shards there are.
@@ -250,25 +236,7 @@ impl<N: BookName, P: PoolName> Store<N, P> {
         ensures memory { OnErr result ((seat.new ≡ seat.old) × (mine.new ≡ mine.old)) }
     {
         let _ = self.shards;
-        match shard {
-            0 => pin_in(rt, self.alloc, pool, book, seat, mine, &self.shard0),
-            1 => pin_in(rt, self.alloc, pool, book, seat, mine, &self.shard1),
-            2 => pin_in(rt, self.alloc, pool, book, seat, mine, &self.shard2),
-            3 => pin_in(rt, self.alloc, pool, book, seat, mine, &self.shard3),
-            4 => pin_in(rt, self.alloc, pool, book, seat, mine, &self.shard4),
-            5 => pin_in(rt, self.alloc, pool, book, seat, mine, &self.shard5),
-            6 => pin_in(rt, self.alloc, pool, book, seat, mine, &self.shard6),
-            7 => pin_in(rt, self.alloc, pool, book, seat, mine, &self.shard7),
-            8 => pin_in(rt, self.alloc, pool, book, seat, mine, &self.shard8),
-            9 => pin_in(rt, self.alloc, pool, book, seat, mine, &self.shard9),
-            10 => pin_in(rt, self.alloc, pool, book, seat, mine, &self.shard10),
-            11 => pin_in(rt, self.alloc, pool, book, seat, mine, &self.shard11),
-            12 => pin_in(rt, self.alloc, pool, book, seat, mine, &self.shard12),
-            13 => pin_in(rt, self.alloc, pool, book, seat, mine, &self.shard13),
-            14 => pin_in(rt, self.alloc, pool, book, seat, mine, &self.shard14),
-            15 => pin_in(rt, self.alloc, pool, book, seat, mine, &self.shard15),
-            _ => unreachable!(),
-        }
+        in_shard!(self, rt, shard, found => found.pin(pool, book, seat, mine))
     }
 
     /// What the shards have come to: their histories, which are legal, and the seat that holds their final values, with
@@ -279,7 +247,6 @@ impl<N: BookName, P: PoolName> Store<N, P> {
         ensures values { HasValuesLeft P.sizes result.books.items result.seat }
     {
         let Store {
-            alloc: _,
             shards,
             shard0,
             shard1,

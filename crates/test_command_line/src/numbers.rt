@@ -1,6 +1,6 @@
 //! Requests that are generated from a number.
 use flake_base::{Bytes, Memory};
-use request_gen::{Draws, Key, Request, next_request, session_input};
+use request_gen::{DrawnRequest, Draws, Key, next_request, session_input};
 use std::alloc::Global;
 use std::test::Fail;
 
@@ -10,7 +10,7 @@ fn input(alloc: Global, number: u32, session: u16, count: u32) -> Result<Bytes, 
 }
 
 // And that of `next_request`.
-fn asked(draws: &mut Draws, r: u32) -> Request {
+fn asked(draws: &mut Draws, r: u32) -> DrawnRequest {
     next_request(draws, r)
 }
 
@@ -35,12 +35,12 @@ fn first_draws(rt: HostRuntime) {
 fn requests_by_number(rt: HostRuntime) {
     let mut draws = Draws::new(u32::MAX, 1);
     let table = [
-        (0, Request::Set(Key::Shared(0), 100)),
-        (15, Request::Set(Key::Shared(15), 8995)),
-        (16, Request::Set(Key::Own(0), 50)),
-        (31, Request::Set(Key::Own(15), 9050)),
-        (32, Request::Get(Key::Shared(0))),
-        (33, Request::Set(Key::Own(9), 7168)),
+        (0, DrawnRequest::Set(Key::Shared(0), 100)),
+        (15, DrawnRequest::Set(Key::Shared(15), 8995)),
+        (16, DrawnRequest::Set(Key::Own(0), 50)),
+        (31, DrawnRequest::Set(Key::Own(15), 9050)),
+        (32, DrawnRequest::Get(Key::Shared(0))),
+        (33, DrawnRequest::Set(Key::Own(9), 7168)),
     ];
     for (r, want) in table {
         assert_eq!(rt; asked(&mut draws, r), want);

@@ -18,7 +18,6 @@ mod resources;
 #[cfg(test)]
 mod rows;
 #[cfg(test)]
-mod seats;
 #[cfg(test)]
 mod staging;
 #[cfg(test)]

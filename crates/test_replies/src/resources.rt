@@ -1,7 +1,6 @@
 //! A store over a pool and a book of its own, one session, and its device.
 ghost use Rattle.std.specs.Prelude.{◌≡◌, ◌+◌, ◌<◌, ◌≤◌};
 
-use crate::seats::seats_of;
 use command_exec::{Pass, Shop};
 use device_model::Device;
 use flake_base::Memory;
@@ -9,7 +8,7 @@ use order_book::{Book, BookBlank, BookName};
 use pinned_pool::{Held, Pool, PoolBlank, PoolName};
 use reply_planner::Parcel;
 use session_pass::{Finish, Session};
-use shard_store::{Parts, Store};
+use shard_store::{Parts, Store, open_seats};
 use std::alloc::Global;
 use tx_descriptor::Framed;
 use tx_ring::ring;
@@ -47,7 +46,7 @@ pub fn open_resources<N: BookName, P: PoolName + Send>(
         return Err(Memory);
     };
     let number = mine.session();
-    let shard_maps = seats_of(alloc, &pool, &mut seat, books.len())?;
+    let shard_maps = open_seats(alloc, &pool, &mut seat, books.len())?;
     let Ok(pass) = Pass::open(alloc, &pool, seat, mine, threshold) else {
         return Err(Memory);
     };

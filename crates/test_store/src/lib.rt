@@ -4,7 +4,6 @@
 #[cfg(test)]
 mod calls;
 #[cfg(test)]
-mod seats;
 #[cfg(test)]
 mod shard_maps;
 #[cfg(test)]

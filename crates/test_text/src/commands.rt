@@ -144,12 +144,12 @@ fn check_lines(
 /// Keys of 512 bytes, values of 65,536 and messages of 16,384 are the longest.
 static COMMANDS: [(Op, Option<PartOp>, &str); 9] = [
     (
-        Op::Get,
+        Op::One(PartOp::Get),
         Some(PartOp::Get),
         "get|a>a\nGET|>\nGET|k*512>k*512",
     ),
     (
-        Op::Set,
+        Op::One(PartOp::Set),
         Some(PartOp::Set),
         "SeT|a|{crlf}>a>{crlf}\nSET|a|>a\nSET|k*512|v*65536>k*512>v*65536",
     ),
@@ -169,7 +169,7 @@ static COMMANDS: [(Op, Option<PartOp>, &str); 9] = [
         "eXiStS|k|k|>k|k|\nEXISTS|a>a\nEXISTS|a|k*512>a|k*512",
     ),
     (
-        Op::Append,
+        Op::One(PartOp::Append),
         Some(PartOp::Append),
         "aPPEND|a|b>a>b\nAPPEND|a|>a\nAPPEND|k*512|v*65536>k*512>v*65536",
     ),
@@ -180,7 +180,7 @@ static COMMANDS: [(Op, Option<PartOp>, &str); 9] = [
         "pInG|hi>>>hi\nPING|\nPING|m*16384>>>m*16384",
     ),
     (
-        Op::StrLen,
+        Op::One(PartOp::StrLen),
         Some(PartOp::StrLen),
         "STRLEN|a>a\nstrLen|>\nSTRLEN|k*512>k*512",
     ),
@@ -209,7 +209,7 @@ static SETS: [(PartOp, &str); 5] = [
 #[test]
 fn options(rt: HostRuntime) -> Result<(), Fail> {
     for (part, lines) in &SETS {
-        check_lines(&rt, rt.alloc(), Op::Set, Some(*part), lines)?;
+        check_lines(&rt, rt.alloc(), Op::One(*part), Some(*part), lines)?;
     }
     Ok(())
 }
@@ -238,7 +238,7 @@ fn ranges(rt: HostRuntime) -> Result<(), Fail> {
             start: *start,
             end: *end,
         };
-        check_line(&rt, rt.alloc(), Op::GetRange, Some(part), line)?;
+        check_line(&rt, rt.alloc(), Op::One(part), Some(part), line)?;
     }
     Ok(())
 }

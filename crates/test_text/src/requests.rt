@@ -293,6 +293,28 @@ fn many_words(rt: HostRuntime) -> Result<(), Fail> {
     Ok(())
 }
 
+// No head takes room by itself: of a word of 1,048,576 bytes 5 came, then 4,096 in all, then all.
+#[test]
+fn room_for_what_comes(rt: HostRuntime) -> Result<(), Fail> {
+    let mut reader = Reader::new(rt.alloc());
+    assert!(rt; reader.feed(b"*1\r\n$1048576\r\n12345") == Ok(()));
+    assert_eq!(rt; reader.capacity(), 128);
+    let more = vec![in rt.alloc(); b'7'; 4090]?;
+    assert!(rt; reader.feed(&more) == Ok(()));
+    assert!(rt; reader.capacity() <= 2 * 4096);
+    assert!(rt; reader.feed(b"6") == Ok(()));
+    assert_eq!(rt; reader.capacity(), 65_536);
+    let rest = vec![in rt.alloc(); b'8'; 1_048_576 - 4096]?;
+    assert!(rt; reader.feed(&rest) == Ok(()));
+    assert!(rt; reader.feed(b"\r\n") == Ok(()));
+    let Some(request) = reader.next() else {
+        return Err(Fail::from("no request"));
+    };
+    assert_eq!(rt; request.len(), 1);
+    assert_eq!(rt; request.word(0).len(), 1_048_576);
+    Ok(())
+}
+
 // A request of PING and 1,048,576 bytes, 1,048,602 in all.
 fn longest(alloc: Global) -> Result<Vec<u8>, AllocError> {
     let mut input = Vec::from_slice(alloc, b"*2\r\n$4\r\nPING\r\n$1048576\r\n")?;

@@ -84,6 +84,7 @@ fn settings_of_parts(rt: HostRuntime) {
     for (part, setting) in &SETS {
         assert_eq!(rt; part.setting(), Some(*setting));
         assert_eq!(rt; setting.part_op(), *part);
+        assert!(rt; part.takes_value());
     }
     let others = [
         PartOp::Get,
@@ -95,6 +96,7 @@ fn settings_of_parts(rt: HostRuntime) {
     ];
     for part in others {
         assert_eq!(rt; part.setting(), None);
+        assert_eq!(rt; part.takes_value(), part == PartOp::Append);
     }
 }
 

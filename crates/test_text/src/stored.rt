@@ -1,4 +1,4 @@
-use byte_store::{PartAnswer, Store};
+use byte_store::{ByteAnswer, ByteStore};
 use flake_base::Memory;
 use shard_part::{Part, PartOp, VALUE_LIMIT};
 use std::alloc::Global;
@@ -20,24 +20,24 @@ enum Told {
 type Row = (PartOp, &'static [u8], &'static [u8], Told);
 
 // The only call of `run`. It has no clauses, so that no assertion carries those of `run`.
-fn ran(store: &mut Store, alloc: Global, part: &Part<'_>) -> Result<PartAnswer, Memory> {
+fn ran(store: &mut ByteStore, alloc: Global, part: &Part<'_>) -> Result<ByteAnswer, Memory> {
     store.run(alloc, part)
 }
 
-fn expect(rt: &impl Abort, answer: &PartAnswer, told: Told) {
+fn expect(rt: &impl Abort, answer: &ByteAnswer, told: Told) {
     match (answer, told) {
-        (PartAnswer::Bulk(bytes), Told::Bulk(text)) => assert_eq!(rt; bytes.as_slice(), text),
-        (PartAnswer::Length(length), Told::Length(wanted)) => assert_eq!(rt; *length, wanted),
-        (PartAnswer::Did(did), Told::Did(wanted)) => assert_eq!(rt; *did, wanted),
-        (PartAnswer::Null, Told::Null)
-        | (PartAnswer::Done, Told::Done)
-        | (PartAnswer::TooLong, Told::TooLong) => (),
+        (ByteAnswer::Bulk(bytes), Told::Bulk(text)) => assert_eq!(rt; bytes.as_slice(), text),
+        (ByteAnswer::Length(length), Told::Length(wanted)) => assert_eq!(rt; *length, wanted),
+        (ByteAnswer::Did(did), Told::Did(wanted)) => assert_eq!(rt; *did, wanted),
+        (ByteAnswer::Null, Told::Null)
+        | (ByteAnswer::Done, Told::Done)
+        | (ByteAnswer::TooLong, Told::TooLong) => (),
         _ => assert!(rt; false),
     }
 }
 
 fn check_all(rt: &impl Abort, alloc: Global, rows: &[Row]) -> Result<(), Fail> {
-    let mut store = Store::new(alloc);
+    let mut store = ByteStore::new(alloc);
     for (op, key, value, told) in rows {
         let part = Part {
             op: *op,

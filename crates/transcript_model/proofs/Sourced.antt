@@ -58,20 +58,14 @@ single_write : (command : Command) (number : ℕ) (operation : Operation) → sl
     ≡ Some operation → IsWrite operation → (number ≡ 0) × (parts command ≡ operation ∷ [])
 single_write asked.ping number operation is writes = absurd (none_there number operation is)
 single_write (asked.ping_with bytes) number operation is writes = absurd (none_there number operation is)
-single_write (asked.get key) number operation is writes = only_one (part.get key) operation number is
-single_write (asked.set when answers key bytes) number operation is writes =
-    only_one (part.set when answers key bytes) operation number is
 single_write (asked.mget keys) number operation is writes =
     absurd (no_write part.get (λ key never. never) keys number operation is writes)
 single_write (asked.del keys) number operation is writes =
     absurd (no_write part.del (λ key never. never) keys number operation is writes)
 single_write (asked.exists keys) number operation is writes =
     absurd (no_write part.exists (λ key never. never) keys number operation is writes)
-single_write (asked.append key bytes) number operation is writes = only_one (part.append key bytes) operation number is
-single_write (asked.str_len key) number operation is writes = only_one (part.str_len key) operation number is
-single_write (asked.get_range key start end) number operation is writes =
-    only_one (part.get_range key start end) operation number is
 single_write (asked.fault kind) number operation is writes = absurd (none_there number operation is)
+single_write command number operation is writes = only_one _ operation number is
 
 -- what a call stored, where its only part did this deed
 stored_by_one : (terms : Terms) (call : ℕ) (command : Command) (operation : Operation) (deed : Deed) → parts command

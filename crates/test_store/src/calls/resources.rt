@@ -1,13 +1,12 @@
 //! A store over a pool and a book of its own, and the pass of one session.
 ghost use Rattle.std.specs.Prelude.{◌≡◌, ◌+◌, ◌<◌, ◌≤◌};
 
-use crate::seats::seats_of;
 use command_exec::Pass;
 use flake_base::{Journal, Memory};
 use order_book::{Book, BookBlank, BookName};
 use pinned_pool::{Held, Pool, PoolBlank, PoolName};
 use reply_planner::STAGE_SIZE;
-use shard_store::{Parts, Store};
+use shard_store::{Parts, Store, open_seats};
 use std::alloc::Global;
 
 /// What one session needs. Its pass has all credits but those of the shards.
@@ -39,7 +38,7 @@ pub fn open_resources<N: BookName, P: PoolName>(
     let Some(mine) = sessions.pop() else {
         return Err(Memory);
     };
-    let shard_maps = seats_of(alloc, &pool, &mut seat, books.len())?;
+    let shard_maps = open_seats(alloc, &pool, &mut seat, books.len())?;
     let Ok(pass) = Pass::open(alloc, &pool, seat, mine, threshold) else {
         return Err(Memory);
     };

@@ -92,7 +92,6 @@ impl<P: PoolName> World<P> {
         let mut copier = Copier::new(alloc)?;
         let mut stored: Segs = Sequence::with_room(alloc, 16)?;
         let answer = self.shard_map.apply(
-            alloc,
             &self.pool,
             &mut self.payer,
             &part,

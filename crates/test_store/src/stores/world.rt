@@ -1,12 +1,13 @@
 //! A store over a pool and a book of its own, and two sessions that ask in threads of their own.
 ghost use Rattle.std.specs.Prelude.{◌≡◌, ◌+◌, ◌<◌, ◌≤◌};
 
-use crate::seats::seats_of;
 use flake_base::{Entry, Journal, Memory, Seg, Segs, Sequence};
 use order_book::{Book, BookBlank, BookName, SessionSeat};
 use pinned_pool::{Held, Pool, PoolBlank, PoolName, PoolSeat};
 use shard_part::VALUE_LIMIT;
-use shard_store::{ClaimSpread, Part, PartAnswer, PartOp, Parts, Store};
+use shard_store::{
+    AskedPart, ClaimSpread, Commons, Part, PartAnswer, PartOp, Parts, Store, open_seats,
+};
 use std::alloc::Global;
 use std::sync::Wait;
 use std::thread::{Threads, join};
@@ -71,16 +72,15 @@ fn run_one<N: BookName, P: PoolName, R: Wait>(
         key: asked.key,
         value: asked.value,
     };
+    let commons = Commons { pool, book };
     let mut copier = Copier::new(alloc)?;
     let mut stored: Segs = Sequence::with_room(alloc, 16)?;
     let answer = store.run_part(
         rt,
-        pool,
-        book,
+        &commons,
         &mut session.seat,
         &mut session.mine,
-        at,
-        &part,
+        &AskedPart { at, part },
         &mut copier,
         &mut stored,
     )?;
@@ -195,7 +195,7 @@ pub fn run_named<N: BookName + Send + Sync, P: PoolName + Send + Sync, R: Thread
     let (Some(other), Some(mine)) = (sessions.pop(), sessions.pop()) else {
         return Err(Memory);
     };
-    let shard_maps = seats_of(alloc, &pool, &mut seat, books.len())?;
+    let shard_maps = open_seats(alloc, &pool, &mut seat, books.len())?;
     let second_seat = pool.split(&mut seat, (), 2);
     let Ok(store) = Store::open_spread(alloc, shard_maps, books, spread) else {
         return Err(Memory);

@@ -25,7 +25,7 @@ returns-in-Bulk-clause-value g c =
     let ran = c.in_ok-run_part.ensures.ran in
     adds_value g.P.PoolName.sizes g.N.BookName.sizes.shards c.args.at operation said c.args.pass.now c.run_part.new.pass
     c.args.stored.now.items c.run_part.new.stored.items c.args.plan.now mid ran
-    mid c.requires.none c.requires.threshold plain
+    mid c.requires.none plain
     (bulk_plan g.P.PoolName.sizes g.N.BookName.sizes.shards c.args.at operation said c.args.pass.now c.run_part.new.pass
     c.args.stored.now.items c.run_part.new.stored.items c.args.plan.now mid ran c.in-Bulk.is)
     (omega arith)
@@ -62,7 +62,7 @@ returns-in_default-clause-value g c =
     let item = null_item said c.in_default.not-Bulk in
     adds_value g.P.PoolName.sizes g.N.BookName.sizes.shards c.args.at operation said c.args.pass.now c.run_part.new.pass
     c.args.stored.now.items c.run_part.new.stored.items c.args.plan.now mid c.in_ok-run_part.ensures.ran
-    c.copy.new.self c.requires.none c.requires.threshold plain
+    c.copy.new.self c.requires.none plain
     (c.copy.ensures.plan ∙ ap (λ (l : List taken.TakenPiece). planned mid.base (mid.taken ++ l) None) (sym item))
     (omega (arith, c.copy.ensures.room (omega arith), ap (λ (l : List taken.TakenPiece). length l) item))
 

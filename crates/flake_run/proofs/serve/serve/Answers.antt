@@ -219,16 +219,17 @@ returns-in-Ok-serve_sources g c =
       pool = ran.pool;
       pool_is = refl;
       held = c.held-held.ensures;
-      run = subst (λ n. IsDumpingRun (pool_sizes n task.sizes) (map (λ t. t.given) (sources_of told))
+      run = subst (λ n. IsDumpingRun (pool_sizes n task.sizes) task.sizes.threshold (map (λ t. t.given)
+          (sources_of told))
           (map (λ t. t.ended) (sources_of told)) ran.ends.items (histories ran.journal.items) ran.pool
           task.sizes.dump task.sizes.mtu dump c.args.wires.items ran.wires.items
           (λ w. (g.dyn-1.0.entry w.vtable).1.wire_told w.value)) as_many
-          (subst (λ gs. IsDumpingRun (pool_sizes (length sources.items) task.sizes) gs
+          (subst (λ gs. IsDumpingRun (pool_sizes (length sources.items) task.sizes) task.sizes.threshold gs
           (map (λ t. t.ended) (sources_of told)) ran.ends.items (histories ran.journal.items) ran.pool
           task.sizes.dump task.sizes.mtu dump c.args.wires.items ran.wires.items (λ w. (g.dyn-1.0.entry
           w.vtable).1.wire_told w.value))
           (sym (field_of tells (λ t. t.given) (sources_of told) ran.sources.items numbers.told_are))
-          (subst (λ es. IsDumpingRun (pool_sizes (length sources.items) task.sizes)
+          (subst (λ es. IsDumpingRun (pool_sizes (length sources.items) task.sizes) task.sizes.threshold
           (map (λ s. g.H.In.Source.given s) ran.sources.items) es ran.ends.items (histories ran.journal.items) ran.pool
           task.sizes.dump task.sizes.mtu dump c.args.wires.items ran.wires.items (λ w. (g.dyn-1.0.entry
           w.vtable).1.wire_told w.value))

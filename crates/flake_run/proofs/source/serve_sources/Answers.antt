@@ -7,7 +7,7 @@ pub returns-in-Ok-clause-run : goal.returns-in-Ok-clause-run
 returns-in-Ok-clause-run g c =
     dumping_to _ _ (λ w. (g.dyn-1.0.entry w.vtable).1.wire_told w.value)
     (record { put = λ w p r some post. search of_calls; flush = λ w r post. search of_calls })
-    c.args.sizes.now.mtu _ _ _ _ _ _ _ _ _ _ _ c.in-Ok.ensures.ran
+    c.args.sizes.now.mtu _ _ _ _ _ _ _ _ _ _ _ _ c.in-Ok.ensures.ran
 
 pub returns-in-Ok-clause-sources : goal.returns-in-Ok-clause-sources
 returns-in-Ok-clause-sources g c =

@@ -14,5 +14,5 @@ returns-clause-text c =
     ap (λ (t : List ℕ). t ++ rest)
     (decimal_digit digit c.in-Some-digit_of.ensures.some.0
     ∙ ap (λ b. b ∷ []) (sym c.in-Some-digit_of.ensures.some.1)) ∙ all in
-    subst (λ (b : List ℕ). IfSome c.more_line.result (λ found. b ≡ decimal found.0 ++ 13 ∷ 10 ∷ found.1.now)) first
-    c.more_line.ensures.text
+    subst (λ (b : List ℕ). IfSome c.short_line.result (λ found. b ≡ decimal found.0 ++ 13 ∷ 10 ∷ found.1.now)) first
+    c.short_line.ensures.text

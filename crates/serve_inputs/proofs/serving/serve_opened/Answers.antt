@@ -10,7 +10,7 @@ use Rattle.run_resources.proofs.SessionSlots.{slot_credits}
 use Rattle.serve_inputs.proofs.Dumping.{came_back, room_for}
 use Rattle.serve_inputs.proofs.Places.{can_keep, each_as, stays, length_behind}
 use Rattle.serve_inputs.proofs.Whole.{ran_all, names_kept, wholes_kept, all_reads, all_ended, numbers_are}
-use Rattle.serve_inputs.proofs.Whole.{credits_are, as_many}
+use Rattle.serve_inputs.proofs.Whole.{thresholds_are, credits_are, as_many}
 use Rattle.serve_inputs.proofs.serving.serve_opened.Goals as goal
 
 pub returns-clause-ran : goal.returns-clause-ran
@@ -47,7 +47,7 @@ returns-clause-ran g c =
     c.first_dumped-dumped.ensures.first c.put_back-dump.ensures.none c.put_back-dump.ensures.dump
     c.put_back-dump.ensures.seat c.put_back-dump.ensures.wires in
     let long = length-map _ _ ∙ c.close_all-journal.ensures.shards in
-    ran_all _ _ _ _ z _ shards _ _ _ _ _ _ _ _ _ _ _ _ _ _ _ _ _ _ _ _ _ _ _ _ _ _ _ _ c.serve_jobs-dones.ensures
+    ran_all _ _ _ _ z _ shards _ _ _ _ _ _ _ _ _ _ _ _ _ _ _ _ _ _ _ _ _ _ _ _ _ _ _ _ _ c.serve_jobs-dones.ensures
     c.requires.pool (numbers_are _ _ _ _ _ sessions c.requires.numbers)
     (c.bring_in-ends.ensures.lists ∙ stays rest dones (λ d. d.account) (λ a. a.mine)
     c.first_dumped-dumped.ensures.accounts)
@@ -59,6 +59,7 @@ returns-clause-ran g c =
     ends (c.bring_in-ends.ensures.sent ∙ stays rest dones (λ d. d.account) (λ a. a.sent)
     c.first_dumped-dumped.ensures.accounts)
     (each_as jobs lined (λ j. j.link.mtu) c.args.sizes.now.mtu c.ask_first.ensures.mtus c.line_up-jobs.ensures.mtus)
+    (thresholds_are _ _ _ _ c.args.sizes.now.threshold sessions c.requires.threshold)
 
 pub returns-clause-names : goal.returns-clause-names
 returns-clause-names g c =

@@ -1,9 +1,11 @@
-use Rattle.std.proofs.Common.{◌≡◌, None, length, refl, sym, ap, ◌∙◌}
+use Rattle.std.proofs.Common.{◌≡◌, None, length, refl, sym, ap, ◌∙◌, subst}
 use Rattle.std.specs.Option.{option_map}
-use Rattle.std.specs.FinMap as finite
 use Rattle.flake_model.specs.Deed.{places_at}
 use Rattle.frag_value.specs.Values.{value_bytes}
-use Rattle.shard_core.specs.Kept.{value_addresses}
+use Rattle.pinned_pool.specs.declared.view.View.{View}
+use Rattle.shard_core.specs.Kept.{Entries, Agrees, value_at, value_addresses}
+use Rattle.shard_core.specs.KeptViews.{kept_view}
+use Rattle.shard_core.specs.ShardMaps.{ShardState}
 use Rattle.shard_core.proofs.Changed.{missing_key}
 use Rattle.shard_core.proofs.Appends.{paid_row, none_row, none_kept, add_done}
 use Rattle.shard_core.proofs.Free.{append_stores}
@@ -16,44 +18,71 @@ place_first-requires-clause-missing g c = missing_key c.args.key.now c.args.kept
 pub returns-clause-kept : goal.returns-clause-kept
 returns-clause-kept g c = record { poor = c.in-Ok.ensures.placed.poor; held = c.in-Ok.ensures.placed.held }
 
-pub returns-clause-done : goal.returns-clause-done
-returns-clause-done g c = λ t s p a.
+pub returns-clause-part : goal.returns-clause-part
+returns-clause-part g c = λ t.
     let z = g.P.PoolName.sizes in
     let at = c.in-Ok.ensures.placed in
     let key = c.args.key.now in
+    let bytes = c.args.bytes.now in
     let es = c.args.kept.now.values.entries in
-    let now = c.place_first.new.kept.values.entries in
-    let none : finite.get s key ≡ None = sym (a.bytes key) ∙ ap (option_map (value_bytes c.args.kept.now.own.holds))
-    (missing_key key es c.requires.missing) in
-    add_done z key c.args.bytes.now s p now c.place_first.new.kept.own.holds c.args.stored.now.items
-    c.place_first.new.stored.items t None none
-    (length c.args.bytes.now) at.value refl c.requires.few at.cut
-    (none_kept key c.args.bytes.now (value_addresses z at.value) (places_at p key)) at.segs_are (at.agrees s p a)
+    let was : ShardState = record {
+      shard = kept_view c.args.kept.now;
+      payer = c.args.payer.now;
+      stored = c.args.stored.now.items;
+      taken = t;
+    } in
+    let is : ShardState = record {
+      shard = kept_view c.place_first.new.kept;
+      payer = c.place_first.new.payer;
+      stored = c.place_first.new.stored.items;
+      taken = t;
+    } in
+    let missing : option_map (value_bytes c.args.kept.now.own.holds) (value_at key es) ≡ None =
+    ap (option_map (value_bytes c.args.kept.now.own.holds)) (missing_key key es c.requires.missing) in
+    record {
+      done = λ s p a. add_done z key bytes s p was is refl None (sym (a.bytes key) ∙ missing) (length bytes) at.value
+          refl c.requires.few at.cut (none_kept key bytes (value_addresses z at.value) (places_at p key)) at.segs_are
+          (at.agrees s p a);
+      same = λ s p a. tt;
+      untold = tt;
+      untaken = tt;
+      cause = tt;
+      needs = tt;
+      paid = paid_row z key bytes _ c.args.payer.now c.place_first.new.payer c.in-Ok.ensures.paid;
+      pays = λ s p a stored.
+          absurd (append_stores s key bytes None (sym missing ∙ a.bytes key) c.requires.few stored);
+    }
 
-pub returns-clause-paid : goal.returns-clause-paid
-returns-clause-paid g c = paid_row g.P.PoolName.sizes c.args.key.now c.args.bytes.now _ c.args.payer.now
-    c.place_first.new.payer c.in-Ok.ensures.paid
-
-pub returns-in-Err-clause-paid : goal.returns-in-Err-clause-paid
-returns-in-Err-clause-paid g c = paid_row g.P.PoolName.sizes c.args.key.now c.args.bytes.now _ c.args.payer.now
-    c.place_first.new.payer c.in-Err.ensures.paid
-
-pub returns-in-Err-clause-cause : goal.returns-in-Err-clause-cause
-returns-in-Err-clause-cause g c = none_row g.P.PoolName.sizes c.args.key.now c.args.bytes.now c.in-Err.error
-    c.args.payer.now c.place_first.new.payer c.in-Err.ensures.cause
-
-pub returns-in-Err-clause-needs : goal.returns-in-Err-clause-needs
-returns-in-Err-clause-needs g c =
+pub returns-in-Err-clause-part : goal.returns-in-Err-clause-part
+returns-in-Err-clause-part g c = λ t.
+    let z = g.P.PoolName.sizes in
     let key = c.args.key.now in
+    let bytes = c.args.bytes.now in
     let es = c.args.kept.now.values.entries in
-    let hs = c.args.kept.now.own.holds in
-    first_needs g.P.PoolName.sizes key c.args.bytes.now es hs c.in-Err.error c.args.payer.now c.place_first.new.payer
-    (ap (option_map (value_bytes hs)) (missing_key key es c.requires.missing)) c.requires.few c.in-Err.ensures.cause
-
-pub returns-in-Err-clause-pays : goal.returns-in-Err-clause-pays
-returns-in-Err-clause-pays g c = λ s p a stored.
-    let key = c.args.key.now in
-    let es = c.args.kept.now.values.entries in
-    let none : None ≡ finite.get s key = ap (option_map (value_bytes c.args.kept.now.own.holds))
-    (sym (missing_key key es c.requires.missing)) ∙ a.bytes key in
-    absurd (append_stores s key c.args.bytes.now None none c.requires.few stored)
+    let was : ShardState = record {
+      shard = kept_view c.args.kept.now;
+      payer = c.args.payer.now;
+      stored = c.args.stored.now.items;
+      taken = t;
+    } in
+    let is : ShardState = record {
+      shard = kept_view c.place_first.new.kept;
+      payer = c.place_first.new.payer;
+      stored = c.place_first.new.stored.items;
+      taken = t;
+    } in
+    let missing : option_map (value_bytes c.args.kept.now.own.holds) (value_at key es) ≡ None =
+    ap (option_map (value_bytes c.args.kept.now.own.holds)) (missing_key key es c.requires.missing) in
+    let same = c.in-Err.ensures.refused in
+    record {
+      done = λ s p a. tt;
+      same = λ s p a. subst (λ (y : Entries × View). Agrees z y.0 y.1.holds s p)
+          (λ i. (sym same.entries i, sym same.seat i)) a;
+      untold = same.segs_are;
+      untaken = refl;
+      cause = none_row z key bytes c.in-Err.error c.args.payer.now c.place_first.new.payer c.in-Err.ensures.cause;
+      needs = first_needs z key bytes c.in-Err.error was is missing c.requires.few c.in-Err.ensures.cause;
+      paid = paid_row z key bytes _ c.args.payer.now c.place_first.new.payer c.in-Err.ensures.paid;
+      pays = λ s p a stored.
+          absurd (append_stores s key bytes None (sym missing ∙ a.bytes key) c.requires.few stored);
+    }

@@ -1,4 +1,4 @@
-use Rattle.std.proofs.Common.{◌≡◌, ◌+◌, ◌++◌, true, length, sym, ap, ◌∙◌, subst, arith}
+use Rattle.std.proofs.Common.{◌≡◌, ◌+◌, ◌++◌, true, false, length, sym, ap, ◌∙◌, subst, arith}
 use Rattle.std.specs.Option.{option_map}
 use Rattle.view_sums.specs.Total.{Each}
 use Rattle.frag_value.specs.Values.{IsFilled, value_bytes}
@@ -21,8 +21,16 @@ returns-then-asks-clause-taken g c =
     ∙ (λ i. pieces_at entire true (old_answer (sym yes i) (option_map (value_bytes hs) (sym is i)))
     (value_addresses z (frags_of (sym is i))) 0))
 
-pub returns-then-asks-clause-room : goal.returns-then-asks-clause-room
-returns-then-asks-clause-room g c =
+pub hand_over-requires-clause-room : goal.hand_over-requires-clause-room
+hand_over-requires-clause-room g c = c.requires.taker.room c.if-asks.true
+
+pub returns-then-asks-clause-taker : goal.returns-then-asks-clause-taker
+returns-then-asks-clause-taker g c =
     let more : length (g.T.Taker.taken c.hand_over.new.taker) ≡ length (g.T.Taker.taken c.args.taker.now) + 1 =
     one-more _ _ _ c.hand_over.ensures.taken in
-    omega (arith, c.hand_over.ensures.room, more)
+    record {
+      none = c.hand_over.ensures.none;
+      base = c.hand_over.ensures.base;
+      room = λ _. omega (arith, c.hand_over.ensures.room, more);
+      range_room = λ (wrong : false ≡ true). absurd (cc);
+    }

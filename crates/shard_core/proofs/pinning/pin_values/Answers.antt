@@ -1,4 +1,4 @@
-use Rattle.std.proofs.Common.{◌≡◌, List, sym, ap, ◌∙◌, subst}
+use Rattle.std.proofs.Common.{List, sym, ap, ◌∙◌, subst}
 use Rattle.view_sums.specs.Total.{Each}
 use Rattle.frag_value.specs.Values.{IsFilled}
 use Rattle.value_pins.specs.Pins.{KeyFrags, all_frags, pairs_shown}

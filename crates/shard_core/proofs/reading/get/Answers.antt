@@ -1,4 +1,4 @@
-use Rattle.std.proofs.Common.{◌≡◌, ◌+◌, ◌++◌, false, None, Some, length, append-nil, sym, ap, ◌∙◌, arith}
+use Rattle.std.proofs.Common.{◌≡◌, ◌+◌, ◌++◌, true, false, None, Some, length, append-nil, refl, sym, ap, ◌∙◌, arith}
 use Rattle.std.specs.Option.{option_map}
 use Rattle.std.specs.FinMap as finite
 use Rattle.flake_model.specs.Store.{found}
@@ -11,6 +11,7 @@ use Rattle.shard_core.specs.Pieces.{pieces_at}
 use Rattle.shard_core.proofs.Changed.{missing_key}
 use Rattle.shard_core.proofs.Holds.{has_found, marked_held, marked_agrees, places_of, poor-marked}
 use Rattle.shard_core.proofs.Runs.{placed-pieces, one-more}
+use Rattle.shard_core.proofs.Doing.{untouched}
 use Rattle.shard_core.proofs.reading.get.Goals as goal
 
 pub hand-requires-clause-value : goal.hand-requires-clause-value
@@ -44,11 +45,22 @@ returns-in-Some-clause-taken g c = λ s p a.
     (placed-pieces z hs v c.is_value.ensures (has_found z es _ hs c.requires.kept.held key v there).filled
     ∙ (λ i. pieces_at entire false (found (bytes i)) (places i) 0))
 
-pub returns-in-Some-clause-room : goal.returns-in-Some-clause-room
-returns-in-Some-clause-room g c =
+pub hand-requires-clause-room : goal.hand-requires-clause-room
+hand-requires-clause-room g c = c.requires.taker.room refl
+
+pub returns-in-Some-clause-taker : goal.returns-in-Some-clause-taker
+returns-in-Some-clause-taker g c =
     let more : length (g.T.Taker.taken c.hand.new.taker) ≡ length (g.T.Taker.taken c.args.taker.now) + 1 =
     one-more _ _ _ c.hand.ensures.taken in
-    omega (arith, c.hand.ensures.room, more)
+    record {
+      none = c.hand.ensures.none;
+      base = c.hand.ensures.base;
+      room = λ _. omega (arith, c.hand.ensures.room, more);
+      range_room = λ (wrong : false ≡ true). absurd (cc);
+    }
+
+pub returns-in-None-clause-taker : goal.returns-in-None-clause-taker
+returns-in-None-clause-taker g c = untouched _ _ c.requires.taker.none
 
 pub returns-in-None-clause-says : goal.returns-in-None-clause-says
 returns-in-None-clause-says g c = λ s p a.

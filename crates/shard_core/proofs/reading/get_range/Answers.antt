@@ -1,4 +1,5 @@
-use Rattle.std.proofs.Common.{◌≡◌, ◌+◌, min, ◌++◌, [], ◌∷◌, false, None, Some, length, MatchOption, sym, ap, ◌∙◌, subst}
+use Rattle.std.proofs.Common.{◌≡◌, ◌+◌, min, ◌++◌, [], ◌∷◌, true, false, None, Some, length, MatchOption, refl, sym}
+use Rattle.std.proofs.Common.{ap, ◌∙◌, subst}
 use Rattle.std.proofs.Common.{arith}
 use Rattle.std.proofs.Common.{to_z-of_z}
 use Rattle.std.specs.Option.{option_map}
@@ -58,11 +59,22 @@ returns-in-Some-clause-taken g c = λ s p a.
     ∙ (λ i. pieces_at ranged false (value (range_of (bytes i) c.args.start c.args.end)) (places i)
     (first_place (length (bytes i)) c.args.start)))
 
-pub returns-in-Some-clause-room : goal.returns-in-Some-clause-room
-returns-in-Some-clause-room g c =
+pub hand_range-requires-clause-room : goal.hand_range-requires-clause-room
+hand_range-requires-clause-room g c = c.requires.taker.range_room refl
+
+pub begin_part-requires-clause-room : goal.begin_part-requires-clause-room
+begin_part-requires-clause-room g c = c.requires.taker.range_room refl
+
+pub returns-in-Some-clause-taker : goal.returns-in-Some-clause-taker
+returns-in-Some-clause-taker g c =
     let more : length (g.T.Taker.taken c.hand_range.new.taker) ≡ length (g.T.Taker.taken c.args.taker.now) + 1 =
     one-more _ _ _ c.hand_range.ensures.taken in
-    omega (arith, c.hand_range.ensures.room, more)
+    record {
+      none = c.hand_range.ensures.none;
+      base = c.hand_range.ensures.base;
+      room = λ (wrong : true ≡ false). absurd (cc);
+      range_room = λ _. omega (arith, c.hand_range.ensures.room, more);
+    }
 
 pub returns-in-None-clause-taken : goal.returns-in-None-clause-taken
 returns-in-None-clause-taken g c = λ s p a.
@@ -80,10 +92,21 @@ returns-in-None-clause-taken g c = λ s p a.
     (value (range_of (bytes i) c.args.start c.args.end)) (places_at p key)
     (first_place (length (bytes i)) c.args.start))
 
-pub returns-in-None-clause-room : goal.returns-in-None-clause-room
-returns-in-None-clause-room g c =
+pub returns-in-None-clause-taker : goal.returns-in-None-clause-taker
+returns-in-None-clause-taker g c =
     let ended = subst (λ b. MatchOption b ⊥
     (λ x. g.T.Taker.taken c.finish.new.self ≡ g.T.Taker.taken c.begin_part.new.self ++ whole x ∷ []))
     c.begin_part.ensures.begun c.finish.ensures.taken in
     let more = one-more _ _ _ ended in
-    omega (arith, c.begin_part.ensures.room, c.finish.ensures.range_room, more, ap length c.begin_part.ensures.taken)
+    record {
+      none = c.finish.ensures.begun;
+      base = c.finish.ensures.base ∙ c.begin_part.ensures.base;
+      room = λ (wrong : true ≡ false). absurd (cc);
+      range_room = λ _. omega (
+        arith,
+        c.begin_part.ensures.room,
+        c.finish.ensures.range_room,
+        more,
+        ap length c.begin_part.ensures.taken,
+      );
+    }

@@ -1,6 +1,8 @@
 use Rattle.std.proofs.Common.{◌∙◌}
 use Rattle.std.specs.FinMap as finite
 use Rattle.shard_core.specs.Kept.{frags_of, value_addresses}
+use Rattle.shard_core.specs.KeptViews.{kept_view}
+use Rattle.shard_core.specs.ShardMaps.{ShardState}
 use Rattle.shard_part.specs.Settings.{when_of}
 use Rattle.shard_core.proofs.Holds.{has_hand, gone_held, gone_agrees}
 use Rattle.shard_core.proofs.Deeds.{set_done}
@@ -30,14 +32,23 @@ returns-clause-done g c = λ s p a.
     let z = g.P.PoolName.sizes in
     let at = c.in_ok-old.ensures.placed in
     let up = c.give_up.ensures in
-    let key = c.args.key.now in
-    let bytes = c.args.bytes.now in
+    let key = c.args.part.now.key.now in
+    let bytes = c.args.part.now.value.now in
     let now = c.place.new.kept.values.entries in
     let mid = c.place.new.kept.own.holds in
-    set_done z (when_of c.args.setting.when) c.args.setting.asks key bytes s p c.args.kept.now.values.entries now
-    c.args.kept.now.own.holds mid c.give_up.new.own.holds c.give_up.result
-    c.args.stored.now.items c.place.new.stored.items (g.T.Taker.taken c.args.taker.now)
-    (g.T.Taker.taken c.give_up.new.taker) a
+    let was : ShardState = record {
+      shard = kept_view c.args.kept.now;
+      payer = c.args.payer.now;
+      stored = c.args.stored.now.items;
+      taken = g.T.Taker.taken c.args.taker.now;
+    } in
+    let is : ShardState = record {
+      shard = record { entries = now; seat = c.give_up.new.own };
+      payer = c.place.new.payer;
+      stored = c.place.new.stored.items;
+      taken = g.T.Taker.taken c.give_up.new.taker;
+    } in
+    set_done z (when_of c.args.setting.when) c.args.setting.asks key bytes s p c.give_up.result was is mid a
     c.in_ok-old.old at.value c.requires.stores at.found at.hand_bytes up.says up.taken at.segs_are at.cut
     (gone_agrees z now mid c.give_up.new.own.holds (frags_of c.in_ok-old.old) c.is_seat.ensures.fronts.0
     c.is_seat.ensures.fronts.1 up.holds at.held

@@ -9,8 +9,8 @@ length-new : (first shards : ℕ) → length (map new_shard (range_with_len firs
 length-new first zero = refl
 length-new first (suc shards) = ap suc (length-new (first + 1) shards)
 
-pub seats_of-requires : goal.seats_of-requires
-seats_of-requires g c =
+pub open_seats-requires : goal.open_seats-requires
+open_seats-requires g c =
     let shards = g.N.BookName.sizes.shards in
     let count : c.len.result ≡ shards = c.len.ensures ∙ ap length c.name-book.ensures.shards ∙ length-new 0 shards in
     let all : c.name-pool.result.1.credits ≡ g.P.PoolName.sizes.credits =

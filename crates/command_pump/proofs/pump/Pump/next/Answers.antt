@@ -1,13 +1,20 @@
 use Rattle.std.proofs.Common.{ap, sym, refl, ◌∙◌, subst}
 use Rattle.flake_model.specs.Command.{fault}
-use Rattle.command_pump.specs.Pump.{IsPump, AnswersEnd, PumpState, bytes_taken}
+use Rattle.command_pump.specs.Pump.{SeeksNext, AnswersEnd, PumpState, bytes_taken}
 use Rattle.command_pump.proofs.Pumped.{at_request, quiet_request, at_refusal, quiet_refusal, at_last, taken_again}
-use Rattle.command_pump.proofs.Pumped.{unchanged_reader, same_again}
+use Rattle.command_pump.proofs.Pumped.{unchanged_reader, same_again, seeks}
 use Rattle.command_pump.proofs.pump.Pump.next.Goals as goal
+
+pub loop-request-init : goal.loop-request-init
+loop-request-init g c = record {
+  kept = λ input before given p. seeks input before given _ p;
+  again = λ end over. refl;
+}
 
 pub returns-in-Some-clause-command : goal.returns-in-Some-clause-command
 returns-in-Some-clause-command g c input before given p =
-    let q = subst (IsPump input before given) (sym c.self.view_is) (c.loop-request.invariant.kept input before given p)
+    let q = subst (SeeksNext input before given) (sym c.self.view_is)
+    (c.loop-request.invariant.kept input before given p)
     in (
       at_request input before given _ c.next.new.self c.in-Some.request c.of.result c.in-Some.ensures.request
           c.next.ensures.closed c.in-Some.ensures.fed c.of.ensures q,
@@ -26,12 +33,13 @@ returns-in-Some-clause-again g c end over =
 pub returns-in-Refused-clause-command : goal.returns-in-Refused-clause-command
 returns-in-Refused-clause-command g c input before given p =
     let none = c.in_default.ensures.none.0 refl in
-    let q = subst (IsPump input before given) (sym c.self.view_is) (c.loop-request.invariant.kept input before given p)
+    let q = subst (SeeksNext input before given) (sym c.self.view_is)
+    (c.loop-request.invariant.kept input before given p)
     in (
-      at_refusal input before given _ c.in-Refused.kind c.in-Refused.place c.protocol.result c.next.new.self
-          c.in-Refused.is none (sym c.in_default.ensures.request ∙ none)
-          (c.protocol.ensures ∙ ap fault c.error_of.ensures) q,
-      quiet_refusal input before given _ c.in-Refused.kind c.in-Refused.place c.in-Refused.is q,
+      at_refusal input before given _ c.in-Refused.broken _ c.in-Refused.place c.protocol.result c.next.new.self
+          c.kind-kind.ensures c.in-Refused.is none (sym c.in_default.ensures.request ∙ none)
+          (c.protocol.ensures ∙ ap fault c.error.ensures) q,
+      quiet_refusal input before given _ c.in-Refused.broken c.in-Refused.place c.in-Refused.is q,
     )
 
 pub returns-in-Refused-clause-again : goal.returns-in-Refused-clause-again
@@ -45,7 +53,8 @@ returns-in-Refused-clause-again g c end over =
 
 pub returns-in-Ended-clause-end : goal.returns-in-Ended-clause-end
 returns-in-Ended-clause-end g c input before given p =
-    let q = subst (IsPump input before given) (sym c.self.view_is) (c.loop-request.invariant.kept input before given p)
+    let q = subst (SeeksNext input before given) (sym c.self.view_is)
+    (c.loop-request.invariant.kept input before given p)
     in
     at_last input before given _ c.in-Ended.end _ c.next.new.self c.in-Ended.is (c.in_default.ensures.none.0 refl)
     c.taken_at-self-inside.ensures q

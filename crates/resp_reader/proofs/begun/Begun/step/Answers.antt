@@ -1,15 +1,11 @@
-use Rattle.resp_reader.specs.declared.begun.State.TheVariants.{Start, InCount, CountEnd, AtWord, InLength, LengthEnd}
+use Rattle.resp_reader.specs.declared.begun.State.TheVariants.{InCount, CountEnd, AtWord, InLength, LengthEnd}
 use Rattle.resp_reader.proofs.Moves.{breaks}
 use Rattle.resp_reader.proofs.begun.Begun.step.Goals as goal
 
-pub returns-in-Start-clause-err : goal.returns-in-Start-clause-err
-returns-in-Start-clause-err c = breaks c.start.result c.go.result c.args.self.now Start c.args.bytes.now c.in-Start.is
-    c.requires.sound c.start.ensures.err c.go.ensures.failed
-
 pub returns-in-InCount-clause-err : goal.returns-in-InCount-clause-err
-returns-in-InCount-clause-err c = breaks c.in_count.result c.go-in-InCount.result c.args.self.now
+returns-in-InCount-clause-err c = breaks c.in_count.result c.go.result c.args.self.now
     (InCount c.in-InCount.digits) c.args.bytes.now c.in-InCount.is c.requires.sound c.in_count.ensures.err
-    c.go-in-InCount.ensures.failed
+    c.go.ensures.failed
 
 pub returns-in-CountEnd-clause-err : goal.returns-in-CountEnd-clause-err
 returns-in-CountEnd-clause-err c = breaks c.count_end.result c.go-in-CountEnd.result c.args.self.now

@@ -3,8 +3,8 @@ use Rattle.pinned_pool.specs.declared.view.View.{View}
 use Rattle.test_store.proofs.NewShards.{length-new}
 use Rattle.test_store.proofs.calls.resources.open_resources.Goals as goal
 
-pub seats_of-requires : goal.seats_of-requires
-seats_of-requires g c =
+pub open_seats-requires : goal.open_seats-requires
+open_seats-requires g c =
     let shards = g.N.BookName.sizes.shards in
     let count : c.len.result ≡ shards = c.len.ensures ∙ ap length c.name-book.ensures.shards ∙ length-new 0 shards in
     let all : c.name-pool.result.1.credits ≡ g.P.PoolName.sizes.credits =

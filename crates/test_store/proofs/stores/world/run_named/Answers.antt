@@ -3,8 +3,8 @@ use Rattle.pinned_pool.specs.declared.view.View.{View}
 use Rattle.test_store.proofs.NewShards.{length-new}
 use Rattle.test_store.proofs.stores.world.run_named.Goals as goal
 
-pub seats_of-requires : goal.seats_of-requires
-seats_of-requires g c =
+pub open_seats-requires : goal.open_seats-requires
+open_seats-requires g c =
     let shards = g.N.BookName.sizes.shards in
     let count : c.len.result ≡ shards = c.len.ensures ∙ ap length c.name-book.ensures.shards ∙ length-new 0 shards in
     let all : c.name-pool.result.1.credits ≡ g.P.PoolName.sizes.credits =
@@ -30,7 +30,7 @@ invariant_of-one g c =
     let count : c.len.result ≡ shards = c.len.ensures ∙ ap length c.name-book.ensures.shards ∙ length-new 0 shards in
     let all : c.name-pool.result.1.credits ≡ g.P.PoolName.sizes.credits =
     ap (λ (v : View). v.credits) c.name-pool.ensures in
-    let left : c.split-second_seat.new.seat.credits ≡ c.seats_of.new.seat.credits - 2 =
+    let left : c.split-second_seat.new.seat.credits ≡ c.open_seats.new.main.credits - 2 =
     ap (λ (v : View). v.credits) c.split-second_seat.ensures.old in
     record { rich = omega (arith, count, all, c.requires.credits, c.in_ok-shard_maps.ensures.credits, left) }
 
@@ -40,7 +40,7 @@ close-journal-requires g c =
     let count : c.len.result ≡ shards = c.len.ensures ∙ ap length c.name-book.ensures.shards ∙ length-new 0 shards in
     let all : c.name-pool.result.1.credits ≡ g.P.PoolName.sizes.credits =
     ap (λ (v : View). v.credits) c.name-pool.ensures in
-    let left : c.split-second_seat.new.seat.credits ≡ c.seats_of.new.seat.credits - 2 =
+    let left : c.split-second_seat.new.seat.credits ≡ c.open_seats.new.main.credits - 2 =
     ap (λ (v : View). v.credits) c.split-second_seat.ensures.old in
     let went : c.split-second_seat.result.credits ≡ 2 = ap (λ (v : View). v.credits) c.split-second_seat.ensures.new in
     let first : c.work_both-one.result.0.0.seat.credits ≡ c.split-second_seat.new.seat.credits =
