@@ -1,5 +1,5 @@
 -- What is put on a wire of any type, where `put_may` and `flush_may` say what a put and a flush may do and answer.
-use Rattle.std.specs.Prelude.{◌≡◌, ℕ, ◌<◌, ◌≤◌, Bool, true, false, List, [], ◌∷◌, ◌++◌, length}
+use Rattle.std.specs.Prelude.{◌≡◌, ℕ, ◌<◌, ◌≤◌, Bool, true, false, List, [], ◌∷◌, ◌++◌, length, ⊤}
 use Rattle.std.specs.Borrow.{Bor}
 use Rattle.view_sums.specs.Total.{Each}
 
@@ -20,7 +20,7 @@ steps_bytes (step ∷ steps) = step_bytes step ++ steps_bytes steps
 -- a put has from 1 to 512 bytes
 abbrev pub IsShortPut : WireStep → Type 0
 IsShortPut (puts piece) = (0 < length piece) × (length piece ≤ 512)
-IsShortPut flushes = Unit {0}
+IsShortPut flushes = ⊤
 
 module _ {W : Type 0} (put_may : W → Bor (List ℕ) → (W × Bool) → Type 0) where
   -- the piece is put, where nothing has failed
@@ -52,3 +52,8 @@ module _
     pub whole : text ≡ steps_bytes steps
     pub short : Each IsShortPut steps
     pub chain : Chain steps failed now w end
+
+module _ {W : Type 0} (put_may : W → Bor (List ℕ) → (W × Bool) → Type 0) where
+  -- the text is put in short pieces, and nothing is flushed
+  abbrev pub PutsText : Bool → Bool → List ℕ → W → W → Type 0
+  PutsText = Sends put_may (λ w r. ⊥)

@@ -1,5 +1,5 @@
 -- Files that are opened by their names, some of which may be absent.
-use Rattle.std.specs.Prelude.{◌≡◌, ◌≢◌, ℕ, zero, suc, Bool, List, [], ◌∷◌, Option, Some, None, length, map}
+use Rattle.std.specs.Prelude.{◌≡◌, ◌≢◌, ℕ, zero, suc, Bool, List, [], ◌∷◌, Option, Some, None, length, map, ⊤}
 use Rattle.std.specs.Prelude.{option_map, is_none, take, slice_get}
 use Rattle.std.specs.Borrow.{Bor}
 use Rattle.std.specs.List.{AllByRecursion}
@@ -35,8 +35,8 @@ held_by host (Some name) = host.holds name
 
 -- where no name stands there are no bytes
 abbrev pub AreEmptyUnnamed : List Named → List (Option (List ℕ)) → Type 0
-AreEmptyUnnamed [] wholes = Unit {0}
-AreEmptyUnnamed (word ∷ words) [] = Unit {0}
+AreEmptyUnnamed [] wholes = ⊤
+AreEmptyUnnamed (word ∷ words) [] = ⊤
 AreEmptyUnnamed (None ∷ words) (whole ∷ wholes) = (whole ≡ Some []) × AreEmptyUnnamed words wholes
 AreEmptyUnnamed (Some name ∷ words) (whole ∷ wholes) = AreEmptyUnnamed words wholes
 
@@ -54,13 +54,13 @@ AreOther name names = AllByRecursion (λ other. other ≢ name) names
 
 -- no name stands twice
 abbrev pub AreDistinct : List (List ℕ) → Type 0
-AreDistinct [] = Unit {0}
+AreDistinct [] = ⊤
 AreDistinct (name ∷ names) = AreOther name names × AreDistinct names
 
 -- What files hold, behind others of these names: where none has a file's name yet, what was held under it.
 abbrev pub HaveTheirOwn : (List ℕ → Option (List ℕ)) → List (List ℕ) → List (List ℕ) → List (Option (List ℕ)) → Type 0
-HaveTheirOwn holds before [] wholes = Unit {0}
-HaveTheirOwn holds before (name ∷ names) [] = Unit {0}
+HaveTheirOwn holds before [] wholes = ⊤
+HaveTheirOwn holds before (name ∷ names) [] = ⊤
 HaveTheirOwn holds before (name ∷ names) (whole ∷ wholes) =
     (AreOther name before → whole ≡ holds name) × HaveTheirOwn holds (name ∷ before) names wholes
 

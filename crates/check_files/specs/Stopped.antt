@@ -1,5 +1,5 @@
 -- Why files give no verdict.
-use Rattle.std.specs.Prelude.{◌≡◌, ◌≢◌, ℕ, ◌<◌, Bool, true, List, Some, length, slice_get, IsSomeAnd}
+use Rattle.std.specs.Prelude.{◌≡◌, ◌≢◌, ℕ, ◌<◌, Bool, true, List, Some, length, slice_get, IsSomeAnd, ⊤}
 use Rattle.flake_base.specs.Causes.{Rose}
 use Rattle.journal_text.specs.Lines.{lines_of}
 use Rattle.journal_text.specs.Reading.{IsBadJournalLine}
@@ -36,7 +36,7 @@ WhyStopped texts (OpenFault file) = ⊥
 WhyStopped texts (ReadFault file) = (file < length texts) × AreWithin texts file
 WhyStopped texts (TooLarge file) = IsTooLarge texts file × AreWithin texts file
 WhyStopped texts (BadLine line) = IsBadLineOf texts line × AreWithin texts (length texts)
-WhyStopped texts Memory = Unit {0}
+WhyStopped texts Memory = ⊤
 
 -- so it is at one place
 abbrev pub IsStoppedAt : List (List ℕ) → ℕ → CheckError → Type 0
@@ -44,7 +44,7 @@ IsStoppedAt texts place (OpenFault file) = ⊥
 IsStoppedAt texts place (ReadFault file) = file ≡ place
 IsStoppedAt texts place (TooLarge file) = (file ≡ place) × IsTooLarge texts place
 IsStoppedAt texts place (BadLine line) = ⊥
-IsStoppedAt texts place Memory = Unit {0}
+IsStoppedAt texts place Memory = ⊤
 
 -- one count of failed reads rose
 pub record RoseAt (file : ℕ) (olds news : List ℕ) : Type 0 where
@@ -75,4 +75,4 @@ ReadsBy (OpenFault file) olds news were are = (news ≡ olds) × (are ≡ were)
 ReadsBy (ReadFault file) olds news were are = AreReadTo file olds news were are
 ReadsBy (TooLarge file) olds news were are = AreReadTo file olds news were are
 ReadsBy (BadLine line) olds news were are = AllReadToEnd are
-ReadsBy Memory olds news were are = Unit {0}
+ReadsBy Memory olds news were are = ⊤

@@ -1,7 +1,7 @@
 -- Which parts a command has.
 use Rattle.std.proofs.Common.{◌≡◌, ℕ, zero, suc, ◌<◌, List, [], ◌∷◌, Some, length, map, slice_get, get_or, refl, arith}
 use Rattle.std.proofs.Common.{sym, subst}
-use Rattle.std.specs.Prelude.{Result, Ok, Err, OnErr}
+use Rattle.std.specs.Prelude.{Result, Ok, Err, OnErr, ⊤}
 use Rattle.std.proofs.lemmas.Option.{slice_get-get_or}
 use Rattle.flake_model.specs.Store as part
 use Rattle.flake_model.specs.Store.{Operation}
@@ -57,8 +57,8 @@ exists_at (key ∷ keys) (suc j) near = exists_at keys j (omega (arith, near))
 
 -- a part that is counted
 abbrev pub IsCounting : Operation → Type 0
-IsCounting (part.del key) = Unit {0}
-IsCounting (part.exists key) = Unit {0}
+IsCounting (part.del key) = ⊤
+IsCounting (part.exists key) = ⊤
 IsCounting operation = ⊥
 
 pub count_part : (command : Command) → Counts command → (j : ℕ) → j < length (parts command)

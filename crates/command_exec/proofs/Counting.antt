@@ -10,7 +10,7 @@ use Rattle.pinned_pool.specs.declared.view.View.{View}
 use Rattle.flake_base.specs.declared.journal.Entry.{Entry}
 use Rattle.flake_base.specs.declared.segment.Seg.{Seg}
 use Rattle.flake_model.specs.Store as part
-use Rattle.flake_model.specs.Store.{Operation, Answer, did, IsWrite}
+use Rattle.flake_model.specs.Store.{Operation, did}
 use Rattle.flake_model.specs.Deed.{Deed}
 use Rattle.flake_model.specs.Command.{Command, del, exists, parts}
 use Rattle.flake_model.specs.Reply.{is_yes}
@@ -24,9 +24,9 @@ use Rattle.shard_core.specs.declared.answer.PartAnswer.TheVariants as say
 use Rattle.reply_layout.specs.Pieces.{plain, pieces_of}
 use Rattle.reply_planner.specs.Laid.{pieces_in}
 use Rattle.reply_planner.specs.Planned.{Planned, planned}
-use Rattle.call_model.specs.Demand.{pins_by, part_pins, call_pins}
-use Rattle.call_model.specs.Outcomes.{PartOutcome, Outcomes, entry_at, IsOutcome, call_deeds, answer_told, answers_told}
-use Rattle.call_model.specs.Parts.{AnswersPart, Answered, pieces_told, segs_told}
+use Rattle.shard_core.specs.CallDemand.{pins_by, part_pins, call_pins}
+use Rattle.shard_core.specs.Outcomes.{PartOutcome, Outcomes, entry_at, IsOutcome, call_deeds, answer_told, answers_told}
+use Rattle.shard_core.specs.Parts.{AnswersPart, Answered, pieces_told, segs_told}
 use Rattle.command_exec.specs.Kinds.{Counts, part_at}
 use Rattle.command_exec.specs.Lines.{number_line}
 use Rattle.command_exec.specs.Passes.{PassView}
@@ -89,10 +89,10 @@ has_counted : (z : Sizes) (operation : Operation) (outcome : Option PartOutcome)
     → IsCounting operation → IsOutcome operation outcome → AnswersPart z operation outcome said seat after
     → Answered operation outcome
     → HasCounted operation outcome said
-has_counted z (part.del key) None said seat after counting is says answers = absurd is
+has_counted z (part.del key) None said seat after counting is says answers = absurd is.0
 has_counted z (part.del key) (Some d) said seat after counting is says answers = by_answer (part.del key) d said
     (is_some answers.had) says answers.answer_is (answers.stored_is refl)
-has_counted z (part.exists key) None said seat after counting is says answers = absurd is
+has_counted z (part.exists key) None said seat after counting is says answers = absurd is.0
 has_counted z (part.exists key) (Some d) said seat after counting is says answers = by_answer (part.exists key) d said
     (is_some answers.had) says answers.answer_is (answers.stored_is refl)
 has_counted z operation outcome said seat after counting is says answers = absurd counting

@@ -37,9 +37,9 @@ use Rattle.reply_planner.specs.Planned.{Planned, planned, terms, paid_of, long_o
 use Rattle.reply_planner.specs.Planned.{copied_in}
 use Rattle.reply_planner.specs.Sealed.{used_of, IsSealed, Keeps, Cancels}
 use Rattle.reply_planner.specs.Stages.{IsOrdered, merged}
-use Rattle.call_model.specs.Demand.{call_pins}
-use Rattle.call_model.specs.Outcomes.{call_deeds}
-use Rattle.call_model.proofs.Needed.{for_moved}
+use Rattle.shard_core.specs.CallDemand.{call_pins}
+use Rattle.shard_core.specs.Outcomes.{call_deeds}
+use Rattle.shard_core.proofs.Needed.{for_moved}
 use Rattle.reply_planner.specs.declared.terms.Terms.{Terms}
 use Rattle.command_exec.specs.Alike.{Alike}
 use Rattle.command_exec.specs.Executed.{Executes, FallsShort}

@@ -10,11 +10,11 @@ use Rattle.flake_model.specs.Store.{Operation}
 use Rattle.flake_model.specs.Command.{Command, parts}
 use Rattle.shard_core.specs.declared.answer.PartAnswer.{PartAnswer}
 use Rattle.reply_planner.specs.Planned.{Planned}
-use Rattle.call_model.specs.Outcomes.{PartOutcome, Outcomes, entry_at}
-use Rattle.call_model.specs.Calls.{IsPartRun}
-use Rattle.call_model.specs.Parts.{IsInBuffer, segs_told, call_segs}
-use Rattle.call_model.proofs.Growing.{more_segs}
-use Rattle.call_model.proofs.Running.{running_starts, part_step, cuts_behind}
+use Rattle.shard_core.specs.Outcomes.{PartOutcome, Outcomes, entry_at}
+use Rattle.shard_core.specs.Calls.{IsPartRun}
+use Rattle.shard_core.specs.Parts.{IsInBuffer, segs_told, call_segs}
+use Rattle.shard_core.proofs.Growing.{more_segs}
+use Rattle.shard_core.proofs.Running.{running_starts, part_step, cuts_behind}
 use Rattle.command_exec.specs.Kinds.{part_at}
 use Rattle.command_exec.specs.Passes.{PassView}
 use Rattle.command_exec.specs.Running.{KeepsPass, HasRun, LacksMemory}

@@ -3,7 +3,7 @@ use Rattle.std.proofs.Common.{ℕ, inl, [], refl, sym, append-nil, arith}
 use Rattle.pin_core.specs.declared.sizes.Sizes.{Sizes}
 use Rattle.pinned_pool.proofs.SoughtLaws.{sought_nothing, sought_within}
 use Rattle.flake_model.specs.Command.{Command, parts}
-use Rattle.call_model.specs.Demand.{parts_row}
+use Rattle.shard_core.specs.CallDemand.{parts_row}
 use Rattle.command_exec.specs.Passes.{PassView}
 use Rattle.command_exec.specs.Executed.{FallsShort}
 

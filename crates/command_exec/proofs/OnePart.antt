@@ -16,11 +16,11 @@ use Rattle.reply_layout.specs.Need.{need_of}
 use Rattle.reply_layout.specs.Pieces.{pieces_of}
 use Rattle.reply_planner.specs.Laid.{pieces_in}
 use Rattle.reply_planner.specs.Planned.{Planned, planned, paid_by, left_of}
-use Rattle.call_model.specs.Outcomes.{PartOutcome, entry_at, call_deeds, answer_told, answers_told}
-use Rattle.call_model.specs.Demand.{part_pins, call_pins}
-use Rattle.call_model.specs.Parts.{AnswersPart, pieces_told}
-use Rattle.call_model.specs.Steps.{deed_told}
-use Rattle.call_model.proofs.Growing.{more_deeds}
+use Rattle.shard_core.specs.Outcomes.{PartOutcome, entry_at, call_deeds, answer_told, answers_told}
+use Rattle.shard_core.specs.CallDemand.{part_pins, call_pins}
+use Rattle.shard_core.specs.Parts.{AnswersPart, pieces_told}
+use Rattle.shard_core.specs.Steps.{deed_told}
+use Rattle.shard_core.proofs.Growing.{more_deeds}
 use Rattle.command_exec.specs.Alike.{Alike}
 use Rattle.command_exec.specs.Kinds.{HasOnePart, part_at}
 use Rattle.command_exec.specs.Lines.{line_for, HasLine}

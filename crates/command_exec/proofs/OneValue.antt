@@ -17,9 +17,9 @@ use Rattle.shard_core.specs.declared.answer.PartAnswer.TheVariants as say
 use Rattle.reply_layout.specs.Pieces.{Piece, item_pieces}
 use Rattle.reply_planner.specs.Laid.{pieces_in}
 use Rattle.reply_planner.specs.Planned.{Planned, planned, paid_by, paid_begun, left_of, room_of}
-use Rattle.call_model.specs.Outcomes.{PartOutcome, answer_told}
-use Rattle.call_model.specs.Parts.{AnswersPart, Answered, pieces_told, segs_told}
-use Rattle.call_model.specs.Steps.{deed_told}
+use Rattle.shard_core.specs.Outcomes.{PartOutcome, answer_told}
+use Rattle.shard_core.specs.Parts.{AnswersPart, Answered, pieces_told, segs_told}
+use Rattle.shard_core.specs.Steps.{deed_told}
 use Rattle.command_exec.specs.Alike.{Alike}
 use Rattle.command_exec.specs.Lines.{item_for}
 use Rattle.command_exec.specs.Passes.{PassView}

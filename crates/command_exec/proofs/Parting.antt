@@ -11,7 +11,7 @@ use Rattle.order_book.specs.Pages.{SessionList}
 use Rattle.shard_core.specs.Done.{is_ranged}
 use Rattle.shard_core.specs.declared.answer.PartAnswer.{PartAnswer}
 use Rattle.reply_planner.specs.Planned.{Planned, planned, room_of}
-use Rattle.call_model.specs.Parts.{PartState, PartEnds, PartShows, IsUntold, KeepsSeat}
+use Rattle.shard_core.specs.Parts.{PartState, PartEnds, PartShows, IsUntold, KeepsSeat}
 use Rattle.command_exec.specs.Passes.{pass_of}
 use Rattle.command_exec.specs.Running.{KeepsPass}
 use Rattle.command_exec.specs.Parted.{RunsPart, MissesPart}

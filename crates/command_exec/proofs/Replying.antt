@@ -24,10 +24,10 @@ use Rattle.shard_core.specs.declared.answer.PartAnswer.{PartAnswer}
 use Rattle.reply_layout.specs.Pieces.{Piece, plain, bulk_pieces, item_pieces, reply_pieces, pieces_of}
 use Rattle.reply_planner.specs.Laid.{begun_pieces, pieces_in}
 use Rattle.reply_planner.specs.Planned.{paid_by}
-use Rattle.call_model.specs.Outcomes.{PartOutcome, deed_of, answer_told}
-use Rattle.call_model.specs.Demand.{value_stays, part_pins}
-use Rattle.call_model.specs.Parts.{AnswersPart, Reach, Reaches, pieces_told, segs_told}
-use Rattle.call_model.specs.Steps.{deed_told}
+use Rattle.shard_core.specs.Outcomes.{PartOutcome, deed_of, answer_told}
+use Rattle.shard_core.specs.CallDemand.{value_stays, part_pins}
+use Rattle.shard_core.specs.Parts.{AnswersPart, Reach, Reaches, pieces_told, segs_told}
+use Rattle.shard_core.specs.Steps.{deed_told}
 use Rattle.command_exec.specs.Alike.{Alike}
 use Rattle.command_exec.specs.Kinds.{HasOnePart}
 use Rattle.command_exec.specs.Lines.{line_for, item_for, error_line}

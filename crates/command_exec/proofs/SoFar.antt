@@ -17,12 +17,12 @@ use Rattle.reply_layout.specs.Need.{need_of, values_need}
 use Rattle.reply_layout.specs.Pieces.{Piece, plain, bulk_pieces, item_pieces, pieces_of}
 use Rattle.reply_planner.specs.Laid.{pieces_in}
 use Rattle.reply_planner.specs.Planned.{Planned, planned, paid_in, left_of, slots_of, room_of}
-use Rattle.call_model.specs.Outcomes.{PartOutcome, Outcomes, entry_at, AreOutcomes, call_deeds, answer_told}
-use Rattle.call_model.specs.Outcomes.{answers_told}
-use Rattle.call_model.specs.Demand.{part_pins, call_pins}
-use Rattle.call_model.specs.Steps.{deed_told}
-use Rattle.call_model.proofs.Growing.{more_deeds}
-use Rattle.call_model.proofs.Deeds.{as_many, deed_answers}
+use Rattle.shard_core.specs.Outcomes.{PartOutcome, Outcomes, entry_at, AreOutcomes, call_deeds, answer_told}
+use Rattle.shard_core.specs.Outcomes.{answers_told}
+use Rattle.shard_core.specs.CallDemand.{part_pins, call_pins}
+use Rattle.shard_core.specs.Steps.{deed_told}
+use Rattle.shard_core.proofs.Growing.{more_deeds}
+use Rattle.shard_core.proofs.CallDeeds.{as_many, deed_answers}
 use Rattle.command_exec.specs.Alike.{Alike}
 use Rattle.command_exec.specs.Kinds.{AsksValues, part_at}
 use Rattle.command_exec.specs.Lines.{number_line}

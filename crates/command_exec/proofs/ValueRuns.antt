@@ -10,7 +10,7 @@ use Rattle.shard_core.specs.Pieces.{runs_over, runs_at}
 use Rattle.reply_layout.specs.Pieces.{Piece, plain, stored, pieces_over, value_pieces, bulk_pieces}
 use Rattle.reply_planner.specs.Laid.{stored_run, head_text, pieces_in}
 use Rattle.reply_planner.specs.Planned.{paid_of}
-use Rattle.call_model.specs.Demand.{pieces_from, stay_in}
+use Rattle.shard_core.specs.CallDemand.{pieces_from, stay_in}
 use Rattle.command_exec.specs.Alike.{Alike}
 use Rattle.command_exec.proofs.AlikePieces.{alike_same, alike_then, alike_empty}
 

@@ -10,9 +10,9 @@ use Rattle.reply_layout.specs.Need.{need_of}
 use Rattle.reply_planner.specs.Owned.{bare_all, keys_for}
 use Rattle.reply_planner.specs.Parcels.{Sent, lent}
 use Rattle.reply_planner.specs.Places.{buffer_addresses}
-use Rattle.call_model.specs.Outcomes.{Outcomes, call_deeds}
-use Rattle.call_model.specs.Calls.{IsExecuted, IsCutShort}
-use Rattle.call_model.specs.Parts.{call_segs, IsInBuffer}
+use Rattle.shard_core.specs.Outcomes.{Outcomes, call_deeds}
+use Rattle.shard_core.specs.Calls.{IsExecuted, IsCutShort}
+use Rattle.shard_core.specs.Parts.{call_segs, IsInBuffer}
 use Rattle.command_exec.specs.Passes.{PassView}
 
 -- a parcel, as a frame that is laid out

@@ -1,14 +1,14 @@
 -- Commands by how they are answered.
-use Rattle.std.specs.Prelude.{ℕ, [], slice_index_or}
+use Rattle.std.specs.Prelude.{ℕ, [], slice_index_or, ⊤}
 use Rattle.flake_model.specs.Store as part
 use Rattle.flake_model.specs.Store.{Operation}
 use Rattle.flake_model.specs.Command.{Command, ping, ping_with, mget, del, exists, fault, parts}
 
 -- a command without parts
 abbrev pub HasNoParts : Command → Type 0
-HasNoParts ping = Unit {0}
-HasNoParts (ping_with bytes) = Unit {0}
-HasNoParts (fault kind) = Unit {0}
+HasNoParts ping = ⊤
+HasNoParts (ping_with bytes) = ⊤
+HasNoParts (fault kind) = ⊤
 HasNoParts command = ⊥
 
 -- one whose only part's answer is the reply
@@ -19,17 +19,17 @@ HasOnePart (mget keys) = ⊥
 HasOnePart (del keys) = ⊥
 HasOnePart (exists keys) = ⊥
 HasOnePart (fault kind) = ⊥
-HasOnePart command = Unit {0}
+HasOnePart command = ⊤
 
 -- one that answers the values of keys
 abbrev pub AsksValues : Command → Type 0
-AsksValues (mget keys) = Unit {0}
+AsksValues (mget keys) = ⊤
 AsksValues command = ⊥
 
 -- one that counts keys
 abbrev pub Counts : Command → Type 0
-Counts (del keys) = Unit {0}
-Counts (exists keys) = Unit {0}
+Counts (del keys) = ⊤
+Counts (exists keys) = ⊤
 Counts command = ⊥
 
 -- the part of this number

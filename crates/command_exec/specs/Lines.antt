@@ -1,5 +1,5 @@
 -- Replies of one line, as a plan takes them.
-use Rattle.std.specs.Prelude.{ℕ, List, [], ◌∷◌, ◌++◌, if◌then◌else◌}
+use Rattle.std.specs.Prelude.{ℕ, List, [], ◌∷◌, ◌++◌, if◌then◌else◌, ⊤}
 use Rattle.std.specs.Fmt.{decimal}
 use Rattle.flake_base.specs.declared.reply.ErrorKind.{ErrorKind}
 use Rattle.flake_base.specs.declared.reply.ErrorKind.TheVariants.{ValueTooLong, NoBuffer}
@@ -29,7 +29,7 @@ line_for (say.NoBuffer none) = error_line NoBuffer
 -- an answer that makes a line
 abbrev pub HasLine : PartAnswer → Type 0
 HasLine say.Bulk = ⊥
-HasLine answer = Unit {0}
+HasLine answer = ⊤
 
 -- an item of an array: any answer but bytes is null
 abbrev pub item_for : PartAnswer → List TakenPiece

@@ -14,11 +14,11 @@ use Rattle.shard_core.specs.declared.answer.PartAnswer.{PartAnswer}
 use Rattle.reply_layout.specs.Pieces.{item_pieces}
 use Rattle.reply_planner.specs.Laid.{pieces_in}
 use Rattle.reply_planner.specs.Planned.{Planned, planned, room_of, paid_in}
-use Rattle.call_model.specs.Outcomes.{PartOutcome, answer_told}
-use Rattle.call_model.specs.Demand.{part_pins}
-use Rattle.call_model.specs.Calls.{IsPartRun}
-use Rattle.call_model.specs.Parts.{PartShows, IsInBuffer, segs_told}
-use Rattle.call_model.specs.Steps.{deed_told}
+use Rattle.shard_core.specs.Outcomes.{PartOutcome, answer_told}
+use Rattle.shard_core.specs.CallDemand.{part_pins}
+use Rattle.shard_core.specs.Calls.{IsPartRun}
+use Rattle.shard_core.specs.Parts.{PartShows, IsInBuffer, segs_told}
+use Rattle.shard_core.specs.Steps.{deed_told}
 use Rattle.command_exec.specs.Alike.{Alike}
 use Rattle.command_exec.specs.Passes.{PassView}
 use Rattle.command_exec.specs.Running.{KeepsPass}

@@ -9,10 +9,10 @@ use Rattle.reply_layout.specs.declared.need.Need.{Need}
 use Rattle.reply_layout.specs.Pieces.{pieces_of}
 use Rattle.reply_planner.specs.Laid.{pieces_in}
 use Rattle.reply_planner.specs.Planned.{Planned, paid_in}
-use Rattle.call_model.specs.Outcomes.{Outcomes, call_deeds}
-use Rattle.call_model.specs.Demand.{call_pins}
-use Rattle.call_model.specs.Calls.{AreRunning, IsCutShort}
-use Rattle.call_model.specs.Parts.{call_segs, IsInBuffer, KeepsSeat}
+use Rattle.shard_core.specs.Outcomes.{Outcomes, call_deeds}
+use Rattle.shard_core.specs.CallDemand.{call_pins}
+use Rattle.shard_core.specs.Calls.{AreRunning, IsCutShort}
+use Rattle.shard_core.specs.Parts.{call_segs, IsInBuffer, KeepsSeat}
 use Rattle.command_exec.specs.Alike.{Alike}
 use Rattle.command_exec.specs.Passes.{PassView}
 

@@ -6,7 +6,7 @@ ghost use Rattle.reply_layout.specs.Need.{need_of};
 ghost use Rattle.reply_layout.specs.Pieces.{pieces_of};
 ghost use Rattle.reply_planner.specs.Laid.{pieces_in};
 ghost use Rattle.reply_planner.specs.Planned.{room_of};
-ghost use Rattle.call_model.specs.Outcomes.{entry_at};
+ghost use Rattle.shard_core.specs.Outcomes.{entry_at};
 ghost use Rattle.command_exec.specs.Alike.{Alike};
 ghost use Rattle.command_exec.specs.Kinds.{HasNoParts, HasOnePart, AsksValues, Counts, part_at};
 ghost use Rattle.command_exec.specs.Parted.{AddsValue, CountsKey, MissesPart};

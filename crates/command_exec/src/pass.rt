@@ -5,6 +5,7 @@ ghost use Rattle.pinned_pool.specs.Named.{IsSeat};
 ghost use Rattle.pinned_pool.specs.Sought.{Sought};
 ghost use Rattle.reply_planner.specs.Parcels.{TakesBack};
 ghost use Rattle.reply_planner.specs.Stages.{stage_size, merged, IsStageOpened, WhyUnopened, IsClosed};
+ghost use Rattle.reply_planner.specs.Stages.{NoneInBoth, IsReordered};
 ghost use Rattle.command_exec.specs.Passes.{IsPass, pass_of, none_found};
 
 use order_book::{BookName, SessionSeat};
@@ -111,6 +112,18 @@ impl<N: BookName, P: PoolName> Pass<N, P> {
         ensures seat { TakesBack parcel result self.old.seat self.new.seat }
     {
         give_back(parcel, pool, &mut self.seat, &mut self.stage)
+    }
+
+    /// Changes nothing but the order of the seat's holds, and tells a proof that the free buffers of two stages are
+    /// apart.
+    pub fn compare(&mut self, pool: &Pool<P>, other: &mut Pass<N, P>)
+        requires credits { 1 < self.old.seat.credits }
+        ensures pass { self.new ≡ pass_of self.old.list self.new.seat self.old.stage self.old.free self.old.threshold }
+        ensures seat { IsReordered self.old.seat self.new.seat }
+        ensures other { other.new ≡ other.old }
+        ensures apart { NoneInBoth self.old.free other.old.free }
+    {
+        self.stage.compare(pool, &mut self.seat, &mut other.seat);
     }
 
     /// Gives the staging buffers back.

@@ -1,6 +1,7 @@
 -- What a command of the code stands for.
 use Rattle.std.specs.Prelude.{◌≡◌, ℕ, ◌≤◌, nat_le, Bool, true, if◌then◌else◌, List, [], ◌∷◌, Option, Some, None, length}
 use Rattle.std.specs.List.{list_all}
+use Rattle.std.specs.Prelude.{⊤}
 use Rattle.flake_base.specs.Limits.{value_limit}
 use Rattle.flake_model.specs.Resp.{Words}
 use Rattle.flake_model.specs.Store.{Operation}
@@ -62,7 +63,7 @@ Between least most words = (least ≤ length words) × (length words ≤ most)
 abbrev pub RepliesAlone : PartOp → Type 0
 RepliesAlone part.Del = ⊥
 RepliesAlone part.Exists = ⊥
-RepliesAlone op = Unit {0}
+RepliesAlone op = ⊤
 
 -- the words of a command of one key
 pub record FitsOne (op : PartOp) (words : Words) : Type 0 where
@@ -74,13 +75,13 @@ pub record FitsOne (op : PartOp) (words : Words) : Type 0 where
 -- what the tests leave: the number of words, and the lengths of keys, values and PING's argument; a fault may have any
 -- words
 abbrev pub FitsWords : Op → Words → Type 0
-FitsWords Ping words = Unit {0}
+FitsWords Ping words = ⊤
 FitsWords PingWith words = Between 2 2 words × (length (first words) ≤ message_limit)
 FitsWords (One op) words = FitsOne op words
 FitsWords MGet words = Between 2 65 words × (are_keys (arguments words) ≡ true)
 FitsWords Del words = Between 2 65 words × (are_keys (arguments words) ≡ true)
 FitsWords Exists words = Between 2 65 words × (are_keys (arguments words) ≡ true)
-FitsWords (Fault kind) words = Unit {0}
+FitsWords (Fault kind) words = ⊤
 
 -- the keys and values of a command stand among these words
 abbrev pub IsAmong : model.Command → Words → Type 0

@@ -7,7 +7,8 @@ use Rattle.any_wire.specs.Sends.{Flushes}
 use Rattle.any_wire.proofs.Sending.{sends-on, sends-same, sends-flush}
 use Rattle.reply_planner.specs.Parcels.{Sent}
 use Rattle.mtu_frames.specs.Frames.{framed}
-use Rattle.device_model.specs.Devices.{reply_as_sent, joined_as_sent, ForwardsAs, PutsText}
+use Rattle.any_wire.specs.Sends.{PutsText}
+use Rattle.device_model.specs.Devices.{reply_as_sent, joined_as_sent, ForwardsAs}
 use Rattle.device_model.proofs.Puts.{sends-loosened}
 
 -- one reply

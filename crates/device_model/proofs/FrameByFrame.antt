@@ -4,7 +4,7 @@ use Rattle.std.proofs.Common.{refl, ap, subst, arith}
 use Rattle.std.specs.Borrow.{Bor}
 use Rattle.std.proofs.lemmas.List.{length-drop}
 use Rattle.mtu_frames.specs.Frames.{MtuFrame, cuts_from, frames_from}
-use Rattle.device_model.specs.Devices.{PutsText}
+use Rattle.any_wire.specs.Sends.{PutsText}
 use Rattle.device_model.specs.Pieces.{PutsEach}
 use Rattle.any_wire.proofs.Behind.{sends-over}
 use Rattle.device_model.proofs.Framed.{cuts-same}

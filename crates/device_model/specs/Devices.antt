@@ -1,5 +1,5 @@
 -- What a device does to its ring and to a wire.
-use Rattle.std.specs.Prelude.{◌≡◌, ℕ, ◌≤◌, Bool, true, false, List, [], ◌∷◌, ◌++◌, Option, None, Some, length}
+use Rattle.std.specs.Prelude.{◌≡◌, ℕ, ◌≤◌, Bool, true, false, List, [], ◌∷◌, ◌++◌, Option, None, Some, length, ⊤}
 use Rattle.std.specs.List.{flat_map, slice_get}
 use Rattle.std.specs.Borrow.{Bor}
 use Rattle.flake_base.specs.declared.segment.Seg.{Seg}
@@ -32,13 +32,8 @@ joined_as_sent (Some mtu) replies = flat_map (λ (reply : Sent). framed reply.te
 
 -- frames may have at most so many bytes, where there are to be frames
 abbrev pub CanFrame : Option ℕ → Type 0
-CanFrame None = Unit {0}
+CanFrame None = ⊤
 CanFrame (Some mtu) = (64 ≤ mtu) × (mtu ≤ 9216)
-
-module _ {W : Type 0} (put_may : W → Bor (List ℕ) → (W × Bool) → Type 0) where
-  -- the text is put, and nothing is flushed
-  abbrev pub PutsText : Bool → Bool → List ℕ → W → W → Type 0
-  PutsText = wire.Sends put_may (λ w r. ⊥)
 
 module _
     {W : Type 0}
@@ -60,13 +55,13 @@ module _ {W : Type 0} (put_may : W → Bor (List ℕ) → (W × Bool) → Type 0
 abbrev pub IfTaken : Gathered → Type 0 → Type 0
 IfTaken (found.Sent call bytes) F = F
 IfTaken (found.Dropped call bytes) F = F
-IfTaken found.Empty F = Unit {0}
-IfTaken found.Closed F = Unit {0}
+IfTaken found.Empty F = ⊤
+IfTaken found.Closed F = ⊤
 
 -- no reply was there, and this is so
 abbrev pub IfIdle : Gathered → Type 0 → Type 0
-IfIdle (found.Sent call bytes) F = Unit {0}
-IfIdle (found.Dropped call bytes) F = Unit {0}
+IfIdle (found.Sent call bytes) F = ⊤
+IfIdle (found.Dropped call bytes) F = ⊤
 IfIdle found.Empty F = F
 IfIdle found.Closed F = F
 

@@ -8,7 +8,7 @@ use Rattle.mtu_frames.specs.Frames.{mtu_frame_bytes, frames_of}
 use Rattle.reply_layout.specs.Gathered.{Reading}
 use Rattle.reply_planner.specs.Parcels.{Sent}
 use Rattle.reply_planner.specs.Places.{reading}
-use Rattle.device_model.specs.Devices.{PutsText}
+use Rattle.any_wire.specs.Sends.{PutsText}
 
 -- the bytes are put 512 at a time, and last those that are left
 abbrev pub AreCuts : List WireStep → List ℕ → Type 0

@@ -3,7 +3,8 @@ ghost use Rattle.std.specs.Prelude.{◌≡◌, ℕ, ◌-◌, ◌^◌, ◌<◌, �
 ghost use Rattle.std.specs.Int.{to_le_bytes, w32};
 ghost use Rattle.mtu_frames.specs.Frames.{header_bytes, cuts_from, framed, frames_of, mtu_frame_bytes};
 ghost use Rattle.tx_ring.specs.Jobs.{frame_of, segments};
-ghost use Rattle.device_model.specs.Devices.{CanFrame, PutsText};
+ghost use Rattle.any_wire.specs.Sends.{PutsText};
+ghost use Rattle.device_model.specs.Devices.{CanFrame};
 ghost use Rattle.device_model.specs.Framing.{text_behind, IsInText};
 ghost use Rattle.device_model.specs.Pieces.{PutsEach};
 

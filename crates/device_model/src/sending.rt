@@ -4,7 +4,8 @@ ghost use Rattle.tx_ring.specs.Jobs.{frame_of, segments};
 ghost use Rattle.reply_planner.specs.Parcels.{HasBytes};
 ghost use Rattle.reply_planner.specs.Places.{buffer_bytes, reading};
 ghost use Rattle.any_wire.specs.Sends.{WireStep, puts, Chain};
-ghost use Rattle.device_model.specs.Devices.{HasSegment, PutsText};
+ghost use Rattle.any_wire.specs.Sends.{PutsText};
+ghost use Rattle.device_model.specs.Devices.{HasSegment};
 ghost use Rattle.device_model.specs.Pieces.{AreCuts, AreCutsAt};
 
 use any_wire::{MOST_PUT, WireCalls};

@@ -1,5 +1,5 @@
 -- A session with its source and its wire, before the first line.
-use Rattle.std.proofs.Common.{◌≡◌, ℕ, Bool, List, [], Some, None, refl, ap}
+use Rattle.std.proofs.Common.{◌≡◌, ℕ, Bool, [], Some, None, refl, ap}
 use Rattle.pin_core.specs.declared.sizes.Sizes.{Sizes}
 use Rattle.reply_planner.specs.Parcels.{Sent}
 use Rattle.tx_descriptor.specs.declared.framed.Framed.{Ghosts}
@@ -7,7 +7,7 @@ use Rattle.tx_ring.specs.declared.device.DeviceEnd.{DeviceEnd}
 use Rattle.tx_ring.specs.declared.view.DeviceView.{DeviceView}
 use Rattle.command_pump.specs.Pump.{Origin, PumpState, IsPump}
 use Rattle.session_pass.specs.Views.{SessionView}
-use Rattle.session_serve.specs.Working.{IsFresh}
+use Rattle.session_pass.specs.Fresh.{IsFresh}
 use Rattle.drive_script.specs.Driving.{driving_of, IsNew}
 use Rattle.run_resources.specs.Opened.{IsSessionSlot}
 use Rattle.run_resources.proofs.SessionSlots.{fresh}

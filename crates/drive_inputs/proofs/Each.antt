@@ -24,6 +24,7 @@ use Rattle.std.proofs.Common.{
 use Rattle.std.specs.Borrow.{Bor}
 use Rattle.std.specs.List.{flat_map, range_with_len}
 use Rattle.std.proofs.lemmas.List.Elements.{All-head, All-tail}
+use Rattle.std.specs.Prelude.{⊤}
 use Rattle.view_sums.specs.Total.{total, Each}
 use Rattle.flake_model.specs.Command.{Command}
 use Rattle.pin_core.specs.declared.sizes.Sizes.{Sizes}
@@ -40,11 +41,11 @@ use Rattle.transcript_model.specs.Transcript.{IsStageShown}
 use Rattle.tx_ring.specs.Shown.{ring_size}
 use Rattle.drive_script.specs.Driven.{Leaving}
 use Rattle.drive_script.specs.Driving.{Driving}
-use Rattle.drive_script.specs.Lanes.{sends_by}
+use Rattle.drive_script.specs.Connections.{sends_by}
 use Rattle.drive_script.specs.Ran.{HasDriven}
 use Rattle.drive_told.specs.Driven.{OneDriven, IsDriven, AllDriven}
 use Rattle.run_resources.specs.Opened.{session_credits, IsNewPass}
-use Rattle.run_resources.specs.Ran.{AreReads, AllSent}
+use Rattle.session_serve.specs.Ran.{AreReads, AllSent}
 use Rattle.run_resources.proofs.SessionSlots.{HasCredits}
 
 abbrev pub credits_in : List View → ℕ
@@ -59,7 +60,7 @@ pub record IsFit (z : Sizes) (ring threshold number : ℕ) (session : SessionVie
 
 -- from a number on
 abbrev pub AreFit : Sizes → ℕ → ℕ → ℕ → List SessionView → Type 0
-AreFit z ring threshold number [] = Unit {0}
+AreFit z ring threshold number [] = ⊤
 AreFit z ring threshold number (session ∷ sessions) =
     IsFit z ring threshold number session × AreFit z ring threshold (number + 1) sessions
 
@@ -108,7 +109,7 @@ module _ {W : Type 0} (put_may : W → Bor (List ℕ) → (W × Bool) → Type 0
 
   -- each was, from a number on
   abbrev pub WereAll : ℕ → List (Driving W) → List (Leaving W) → Type 0
-  WereAll number [] [] = Unit {0}
+  WereAll number [] [] = ⊤
   WereAll number [] (last ∷ lasts) = ⊥
   WereAll number (first ∷ firsts) [] = ⊥
   WereAll number (first ∷ firsts) (last ∷ lasts) =

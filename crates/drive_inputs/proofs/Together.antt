@@ -35,17 +35,19 @@ use Rattle.command_pump.specs.Pump.{Origin, origin_of}
 use Rattle.order_book.specs.Pages.{SessionList}
 use Rattle.order_book.specs.declared.rule.BookSizes as book_sizes
 use Rattle.schedule_text.specs.declared.line.Line.{Line}
+use Rattle.reply_planner.specs.Places.{buffer_addresses}
+use Rattle.reply_planner.specs.Stages.{StagesAreApart}
 use Rattle.serve_model.specs.Seats.{HasAll, IsSpare}
 use Rattle.session_pass.specs.Views.{SessionView}
 use Rattle.drive_script.specs.Driven.{Leaving, DroveAll}
 use Rattle.drive_script.specs.Driving.{Driving}
-use Rattle.drive_script.specs.Lanes.{sends_by}
+use Rattle.drive_script.specs.Connections.{sends_by}
 use Rattle.drive_told.specs.Driven.{OneDriven, AreDriven}
 use Rattle.drive_told.specs.Together.{DrivenTogether}
 use Rattle.run_resources.specs.Closed.{WasClosed}
 use Rattle.run_resources.specs.Joined.{HasJoined}
 use Rattle.run_resources.specs.Opened.{session_credits}
-use Rattle.run_resources.specs.Ran.{AreReads, AllSent}
+use Rattle.session_serve.specs.Ran.{AreReads, AllSent}
 use Rattle.run_resources.proofs.SessionSlots.{HasCredits}
 use Rattle.run_resources.proofs.Joining.{joins_all}
 use Rattle.drive_inputs.specs.Drove.{DroveInputs}
@@ -129,17 +131,22 @@ module _ {W D A : Type 0} (put_may : W → Bor (List ℕ) → (W × Bool) → Ty
   -- all sessions of the law, with their lists and seats
   are_driven : (ring threshold : ℕ) (lists : List SessionList) (spare main : View) (drove : Drove) (all : Were drove)
       → AreFit z ring threshold 0 (map (λ (d : D). (view d).session) drivings)
+      → StagesAreApart (map (λ (d : D). buffer_addresses z (view d).session.pass.stage) drivings)
       → lists ≡ map (λ (a : A). (leave a).mine) accounts → IsSpare spare
       → HasJoined (map (λ (a : A). (leave a).seat) accounts) spare main
       → AreDriven (sends_by put_may flush_may) z shards ring threshold drove.lines (ones drove all) lists main
-  are_driven ring threshold lists spare main drove all fit lists_is empty joins =
+  are_driven ring threshold lists spare main drove all fit apart lists_is empty joins =
       let mine = each.by_lasts put_may flush_may z shards drove.lines (λ (one : OneDriven W). one.list)
       (λ (l : Leaving W). l.mine) (λ n f l was. refl) 0 firsts lasts all
       ∙ maps_in (λ (l : Leaving W). l.mine) leave accounts in
       let seats = each.by_lasts put_may flush_may z shards drove.lines (λ (one : OneDriven W). one.seat)
       (λ (l : Leaving W). l.seat) (λ n f l was. refl) 0 firsts lasts all
       ∙ maps_in (λ (l : Leaving W). l.seat) leave accounts in
+      let stages = each.by_firsts put_may flush_may z shards drove.lines (λ (one : OneDriven W). one.stage)
+      (λ (f : Driving W). buffer_addresses z f.session.pass.stage) (λ n f l was. refl) 0 firsts lasts all
+      ∙ maps_in (λ (f : Driving W). buffer_addresses z f.session.pass.stage) view drivings in
       record {
+        stages_apart = subst StagesAreApart (sym stages) apart;
         all = each.all_driven put_may flush_may z shards drove.lines ring threshold 0 firsts lasts all
             (subst (AreFit z ring threshold 0) (sym (maps_in (λ (f : Driving W). f.session) view drivings)) fit);
         lists_are = lists_is ∙ sym mine;
@@ -184,6 +191,7 @@ module _ {W D A : Type 0} (put_may : W → Bor (List ℕ) → (W × Bool) → Ty
       (givens : List (List ℕ)) (endeds : List Bool) (ends : List SessionEnd) (lists : List SessionList)
       (journal : List (List Entry)) (closed : End) (spare main : View) (past olds news : List W) → Drove
       → shards ≡ books.shards → z ≡ y → AreFit z ring threshold 0 (map (λ (d : D). (view d).session) drivings)
+      → StagesAreApart (map (λ (d : D). buffer_addresses z (view d).session.pass.stage) drivings)
       → lists ≡ map (λ (a : A). (leave a).mine) accounts → IsSpare spare
       → HasJoined (map (λ (a : A). (leave a).seat) accounts) spare main → length lists ≡ books.sessions
       → WasClosed books z lists main journal closed → DrivenTogether (sends_by put_may flush_may)
@@ -195,11 +203,11 @@ module _ {W D A : Type 0} (put_may : W → Bor (List ℕ) → (W × Bool) → Ty
       → DroveInputs put_may flush_may y ring threshold schedule failed givens endeds ends journal closed olds news old
       new
   drove_inputs books y ring threshold givens endeds ends lists journal closed spare main past olds news drove shards_are
-      same fit lists_is empty joins many end together givens_are endeds_are ends_is olds_is news_is =
+      same fit apart lists_is empty joins many end together givens_are endeds_are ends_is olds_is news_is =
       let all = all_were drove in
       let own : List (OneDriven W) = ones drove all in
       let are = subst (λ (n : ℕ). AreDriven (sends_by put_may flush_may) z n ring threshold drove.lines own lists main)
-      shards_are (are_driven ring threshold lists spare main drove all fit lists_is empty joins) in
+      shards_are (are_driven ring threshold lists spare main drove all fit apart lists_is empty joins) in
       let has = together books z ring threshold schedule drove.lines own past end.shards lists journal main end.store
       end.last closed drove.answers are (record {
         parts = end.parts;

@@ -2,7 +2,7 @@
 use Rattle.std.proofs.Common.{ℕ, Bool, List, Bor}
 use Rattle.flake_base.specs.Told.{WireTold}
 use Rattle.flake_model.specs.Run.{all_commands}
-use Rattle.drive_inputs.specs.Lanes.{sends_by}
+use Rattle.drive_inputs.specs.Connections.{sends_by}
 use Rattle.drive_told.specs.Together.{driven_run}
 use Rattle.drive_told.proofs.Wires.{told}
 use Rattle.drive_inputs.specs.Shown.{IsTranscriptTold}

@@ -14,9 +14,9 @@ use Rattle.serve_model.specs.Shown.{WasRun}
 use Rattle.transcript_model.specs.Lines.{EventLine, transcript_line}
 use Rattle.transcript_model.specs.Sources.{AreSources}
 use Rattle.transcript_model.specs.Transcript.{AreAllApart, transcript_places, IsToldBy}
-use Rattle.drive_script.specs.Lanes.{sends_by}
+use Rattle.drive_script.specs.Connections.{sends_by}
 use Rattle.drive_script.specs.Says.{PrintsText}
-use Rattle.run_resources.specs.Ran.{AllSent}
+use Rattle.session_serve.specs.Ran.{AllSent}
 use Rattle.drive_told.specs.Together.{driven_run}
 
 module _ {W : Type 0} (put_may : W → Bor (List ℕ) → (W × Bool) → Type 0) (flush_may : W → (W × Bool) → Type 0) where

@@ -1,4 +1,4 @@
 pub mod Drove
-pub use Rattle.drive_script.specs.Lanes
+pub use Rattle.drive_script.specs.Connections
 pub mod Held
 pub mod Shown

@@ -2,12 +2,12 @@
 ghost use Rattle.std.specs.Prelude.{◌≡◌, ◌<◌, ◌≤◌, ◌++◌, [], All, Some, length, map, vec_capacity};
 ghost use Rattle.std.specs.Vec.Iter.{into_iter_items};
 ghost use Rattle.command_pump.specs.Pump.{origin_of};
-ghost use Rattle.session_serve.specs.Working.{IsFresh};
+ghost use Rattle.session_pass.specs.Fresh.{IsFresh};
 ghost use Rattle.drive_script.specs.Driving.{driving_of, IsNew};
 ghost use Rattle.run_resources.specs.Opened.{IsSessionSlot};
 
 use command_pump::Pump;
-use drive_script::{Asking, Driving, Lane};
+use drive_script::{Asking, Connection, Driving};
 use flake_base::Source;
 use order_book::BookName;
 use pinned_pool::PoolName;
@@ -28,10 +28,10 @@ pub(crate) fn pair_up<N: BookName, P: PoolName + Send, S: Source + Drop, W: Drop
     requires unread { All (λ s. S.given s ≡ []) sources.items }
     requires wires { length slots.items ≤ length wires.items }
     requires room { (drivings.items ≡ []) × (length slots.items ≤ vec_capacity drivings) }
-    ensures fresh { All (λ d. IsNew P.sizes (driving_of d.lane.session d.lane.device.failed d.lane.device.end
-        d.asking.kept d.asking.end d.asking.pump d.wire) × IsFresh P.sizes d.lane.session d.asking.pump)
-        result.0.items }
-    ensures sessions { map (λ d. d.lane.session) result.0.items ≡ map (λ d. d.session) slots.items }
+    ensures fresh { All (λ d. IsNew P.sizes (driving_of d.connection.session d.connection.device.failed
+        d.connection.device.end d.asking.kept d.asking.end d.asking.pump d.wire) × IsFresh P.sizes d.connection.session
+        d.asking.pump) result.0.items }
+    ensures sessions { map (λ d. d.connection.session) result.0.items ≡ map (λ d. d.session) slots.items }
     ensures origins { map (λ d. d.asking.pump.origin) result.0.items
         ≡ map (λ s. origin_of (S.name s) (S.whole s)) sources.items }
     ensures faults { map (λ d. d.asking.pump.faults) result.0.items ≡ map (λ s. S.read_faults s) sources.items }
@@ -47,20 +47,16 @@ pub(crate) fn pair_up<N: BookName, P: PoolName + Send, S: Source + Drop, W: Drop
         let Some(wire) = more_wires.next() else {
             unreachable!()
         };
-        let SessionSlot {
-            session,
-            device,
-            room: _,
-        } = slot;
+        let SessionSlot { session, device } = slot;
         let pump = Pump::new(alloc, source);
-        let lane = Lane { session, device };
+        let connection = Connection { session, device };
         let asking = Asking {
             pump,
             kept: None,
             end: None,
         };
         drivings.push_reserved(Driving {
-            lane,
+            connection,
             asking,
             wire: Some(wire),
         });

@@ -3,7 +3,7 @@ ghost use Rattle.std.specs.Prelude.{◌≡◌, ◌<◌, ◌≤◌, [], All, leng
 ghost use Rattle.schedule_text.specs.Text.{line_session};
 ghost use Rattle.flake_base.specs.Histories.{histories};
 ghost use Rattle.run_resources.specs.Opened.{HasRunSizes, IsPool, IsBook, pool_sizes};
-ghost use Rattle.run_resources.specs.Ran.{AreReads};
+ghost use Rattle.session_serve.specs.Ran.{AreReads};
 ghost use Rattle.drive_inputs.specs.Drove.{DroveInputs};
 
 use crate::whole::{DrivenRun, Room, drive_opened};

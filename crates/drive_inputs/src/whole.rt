@@ -2,12 +2,13 @@
 ghost use Rattle.std.specs.Prelude.{◌≡◌, ◌+◌, ◌<◌, ◌≤◌, [], All, length, map, vec_capacity};
 ghost use Rattle.std.specs.List.{range_with_len};
 ghost use Rattle.schedule_text.specs.Text.{line_session};
+ghost use Rattle.reply_planner.specs.Stages.{StagesAreApart};
 ghost use Rattle.serve_model.specs.Seats.{IsSpare};
 ghost use Rattle.flake_base.specs.Histories.{histories};
 ghost use Rattle.tx_ring.specs.Shown.{ring_size};
 ghost use Rattle.drive_script.specs.Says.{text_room};
 ghost use Rattle.run_resources.specs.Opened.{IsPool, IsBook, IsSessionSlot, dump_credits, pool_sizes};
-ghost use Rattle.run_resources.specs.Ran.{AreReads};
+ghost use Rattle.session_serve.specs.Ran.{AreReads};
 ghost use Rattle.drive_inputs.specs.Drove.{DroveInputs};
 
 use crate::pairing::pair_up;
@@ -69,6 +70,7 @@ pub(crate) fn drive_opened<
     requires slots { All (λ d. IsSessionSlot P.sizes d.session d.device.end d.device.failed) resources.slots.items }
     requires numbers { map (λ d. d.session.pass.list.number) resources.slots.items
         ≡ range_with_len 0 (length sources.items) }
+    requires apart { StagesAreApart (map (λ d. d.session.pass.stage) resources.slots.items) }
     requires ring { All (λ d. ring_size d.session.ring ≡ sizes.now.ring) resources.slots.items }
     requires threshold { All (λ d. d.session.pass.threshold ≡ sizes.now.threshold) resources.slots.items }
     requires drivings { (space.drivings.items ≡ []) × (length sources.items ≤ vec_capacity space.drivings) }

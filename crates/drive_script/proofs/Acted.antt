@@ -11,7 +11,7 @@ use Rattle.drive_script.specs.Views.{SessionShown, DeviceShown}
 use Rattle.drive_script.proofs.Lists.{front_length}
 use Rattle.any_wire.proofs.Texts.{wire_longer}
 use Rattle.drive_script.specs.Asked.{IsAsked, GoesOn}
-use Rattle.drive_script.specs.Lanes.{Fixed, IsDriven, IsLane}
+use Rattle.drive_script.specs.Connections.{Fixed, IsDriven, IsConnection}
 
 module _ {W : Type 0} (sends : Sending W) (is : IsSending sends) where
   -- at most one reply more
@@ -33,42 +33,45 @@ module _ {W : Type 0} (sends : Sending W) (is : IsSending sends) where
       (flag : device'.failed ≡ device.failed)
       (more : List Sent) (posted : session'.posted ≡ session.posted ++ more) (few : length more ≤ 1) where
     -- the wire goes with a line that leaves it as it is
-    lane_goes : (said said' : Option End) (lane : IsLane sends fixed start given said events session device wire)
+    connection_goes : (said said' : Option End) (connection : IsConnection sends fixed start given said events session
+        device wire)
         (now : List Command)
-        → IsDriven fixed now said' lane.whole (events ++ event ∷ []) session' device'
-        → IsLane sends fixed start now said' (events ++ event ∷ []) session' device' wire
-    lane_goes said said' lane now driven =
-        let m = lane.driven.kept.matches in
-        let so : AreWhole device.failed lane.whole (length device.completed) =
-        subst (λ n. AreWhole device.failed n (length device.completed)) lane.driven.whole_is m.whole in
+        → IsDriven fixed now said' connection.whole (events ++ event ∷ []) session' device'
+        → IsConnection sends fixed start now said' (events ++ event ∷ []) session' device' wire
+    connection_goes said said' connection now driven =
+        let m = connection.driven.kept.matches in
+        let so : AreWhole device.failed connection.whole (length device.completed) =
+        subst (λ n. AreWhole device.failed n (length device.completed)) connection.driven.whole_is m.whole in
         record {
-          whole = lane.whole;
+          whole = connection.whole;
           driven = driven;
-          grew = subst (λ (b : Bool). WireGrew sends b lane.whole (texts_in session'.posted) start wire) (sym flag)
-              (subst (λ (list : List Sent). WireGrew sends device.failed lane.whole (texts_in list) start wire)
+          grew = subst (λ (b : Bool). WireGrew sends b connection.whole (texts_in session'.posted) start wire) (sym
+              flag)
+              (subst (λ (list : List Sent). WireGrew sends device.failed connection.whole (texts_in list) start wire)
               (sym posted)
-              (wire_more device.failed lane.whole (length device.completed) session.posted more start wire few so
+              (wire_more device.failed connection.whole (length device.completed) session.posted more start wire few so
               (front_length device.completed session.posted m.in_order.completed.0 m.in_order.completed.1)
-              lane.grew));
+              connection.grew));
         }
 
     pub call_goes : (Also : List Command → Type 0) (origin : Origin) (before n : ℕ) (kept : Option Command)
         (pump : PumpState) (said said' : Option End)
-        (lane : IsLane sends fixed start given said events session device wire)
+        (connection : IsConnection sends fixed start given said events session device wire)
         → GoesOn origin before n kept said' pump
-        (λ now. IsDriven fixed now said' lane.whole (events ++ event ∷ []) session' device' × Also now)
+        (λ now. IsDriven fixed now said' connection.whole (events ++ event ∷ []) session' device' × Also now)
         → GoesOn origin before n kept said' pump
-        (λ now. IsLane sends fixed start now said' (events ++ event ∷ []) session' device' wire × Also now)
-    call_goes Also origin before n kept pump said said' lane goes = record {
+        (λ now. IsConnection sends fixed start now said' (events ++ event ∷ []) session' device' wire × Also now)
+    call_goes Also origin before n kept pump said said' connection goes = record {
       given = goes.given;
       asked = goes.asked;
-      is = (lane_goes said said' lane goes.given goes.is.0, goes.is.1);
+      is = (connection_goes said said' connection goes.given goes.is.0, goes.is.1);
     }
 
-    pub reap_goes : (said : Option End) (lane : IsLane sends fixed start given said events session device wire)
-        → IsDriven fixed given said lane.whole (events ++ event ∷ []) session' device'
-        → IsLane sends fixed start given said (events ++ event ∷ []) session' device' wire
-    reap_goes said lane driven = lane_goes said said lane given driven
+    pub reap_goes : (said : Option End) (connection : IsConnection sends fixed start given said events session device
+        wire)
+        → IsDriven fixed given said connection.whole (events ++ event ∷ []) session' device'
+        → IsConnection sends fixed start given said (events ++ event ∷ []) session' device' wire
+    reap_goes said connection driven = connection_goes said said connection given driven
 
 -- nothing was asked, and it goes on
 pub stays_asked : (origin : Origin) (before : ℕ) (given : List Command) (olds news : List Sent)
@@ -84,9 +87,11 @@ stays_asked origin before given olds news kept end pump right same asked is =
     }
 
 -- the same event in other words
-pub lane_same : {W : Type 0} (sends : Sending W) (fixed : Fixed) (start : W) (given : List Command) (end : Option End)
+pub connection_same : {W : Type 0} (sends : Sending W) (fixed : Fixed) (start : W) (given : List Command) (end : Option
+    End)
     (events : List LineEvent) (event other : LineEvent) (session : SessionShown) (device : DeviceShown) (wire : W)
-    → event ≡ other → IsLane sends fixed start given end (events ++ other ∷ []) session device wire
-    → IsLane sends fixed start given end (events ++ event ∷ []) session device wire
-lane_same sends fixed start given end events event other session device wire same lane =
-    subst (λ (e : LineEvent). IsLane sends fixed start given end (events ++ e ∷ []) session device wire) (sym same) lane
+    → event ≡ other → IsConnection sends fixed start given end (events ++ other ∷ []) session device wire
+    → IsConnection sends fixed start given end (events ++ event ∷ []) session device wire
+connection_same sends fixed start given end events event other session device wire same connection =
+    subst (λ (e : LineEvent). IsConnection sends fixed start given end (events ++ e ∷ []) session device wire) (sym
+    same) connection

@@ -33,7 +33,7 @@ pub room_shown : (z : Sizes) (ring : TableId) (waits : List Sent) → room_left 
 room_shown z ring waits = ap (λ n. ring_size ring - 1 - n) (taken_by_all z waits)
 
 -- the address of a small buffer
-small_address : (z : Sizes) (b : ℕ) → b < z.small → address_of z b ≡ 1048576 + 512 * b
+pub small_address : (z : Sizes) (b : ℕ) → b < z.small → address_of z b ≡ 1048576 + 512 * b
 small_address z b near =
     let is : nat_lt b z.small ≡ true = grind arith in
     ap (λ (test : Bool). 1048576 + (if test then 512 * b else 512 * z.small + 4096 * (b - z.small))) is

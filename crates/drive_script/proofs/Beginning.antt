@@ -9,14 +9,14 @@ use Rattle.flake_model.specs.Command.{Command}
 use Rattle.flake_model.specs.Deed.{Deed}
 use Rattle.pin_core.specs.declared.sizes.Sizes.{Sizes}
 use Rattle.reply_planner.specs.Parcels.{Sent, texts_in}
-use Rattle.session_serve.specs.Working.{IsFresh}
+use Rattle.session_pass.specs.Fresh.{IsFresh}
 use Rattle.any_wire.specs.Texts.{Sending, WireGrew, IsSending}
 use Rattle.transcript_model.specs.Terms.{Terms}
 use Rattle.drive_script.proofs.Finals.{kept_at_first}
 use Rattle.any_wire.proofs.Texts.{wire_fresh}
 use Rattle.drive_script.specs.Asked.{IsAsked}
 use Rattle.drive_script.specs.Driving.{Driving, fixed_at, IsNew, IsUnderWay, AreFresh}
-use Rattle.drive_script.specs.Lanes.{IsEndSaid}
+use Rattle.drive_script.specs.Connections.{IsEndSaid}
 use Rattle.drive_script.specs.Left.{terms_at}
 use Rattle.drive_script.specs.Shown.{session_shown}
 use Rattle.drive_script.proofs.Running.{running_starts}
@@ -43,7 +43,7 @@ module _ {W : Type 0} (sends : Sending W) (is : IsSending sends) (z : Sizes) (sh
               kept_back = sym (ap (λ (list : List Sent). length list) new.none_posted);
               unfailed = refl;
             }));
-        lane = record {
+        connection = record {
           whole = 0;
           driven = record {
             terms = terms;

@@ -20,7 +20,7 @@ use Rattle.drive_script.specs.Views.{SessionShown, DeviceShown}
 use Rattle.drive_script.specs.declared.happened.Happened.{Happened}
 use Rattle.drive_script.specs.Asked.{MayGiveMore, AsksNext, IsAsked, GoesOn}
 use Rattle.drive_script.specs.Happened.{line_event}
-use Rattle.drive_script.specs.Lanes.{Fixed, IsDriven}
+use Rattle.drive_script.specs.Connections.{Fixed, IsDriven}
 use Rattle.drive_script.specs.Refused.{refused_so, kept_back, ended_by}
 use Rattle.drive_script.specs.Shown.{session_shown, LiesInPool}
 use Rattle.drive_script.proofs.Calls.{called_again, called_at_end, called, called_ring, called_stage, called_short}

@@ -1,5 +1,5 @@
 -- Calls of a driven session.
-use Rattle.std.proofs.Common.{◌≡◌, ◌≢◌, ℕ, ◌+◌, ◌⊎◌, inl, inr, true, false, List, [], ◌∷◌, ◌++◌, Option, None, Some}
+use Rattle.std.proofs.Common.{◌≡◌, ◌≢◌, ℕ, ◌+◌, ◌⊎◌, inl, inr, true, false, List, [], ◌∷◌, ◌++◌, None, Some}
 use Rattle.std.proofs.Common.{length, slice_get, refl, ap, sym, ◌∙◌, subst, arith, length-append, append-nil}
 use Rattle.flake_base.specs.declared.segment.Seg.{Seg}
 use Rattle.flake_base.specs.declared.session.End.{End}
@@ -21,7 +21,7 @@ use Rattle.drive_script.proofs.KeepsCalls.{kept_call}
 use Rattle.drive_script.proofs.KeepsEnds.{kept_ring, kept_stage, kept_end, kept_end_again}
 use Rattle.drive_script.proofs.Lists.{get_front, get_behind}
 use Rattle.drive_script.specs.Asked.{AsksNext, GoesOn}
-use Rattle.drive_script.specs.Lanes.{Fixed, IsDriven}
+use Rattle.drive_script.specs.Connections.{Fixed, IsDriven}
 
 -- the command that is called comes behind those that were posted
 has_more : (given front : List Command) (command : Command) → (given ≡ front) ⊎ (given ≡ front ++ command ∷ [])

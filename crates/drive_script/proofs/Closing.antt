@@ -31,7 +31,7 @@ use Rattle.drive_script.specs.declared.happened.Happened.TheVariants.{NothingPos
 use Rattle.drive_script.specs.Asked.{IsAsked}
 use Rattle.drive_script.specs.Driving.{Driving, fixed_at, IsUnderWay}
 use Rattle.drive_script.specs.Happened.{line_event}
-use Rattle.drive_script.specs.Lanes.{IsEndSaid}
+use Rattle.drive_script.specs.Connections.{IsEndSaid}
 use Rattle.drive_script.specs.Left.{terms_at, GathersAll, HasLeft}
 use Rattle.drive_script.specs.Shown.{session_shown}
 use Rattle.drive_script.proofs.OneMore.{one_wire}
@@ -95,10 +95,11 @@ module _ {W : Type 0} (sends : Sending W) (z : Sizes) (shards : ℕ) where
       (end_is : end ≡ ended_at (unwrap_or now.end Left) now.pump.taken (length now.session.posted) now.device.failed)
       (commands : List Command) (more : HasMore all.is.given commands) where
     kept_at_last : IsRightSoFar
-        (with_news all.is.lane.driven.terms commands end all.is.lane.driven.terms.whole all.is.lane.driven.terms.deeds)
+        (with_news all.is.connection.driven.terms commands end all.is.connection.driven.terms.whole
+        all.is.connection.driven.terms.deeds)
         (session_shown z now.session) now.device (events ++ all.quiet)
     kept_at_last =
-        let driven = all.is.lane.driven in
+        let driven = all.is.connection.driven in
         let kept = driven.kept in
         let terms = driven.terms in
         let session = session_shown z now.session in
@@ -113,19 +114,19 @@ module _ {W : Type 0} (sends : Sending W) (z : Sizes) (shards : ℕ) where
               ∙ (kept.matches.known said).0,
         ))
 
-    news_are : with_news all.is.lane.driven.terms commands end all.is.lane.driven.terms.whole
-        all.is.lane.driven.terms.deeds ≡ terms_at (fixed_at z first.session) commands end all.is.lane.whole
+    news_are : with_news all.is.connection.driven.terms commands end all.is.connection.driven.terms.whole
+        all.is.connection.driven.terms.deeds ≡ terms_at (fixed_at z first.session) commands end all.is.connection.whole
         (own_deeds mine)
     news_are =
-        let driven = all.is.lane.driven in
+        let driven = all.is.connection.driven in
         let deeds : driven.terms.deeds ≡ own_deeds mine = sym driven.kept.matches.shown.deeds
         ∙ ap own_deeds (sym mine_is) in
         λ i. terms_at (driven.fixed_is i) commands end (driven.whole_is i) (deeds i)
 
-    pub told_left : IsRightSession (terms_at (fixed_at z first.session) commands end all.is.lane.whole (own_deeds mine))
-        events
+    pub told_left : IsRightSession (terms_at (fixed_at z first.session) commands end all.is.connection.whole
+        (own_deeds mine)) events
     told_left =
-        let driven = all.is.lane.driven in
+        let driven = all.is.connection.driven in
         let terms = with_news driven.terms commands end driven.terms.whole driven.terms.deeds in
         let session = session_shown z now.session in
         let says = kept_ended terms session now.device (events ++ all.quiet) kept_at_last in
@@ -138,22 +139,23 @@ module _ {W : Type 0} (sends : Sending W) (z : Sizes) (shards : ℕ) where
         (says ∙ driven.ended_is ∙ last)
         (ap (λ (e : SessionEnd). e.failed) (sym end_is)))
 
-    pub sent_left : WireGrew sends end.failed all.is.lane.whole
-        (texts_of (terms_at (fixed_at z first.session) commands end all.is.lane.whole (own_deeds mine))) all.is.start
+    pub sent_left : WireGrew sends end.failed all.is.connection.whole
+        (texts_of (terms_at (fixed_at z first.session) commands end all.is.connection.whole (own_deeds mine)))
+        all.is.start
         all.is.wire
     sent_left =
-        let driven = all.is.lane.driven in
+        let driven = all.is.connection.driven in
         let terms = with_news driven.terms commands end driven.terms.whole driven.terms.deeds in
         let session = session_shown z now.session in
         let texts : texts_in now.session.posted
-        ≡ texts_of (terms_at (fixed_at z first.session) commands end all.is.lane.whole (own_deeds mine)) =
+        ≡ texts_of (terms_at (fixed_at z first.session) commands end all.is.connection.whole (own_deeds mine)) =
         sym (all_texts terms session now.device (events ++ all.quiet) kept_at_last
         (ap (λ (e : SessionEnd). e.replies) (sym end_is))) ∙ ap texts_of news_are in
-        subst (λ (b : Bool). WireGrew sends b all.is.lane.whole
-        (texts_of (terms_at (fixed_at z first.session) commands end all.is.lane.whole (own_deeds mine)))
+        subst (λ (b : Bool). WireGrew sends b all.is.connection.whole
+        (texts_of (terms_at (fixed_at z first.session) commands end all.is.connection.whole (own_deeds mine)))
         all.is.start all.is.wire) (ap (λ (e : SessionEnd). e.failed) (sym end_is))
-        (subst (λ list. WireGrew sends now.device.failed all.is.lane.whole list all.is.start all.is.wire) texts
-        all.is.lane.grew)
+        (subst (λ list. WireGrew sends now.device.failed all.is.connection.whole list all.is.start all.is.wire) texts
+        all.is.connection.grew)
 
   pub has_left : (first now : Driving W) (events : List LineEvent) (all : GathersAll sends z shards first events now)
       (end : SessionEnd) (mine : SessionList) (wire : W) → mine ≡ now.session.pass.list
@@ -161,18 +163,19 @@ module _ {W : Type 0} (sends : Sending W) (z : Sizes) (shards : ℕ) where
       → now.wire ≡ Some wire → HasLeft sends z first events end mine now.pump wire
   has_left first now events all end mine wire mine_is end_is wire_is = record {
     given = all.is.given;
-    whole = all.is.lane.whole;
+    whole = all.is.connection.whole;
     told = λ commands more. told_left first now events all end mine mine_is end_is commands more;
     start = all.is.start;
     start_is = all.is.start_is;
     sent = λ commands more. subst
-        (λ (w : W). WireGrew sends end.failed all.is.lane.whole
-        (texts_of (terms_at (fixed_at z first.session) commands end all.is.lane.whole (own_deeds mine))) all.is.start w)
+        (λ (w : W). WireGrew sends end.failed all.is.connection.whole
+        (texts_of (terms_at (fixed_at z first.session) commands end all.is.connection.whole (own_deeds mine)))
+        all.is.start w)
         (one_wire now.wire all.is.wire wire all.is.wire_is wire_is)
         (sent_left first now events all end mine mine_is end_is commands more);
     said = now.end;
     end_is = ap (λ (e : SessionEnd). e.end) end_is;
-    says = says_quiet events all.quiet all.are ∙ all.is.lane.driven.ended_is;
+    says = says_quiet events all.quiet all.are ∙ all.is.connection.driven.ended_is;
     kept = now.kept;
     asked = subst (λ n. IsAsked first.pump.origin first.pump.faults all.is.given n now.kept now.end now.pump)
         (ap (λ (e : SessionEnd). e.replies) (sym end_is)) all.is.asked;

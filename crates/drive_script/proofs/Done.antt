@@ -8,10 +8,10 @@ use Rattle.flake_model.specs.Command.{Command, parts}
 use Rattle.flake_model.specs.Reply.{reply_of}
 use Rattle.flake_model.specs.Deed.{Deed}
 use Rattle.reply_layout.specs.Pieces.{reply_from}
-use Rattle.call_model.specs.Outcomes as run
-use Rattle.call_model.specs.Outcomes.{Outcomes, call_told, call_deeds, answers_told}
-use Rattle.call_model.specs.Parts.{call_segs, segs_told}
-use Rattle.call_model.proofs.Deeds.{deed_answers}
+use Rattle.shard_core.specs.Outcomes as run
+use Rattle.shard_core.specs.Outcomes.{Outcomes, call_told, call_deeds, answers_told}
+use Rattle.shard_core.specs.Parts.{call_segs, segs_told}
+use Rattle.shard_core.proofs.CallDeeds.{deed_answers}
 use Rattle.transcript_model.specs.Frames.{fragments_stored}
 use Rattle.drive_script.specs.Calls.{AreDone}
 
@@ -23,7 +23,7 @@ parts_done session call number [] [] are count = refl
 parts_done session call number [] (outcome ∷ outcomes) are count = absurd are
 parts_done session call number (operation ∷ operations) [] are count = absurd (omega arith)
 parts_done session call number (operation ∷ operations) (None ∷ outcomes) are count =
-    (are.0, parts_done session call (number + 1) operations outcomes are.1 (omega arith))
+    (are.0.0, parts_done session call (number + 1) operations outcomes are.1 (omega arith))
 parts_done session call number (operation ∷ operations) (Some done ∷ outcomes) are count = (
   record { entry = refl; operation_is = refl },
   parts_done session call (number + 1) operations outcomes are

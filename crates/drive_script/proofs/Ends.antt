@@ -24,10 +24,10 @@ use Rattle.drive_script.specs.declared.happened.Happened.{Happened}
 use Rattle.drive_script.specs.declared.happened.Happened.TheVariants as Happen
 use Rattle.drive_script.specs.Happened.{line_event}
 use Rattle.drive_script.specs.Shown.{session_shown, device_shown}
-use Rattle.drive_script.specs.Lanes.{Fixed, IsLane, sends_by}
+use Rattle.drive_script.specs.Connections.{Fixed, IsConnection, sends_by}
 use Rattle.any_wire.proofs.Behind.{stays-behind}
 use Rattle.drive_script.proofs.ByPuts.{puts_are_sending}
-use Rattle.drive_script.proofs.Lanes.{lane_sent, lane_dropped, lane_empty, told_again}
+use Rattle.drive_script.proofs.Connections.{connection_sent, connection_dropped, connection_empty, told_again}
 
 pub both_shown : (z : Sizes) (old new : SessionView) {g : Ghosts Sent} (failed failed' : Bool)
     (end end' : DeviceEnd Sent g) → new ≡ record old { told = length (completed end) }
@@ -61,7 +61,7 @@ module _ {W : Type 0} (put_may : W → Bor (List ℕ) → (W × Bool) → Type 0
     (device gathered device' : DeviceEnd Sent g) (old new : W)
     (both : BothEnds (session_shown z session) (session_shown z session') (device_shown now gathered)
     (device_shown failed' device'))
-    (lane : IsLane (sends_by put_may flush_may) fixed start given end events (session_shown z session)
+    (connection : IsConnection (sends_by put_may flush_may) fixed start given end events (session_shown z session)
     (device_shown failed device) old) where
   -- the text of the one reply that was taken was put
   one_text : (reply : Sent) → completed gathered ≡ completed device ++ reply ∷ []
@@ -75,15 +75,15 @@ module _ {W : Type 0} (put_may : W → Bor (List ℕ) → (W × Bool) → Type 0
 
   pub sent_right : (call bytes : ℕ) → IsFound (found.Sent call bytes) now device gathered
       → Forwards put_may flush_may failed now (completed device) (completed gathered) old new
-      → IsLane (sends_by put_may flush_may) fixed start given end (events ++ event.sent call bytes ∷ [])
+      → IsConnection (sends_by put_may flush_may) fixed start given end (events ++ event.sent call bytes ∷ [])
       (session_shown z session') (device_shown failed' device') new
   sent_right call bytes is forwards =
       let next = is.1 in
       let sends = one_text next.reply next.completed_is forwards in
       let before : failed ≡ false = unfailed failed refl in
-      lane_sent fixed given end events (sends_by put_may flush_may) (puts_are_sending put_may flush_may) start
+      connection_sent fixed given end events (sends_by put_may flush_may) (puts_are_sending put_may flush_may) start
       (session_shown z session) (session_shown z session') (device_shown failed device) (device_shown now gathered)
-      (device_shown failed' device') old new call bytes lane
+      (device_shown failed' device') old new call bytes connection
       (record {
         parcel = next.reply;
         completed = next.completed_is;
@@ -106,14 +106,14 @@ module _ {W : Type 0} (put_may : W → Bor (List ℕ) → (W × Bool) → Type 0
 
   pub dropped_right : (call bytes : ℕ) → IsFound (found.Dropped call bytes) now device gathered
       → Forwards put_may flush_may failed now (completed device) (completed gathered) old new
-      → IsLane (sends_by put_may flush_may) fixed start given end (events ++ event.dropped call bytes ∷ [])
+      → IsConnection (sends_by put_may flush_may) fixed start given end (events ++ event.dropped call bytes ∷ [])
       (session_shown z session') (device_shown failed' device') new
   dropped_right call bytes is forwards =
       let next = is.1 in
       let sends = one_text next.reply next.completed_is forwards in
-      lane_dropped fixed given end events (sends_by put_may flush_may) (puts_are_sending put_may flush_may) start
+      connection_dropped fixed given end events (sends_by put_may flush_may) (puts_are_sending put_may flush_may) start
       (session_shown z session) (session_shown z session') (device_shown failed device) (device_shown now gathered)
-      (device_shown failed' device') old new call bytes lane
+      (device_shown failed' device') old new call bytes connection
       (record {
         parcel = next.reply;
         completed = next.completed_is;
@@ -130,13 +130,14 @@ module _ {W : Type 0} (put_may : W → Bor (List ℕ) → (W × Bool) → Type 0
       (subst (λ b. Sends put_may flush_may b now next.reply.text old new) flag sends)).0)
 
   pub empty_right : IsFound found.Empty now device gathered → Flushes flush_may failed now old new
-      → IsLane (sends_by put_may flush_may) fixed start given end (events ++ event.nothing_posted ∷ [])
+      → IsConnection (sends_by put_may flush_may) fixed start given end (events ++ event.nothing_posted ∷ [])
       (session_shown z session') (device_shown failed' device') new
   empty_right is flushed =
       let sends = sends-flush put_may flush_may failed now old new flushed in
       let view = is.1.view in
-      let said = lane_empty fixed given end events (sends_by put_may flush_may) (puts_are_sending put_may flush_may)
-      start (session_shown z session) (device_shown failed device) (device_shown now gathered) old new lane
+      let said = connection_empty fixed given end events (sends_by put_may flush_may) (puts_are_sending put_may
+      flush_may)
+      start (session_shown z session) (device_shown failed device) (device_shown now gathered) old new connection
       (record {
         new_is = λ i. record { completed = (view i).completed; failed = now; told = (view i).told };
         stays = λ flag. (stays-behind put_may flush_may now [] old new
@@ -149,9 +150,9 @@ module _ {W : Type 0} (put_may : W → Bor (List ℕ) → (W × Bool) → Type 0
       let again = told_again fixed given end said.whole (events ++ event.nothing_posted ∷ []) (session_shown z session)
       (session_shown z session') (device_shown now gathered) (device_shown failed' device') said.driven both.session
       both.device in
-      subst (λ (s : SessionShown). IsLane (sends_by put_may flush_may) fixed start given end
+      subst (λ (s : SessionShown). IsConnection (sends_by put_may flush_may) fixed start given end
       (events ++ event.nothing_posted ∷ []) s (device_shown failed' device') new) (sym again.0)
-      (subst (λ (d : DeviceShown). IsLane (sends_by put_may flush_may) fixed start given end
+      (subst (λ (d : DeviceShown). IsConnection (sends_by put_may flush_may) fixed start given end
       (events ++ event.nothing_posted ∷ []) (session_shown z session) d new) (sym again.1) said)
 
   -- the same of what was found and what is said of it
@@ -159,7 +160,7 @@ module _ {W : Type 0} (put_may : W → Bor (List ℕ) → (W × Bool) → Type 0
       (forwards : Forwards put_may flush_may failed now (completed device) (completed gathered) old new)
       (is : IsFound result now device gathered) where
     abbrev IsSaid : Happened → Type 0
-    IsSaid h = IsLane (sends_by put_may flush_may) fixed start given end (events ++ line_event h [] [] ∷ [])
+    IsSaid h = IsConnection (sends_by put_may flush_may) fixed start given end (events ++ line_event h [] [] ∷ [])
         (session_shown z session') (device_shown failed' device') new
 
     pub sent_said : (call bytes : ℕ) → result ≡ found.Sent call bytes → happened ≡ Happen.Sent call bytes

@@ -20,7 +20,7 @@ use Rattle.transcript_model.specs.Standing.{Standing, frames_waiting, free, Fits
 use Rattle.reply_layout.specs.Frames.{frame_from}
 use Rattle.transcript_model.specs.Frames.{deeds_of, frame_of, fragments_stored}
 use Rattle.view_sums.specs.Total.{Each}
-use Rattle.call_model.specs.Parts.{IsInBuffer}
+use Rattle.shard_core.specs.Parts.{IsInBuffer}
 use Rattle.transcript_model.specs.Right.{IsPosted}
 use Rattle.transcript_model.specs.News.{with_news, LeavesSaid}
 use Rattle.reply_planner.specs.Parcels.{Sent}

@@ -10,7 +10,7 @@ pub mod Told
 pub mod Addresses
 pub mod Done
 pub mod Showing
-pub mod Lanes
+pub mod Connections
 pub mod ByPuts
 pub mod Ends
 pub mod Calls

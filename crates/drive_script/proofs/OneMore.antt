@@ -11,7 +11,7 @@ use Rattle.transcript_model.specs.Lines.{LineEvent}
 use Rattle.any_wire.specs.Texts.{Sending}
 use Rattle.drive_script.specs.Asked.{IsAsked, GoesOn}
 use Rattle.drive_script.specs.Driving.{Driving, fixed_at, IsUnderWay}
-use Rattle.drive_script.specs.Lanes.{IsLane}
+use Rattle.drive_script.specs.Connections.{IsConnection}
 use Rattle.drive_script.specs.Running.{RunsOn}
 use Rattle.drive_script.specs.Shown.{session_shown}
 
@@ -19,24 +19,26 @@ pub one_wire : {W : Type 0} (o : Option W) (one other : W) → o ≡ Some one �
 one_wire o one other is also = cc
 
 module _ {W : Type 0} (sends : Sending W) (z : Sizes) (shards : ℕ) where
-  -- what a line says of a lane, said of all that the line needs
+  -- what a line says of a connection, said of all that the line needs
   pub goes_on : (first old new : Driving W) (events : List LineEvent) (event : LineEvent) (wire wire' : W)
       → old.wire ≡ Some wire → new.ring ≡ new.session.ring → new.session.pass.stage ≡ old.session.pass.stage
       → new.wire ≡ Some wire'
       → ((start : W) (given : List Command) → IsAsked first.pump.origin first.pump.faults given
       (length old.session.posted) old.kept old.end old.pump
-      → IsLane sends (fixed_at z first.session) start given old.end events (session_shown z old.session) old.device wire
+      → IsConnection sends (fixed_at z first.session) start given old.end events (session_shown z old.session)
+      old.device wire
       → GoesOn first.pump.origin first.pump.faults (length new.session.posted) new.kept new.end new.pump
-      (λ now. IsLane sends (fixed_at z first.session) start now new.end (events ++ event ∷ [])
+      (λ now. IsConnection sends (fixed_at z first.session) start now new.end (events ++ event ∷ [])
       (session_shown z new.session) new.device wire'
       × RunsOn z shards given old.end old.session now new.end new.session))
       → IsUnderWay sends z shards first events old → IsUnderWay sends z shards first (events ++ event ∷ []) new
   goes_on first old new events event wire wire' wire_is ring stage wire_is' right was =
-      let lane : IsLane sends (fixed_at z first.session) was.start was.given old.end events
+      let connection : IsConnection sends (fixed_at z first.session) was.start was.given old.end events
       (session_shown z old.session) old.device wire =
-      subst (λ (w : W). IsLane sends (fixed_at z first.session) was.start was.given old.end events
-      (session_shown z old.session) old.device w) (one_wire old.wire was.wire wire was.wire_is wire_is) was.lane in
-      let goes = right was.start was.given was.asked lane in
+      subst (λ (w : W). IsConnection sends (fixed_at z first.session) was.start was.given old.end events
+      (session_shown z old.session) old.device w) (one_wire old.wire was.wire wire was.wire_is wire_is) was.connection
+      in
+      let goes = right was.start was.given was.asked connection in
       record {
         ring = ring;
         small = subst (Each (λ buffer. buffer < z.small)) (sym stage) was.small;
@@ -46,7 +48,7 @@ module _ {W : Type 0} (sends : Sending W) (z : Sizes) (shards : ℕ) where
         wire_is = wire_is';
         given = goes.given;
         asked = goes.asked;
-        lane = goes.is.0;
+        connection = goes.is.0;
         fresh = was.fresh;
         running = goes.is.1 first.session was.running;
       }
@@ -56,15 +58,16 @@ module _ {W : Type 0} (sends : Sending W) (z : Sizes) (shards : ℕ) where
       → old.wire ≡ Some wire → new.ring ≡ new.session.ring → new.session.pass ≡ old.session.pass → new.session.posted
       ≡ old.session.posted
       → new.kept ≡ old.kept → new.end ≡ old.end → new.pump ≡ old.pump → new.wire ≡ Some wire'
-      → ((start : W) (given : List Command) → IsLane sends (fixed_at z first.session) start given old.end events
+      → ((start : W) (given : List Command) → IsConnection sends (fixed_at z first.session) start given old.end events
       (session_shown z old.session) old.device wire
-      → IsLane sends (fixed_at z first.session) start given old.end (events ++ event ∷ []) (session_shown z new.session)
+      → IsConnection sends (fixed_at z first.session) start given old.end (events ++ event ∷ []) (session_shown z
+      new.session)
       new.device wire')
       → ((given : List Command) (end : Option End) → RunsOn z shards given end old.session given end new.session)
       → IsUnderWay sends z shards first events old → IsUnderWay sends z shards first (events ++ event ∷ []) new
   gather_goes_on first old new events event wire wire' wire_is ring pass posted kept end pump wire_is' right runs =
       goes_on first old new events event wire wire' wire_is ring (ap (λ (p : PassView). p.stage) pass) wire_is'
-      (λ start given asked lane. record {
+      (λ start given asked connection. record {
         given = given;
         asked = subst (λ n. IsAsked first.pump.origin first.pump.faults given n new.kept new.end new.pump)
             (ap (λ (list : List Sent). length list) (sym posted))
@@ -75,8 +78,8 @@ module _ {W : Type 0} (sends : Sending W) (z : Sizes) (shards : ℕ) where
             (subst (λ (p : PumpState). IsAsked first.pump.origin first.pump.faults given (length old.session.posted)
             old.kept old.end p) (sym pump) asked)));
         is = (
-          subst (λ (e : Option End). IsLane sends (fixed_at z first.session) start given e (events ++ event ∷ [])
-              (session_shown z new.session) new.device wire') (sym end) (right start given lane),
+          subst (λ (e : Option End). IsConnection sends (fixed_at z first.session) start given e (events ++ event ∷ [])
+              (session_shown z new.session) new.device wire') (sym end) (right start given connection),
           subst (λ (e : Option End). RunsOn z shards given old.end old.session given e new.session) (sym end)
               (runs given old.end),
         );

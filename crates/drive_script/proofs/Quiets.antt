@@ -108,9 +108,10 @@ module _ {W : Type 0} (sends : Sending W) (z : Sizes) (shards : ℕ) where
       → IsUnderWay sends z shards first ((events ++ quiet) ++ nothing_posted ∷ []) now
       → GathersAll sends z shards first events now
   gathers_all first events quiet now are is =
-      let kept = is.lane.driven.kept in
+      let kept = is.connection.driven.kept in
       let m = kept.matches in
-      let last = last_right is.lane.driven.terms at_first (events ++ quiet) nothing_posted kept.standing kept.right in
+      let last = last_right is.connection.driven.terms at_first (events ++ quiet) nothing_posted kept.standing
+      kept.right in
       let frames : kept.standing.gathered ≡ length kept.standing.frames =
       ap (λ (s : Standing). s.gathered) last.1.1 ∙ last.1.0 ∙ ap (λ (s : Standing). length s.frames) (sym last.1.1) in
       let lengths : length now.device.completed ≡ length now.session.posted =
@@ -171,13 +172,13 @@ module _ {W : Type 0} (sends : Sending W) (z : Sizes) (shards : ℕ) where
   pub no_more_gathered : (first : Driving W) (events : List LineEvent) (count : ℕ) (now : Driving W)
       → GoesQuietly sends z shards first events count now → count ≤ length now.session.posted
   no_more_gathered first events count now goes =
-      let kept = goes.is.lane.driven.kept in
+      let kept = goes.is.connection.driven.kept in
       let m = kept.matches in
       omega (
         arith,
         goes.gathered,
         gathers-append events goes.quiet,
-        gathered_from goes.is.lane.driven.terms at_first kept.standing (events ++ goes.quiet) kept.right,
+        gathered_from goes.is.connection.driven.terms at_first kept.standing (events ++ goes.quiet) kept.right,
         m.gathered,
         front_length now.device.completed now.session.posted m.in_order.completed.0 m.in_order.completed.1,
       )

@@ -26,7 +26,7 @@ use Rattle.order_book.specs.Closed.{own_deeds}
 use Rattle.order_book.specs.Pages.{SessionList}
 use Rattle.reply_planner.specs.Owned.{bare_all, fresh_all}
 use Rattle.reply_planner.specs.Parcels.{Sent, texts_in}
-use Rattle.call_model.specs.Outcomes.{Outcomes}
+use Rattle.shard_core.specs.Outcomes.{Outcomes}
 use Rattle.any_wire.specs.Texts.{AreWhole, WireGrew, joined}
 use Rattle.drive_script.specs.Matches.{HasMore}
 use Rattle.drive_script.proofs.Lists.{get_front}
@@ -38,12 +38,13 @@ use Rattle.serve_model.proofs.Going.{going_ends, run_moved}
 use Rattle.session_pass.specs.Kept.{holds_paid}
 use Rattle.session_pass.specs.Views.{SessionView}
 use Rattle.session_serve.specs.Wires.{SendsOut}
-use Rattle.session_serve.specs.Working.{IsFresh, IsSame, IsLeft, run_of}
+use Rattle.session_serve.specs.Working.{IsSame, IsLeft, run_of}
+use Rattle.session_pass.specs.Fresh.{IsFresh}
 use Rattle.transcript_model.specs.Lines.{LineEvent}
 use Rattle.transcript_model.specs.Sessions.{texts_of}
 use Rattle.drive_script.specs.Asked.{IsAsked, IsKeptBack}
 use Rattle.drive_script.specs.Driving.{Driving, fixed_at, IsUnderWay}
-use Rattle.drive_script.specs.Lanes.{sends_by}
+use Rattle.drive_script.specs.Connections.{sends_by}
 use Rattle.drive_script.specs.Left.{terms_at, GathersAll}
 use Rattle.drive_script.specs.Ran.{FlushesOnly, GathersOut, HasDriven}
 use Rattle.drive_script.specs.Running.{IsBetween, IsRunning}
@@ -308,17 +309,17 @@ module _ {W : Type 0} (put_may : W → Bor (List ℕ) → (W × Bool) → Type 0
         → GathersAll (sends_by put_may flush_may) z shards first events new
         → GathersOut put_may flush_may z shards first events new
     gathers_out first events before old new was posted f all =
-        let m = was.lane.driven.kept.matches in
+        let m = was.connection.driven.kept.matches in
         let texts = texts_in old.session.posted in
         let failed = old.device.failed in
         let completed : length old.device.completed ≡ length texts =
         ap (λ (list : List Sent). length list) (sym f.completed ∙ all.all ∙ posted)
         ∙ sym (length-map old.session.posted (λ (parcel : Sent). parcel.text)) in
-        let whole : AreWhole failed was.lane.whole (length texts) =
-        are_whole failed was.lane.whole (length old.device.completed) (length texts) completed
-        (subst (λ (n : ℕ). AreWhole failed n (length old.device.completed)) was.lane.driven.whole_is m.whole) in
+        let whole : AreWhole failed was.connection.whole (length texts) =
+        are_whole failed was.connection.whole (length old.device.completed) (length texts) completed
+        (subst (λ (n : ℕ). AreWhole failed n (length old.device.completed)) was.connection.driven.whole_is m.whole) in
         let sent : Sends put_may flush_may false failed (joined texts) was.start was.wire =
-        all_sent failed was.lane.whole texts was.start was.wire whole was.lane.grew in
+        all_sent failed was.connection.whole texts was.start was.wire whole was.connection.grew in
         record {
           gathers = all;
           out = record {
@@ -356,12 +357,13 @@ module _ {W : Type 0} (put_may : W → Bor (List ℕ) → (W × Bool) → Type 0
         record {
           texts = texts_in now.session.posted;
           ran = by.ran;
-          whole = way.lane.whole;
+          whole = way.connection.whole;
           told = told_left sends z shards first now events all end mine mine_is end_is by.ran.run.commands by.more;
           start = way.start;
           start_is = way.start_is;
-          grew = subst (λ (w : W). WireGrew sends end.failed way.lane.whole
-              (texts_of (terms_at (fixed_at z first.session) by.ran.run.commands end way.lane.whole (own_deeds mine)))
+          grew = subst (λ (w : W). WireGrew sends end.failed way.connection.whole
+              (texts_of (terms_at (fixed_at z first.session) by.ran.run.commands end way.connection.whole (own_deeds
+              mine)))
               way.start w) wire_same
               (sent_left sends z shards first now events all end mine mine_is end_is by.ran.run.commands by.more);
           sends = subst (λ (b : Bool). SendsOut put_may flush_may false b (joined (texts_in now.session.posted))

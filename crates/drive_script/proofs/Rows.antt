@@ -14,7 +14,7 @@ use Rattle.any_wire.specs.Texts.{Sending}
 use Rattle.transcript_model.specs.Sessions.{events_of}
 use Rattle.drive_script.specs.Driven.{Leaving, DroveAll}
 use Rattle.drive_script.specs.Driving.{Driving, IsUnderWay, WereDriven}
-use Rattle.drive_script.specs.Lanes.{sends_by}
+use Rattle.drive_script.specs.Connections.{sends_by}
 use Rattle.drive_script.specs.Left.{IsGoing, HasLeft}
 use Rattle.drive_script.specs.Ran.{HasDriven}
 use Rattle.drive_script.proofs.Lists.{get_below}

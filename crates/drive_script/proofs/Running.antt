@@ -11,7 +11,7 @@ use Rattle.flake_model.specs.Command.{Command}
 use Rattle.command_pump.specs.Pump.{Origin, PumpState}
 use Rattle.order_book.specs.Pages.{SessionList}
 use Rattle.reply_planner.specs.Parcels.{Sent, texts_in}
-use Rattle.call_model.specs.Calls.{IsExecuted, IsCutShort}
+use Rattle.shard_core.specs.Calls.{IsExecuted, IsCutShort}
 use Rattle.serve_model.specs.Going as model
 use Rattle.serve_model.proofs.Going.{going_rests, going_on, going_breaks}
 use Rattle.session_pass.specs.Calls.{KeepsRest, KeepsAll, CallPosts, CallReaps, CallRefused, ReapsOne, ReapsNone}
@@ -20,7 +20,8 @@ use Rattle.session_pass.specs.Refused.{WhyCallRefused}
 use Rattle.session_pass.specs.Views.{SessionView}
 use Rattle.session_pass.specs.declared.error.CallError.{CallError}
 use Rattle.session_pass.specs.declared.error.CallError.TheVariants.{RingFull, StageFull, Memory}
-use Rattle.session_serve.specs.Working.{IsFresh, IsSame}
+use Rattle.session_serve.specs.Working.{IsSame}
+use Rattle.session_pass.specs.Fresh.{IsFresh}
 use Rattle.session_serve.proofs.Calling.{work-starts}
 use Rattle.drive_script.specs.Asked.{AsksNext}
 use Rattle.drive_script.specs.Refused.{ended_by}

@@ -12,8 +12,8 @@ use Rattle.reply_planner.specs.Parcels.{Sent}
 use Rattle.reply_planner.specs.Places.{buffer_addresses}
 use Rattle.tx_ring.specs.Shown.{ring_size}
 use Rattle.order_book.specs.Closed.{own_deeds}
-use Rattle.call_model.specs.Outcomes.{call_told, call_deeds}
-use Rattle.call_model.proofs.Deeds.{deeds_told}
+use Rattle.shard_core.specs.Outcomes.{call_told, call_deeds}
+use Rattle.shard_core.proofs.CallDeeds.{deeds_told}
 use Rattle.session_pass.specs.Views.{SessionView}
 use Rattle.session_pass.specs.Calls as call
 use Rattle.transcript_model.specs.Standing.{ring_room, free}

@@ -13,7 +13,7 @@ use Rattle.reply_layout.specs.Frames.{frame_from}
 use Rattle.reply_layout.specs.Need.{need_of}
 use Rattle.reply_layout.specs.Pieces.{reply_from}
 use Rattle.reply_planner.specs.Parcels.{Sent}
-use Rattle.call_model.specs.Parts.{IsInBuffer}
+use Rattle.shard_core.specs.Parts.{IsInBuffer}
 use Rattle.command_exec.specs.Executed.{frame_shown}
 use Rattle.transcript_model.specs.Standing.{ring_room, free, FitsStanding}
 use Rattle.transcript_model.specs.Frames.{fragments_stored}

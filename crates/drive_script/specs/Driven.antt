@@ -12,7 +12,7 @@ use Rattle.schedule_text.specs.declared.line.Line.{Line}
 use Rattle.transcript_model.specs.Lines.{EventLine, line_of, transcript_line}
 use Rattle.transcript_model.specs.Sessions.{events_of}
 use Rattle.drive_script.specs.Driving.{Driving}
-use Rattle.drive_script.specs.Lanes.{sends_by}
+use Rattle.drive_script.specs.Connections.{sends_by}
 use Rattle.drive_script.specs.Left.{HasLeft}
 use Rattle.drive_script.specs.Ran.{HasDriven}
 use Rattle.drive_script.specs.Says.{PrintsText}

@@ -15,14 +15,14 @@ use Rattle.tx_ring.specs.declared.device.DeviceEnd.{DeviceEnd}
 use Rattle.reply_planner.specs.Parcels.{Sent}
 use Rattle.reply_planner.specs.Places.{buffer_addresses}
 use Rattle.session_pass.specs.Views.{SessionView}
-use Rattle.session_serve.specs.Working.{IsFresh}
+use Rattle.session_pass.specs.Fresh.{IsFresh}
 use Rattle.schedule_text.specs.declared.line.Line.{Line}
 use Rattle.transcript_model.specs.Lines.{LineEvent, EventLine, line_of, transcript_line}
 use Rattle.any_wire.specs.Texts.{Sending}
 use Rattle.transcript_model.specs.Sessions.{events_of}
 use Rattle.drive_script.specs.Views.{DeviceShown}
 use Rattle.drive_script.specs.Asked.{IsAsked}
-use Rattle.drive_script.specs.Lanes.{Fixed, IsLane}
+use Rattle.drive_script.specs.Connections.{Fixed, IsConnection}
 use Rattle.drive_script.specs.Running.{IsRunning}
 use Rattle.drive_script.specs.Says.{PrintsText}
 use Rattle.drive_script.specs.Shown.{session_shown, device_shown}
@@ -97,8 +97,8 @@ module _ {W : Type 0} (sends : Sending W) (z : Sizes) (shards : ℕ) where
     pub wire_is : now.wire ≡ Some wire
     pub given : List Command
     pub asked : IsAsked first.pump.origin first.pump.faults given (length now.session.posted) now.kept now.end now.pump
-    pub lane : IsLane sends (fixed_at z first.session) start given now.end events (session_shown z now.session)
-        now.device wire
+    pub connection : IsConnection sends (fixed_at z first.session) start given now.end events
+        (session_shown z now.session) now.device wire
     pub fresh : IsFresh z first.session first.pump
     pub running : IsRunning z shards first.session given now.end now.session
 

@@ -18,7 +18,7 @@ use Rattle.drive_script.specs.Matches.{HasMore}
 use Rattle.drive_script.specs.Quiet.{IsQuiet, says_end}
 use Rattle.drive_script.specs.Asked.{IsAsked}
 use Rattle.drive_script.specs.Driving.{Driving, fixed_at, IsUnderWay}
-use Rattle.drive_script.specs.Lanes.{Fixed}
+use Rattle.drive_script.specs.Connections.{Fixed}
 
 -- how many replies were gathered
 abbrev pub gathers_in : List LineEvent → ℕ

@@ -5,7 +5,7 @@ pub mod Quiet
 pub mod Shown
 pub mod Happened
 pub mod Recycled
-pub mod Lanes
+pub mod Connections
 pub mod Asked
 pub mod Refused
 pub mod Says

@@ -1,5 +1,5 @@
 -- Before the first line, and behind the last.
-use Rattle.std.specs.Prelude.{◌≡◌, Bool, true, false, ◌||◌, List, [], ◌∷◌}
+use Rattle.std.specs.Prelude.{◌≡◌, Bool, true, false, ◌||◌, List, [], ◌∷◌, ⊤}
 use Rattle.transcript_model.specs.Lines.{LineEvent, at_end, sent, dropped, nothing_posted, reaped, nothing_reaped}
 use Rattle.transcript_model.specs.Terms.{Terms}
 use Rattle.drive_script.specs.Views.{SessionShown, DeviceShown}
@@ -23,11 +23,11 @@ pub record IsAtStart (terms : Terms) (session : SessionShown) (device : DeviceSh
 
 -- what is gathered and reaped posts nothing and says no end
 abbrev pub IsQuiet : LineEvent → Type 0
-IsQuiet (sent call bytes) = Unit {0}
-IsQuiet (dropped call bytes) = Unit {0}
-IsQuiet nothing_posted = Unit {0}
-IsQuiet (reaped call recycled) = Unit {0}
-IsQuiet nothing_reaped = Unit {0}
+IsQuiet (sent call bytes) = ⊤
+IsQuiet (dropped call bytes) = ⊤
+IsQuiet nothing_posted = ⊤
+IsQuiet (reaped call recycled) = ⊤
+IsQuiet nothing_reaped = ⊤
 IsQuiet event = ⊥
 
 -- whether the end is among what was said

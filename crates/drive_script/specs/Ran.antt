@@ -15,7 +15,7 @@ use Rattle.any_wire.specs.Texts.{WireGrew, joined}
 use Rattle.transcript_model.specs.Sessions.{IsRightSession, texts_of}
 use Rattle.reply_planner.specs.Parcels.{texts_in}
 use Rattle.drive_script.specs.Driving.{Driving, fixed_at}
-use Rattle.drive_script.specs.Lanes.{sends_by}
+use Rattle.drive_script.specs.Connections.{sends_by}
 use Rattle.drive_script.specs.Left.{terms_at, GathersAll}
 
 -- No reply was there to gather, and the wire was flushed, where nothing had failed.

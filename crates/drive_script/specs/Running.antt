@@ -7,7 +7,7 @@ use Rattle.flake_model.specs.Command.{Command, parts}
 use Rattle.flake_model.specs.Deed.{Deed}
 use Rattle.pin_core.specs.declared.sizes.Sizes.{Sizes}
 use Rattle.pinned_pool.specs.declared.view.View.{View}
-use Rattle.call_model.specs.Outcomes.{Outcomes}
+use Rattle.shard_core.specs.Outcomes.{Outcomes}
 use Rattle.serve_model.specs.Going as model
 use Rattle.session_pass.specs.Kept.{holds_paid}
 use Rattle.session_pass.specs.Views.{SessionView}

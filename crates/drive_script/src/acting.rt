@@ -8,14 +8,14 @@ ghost use Rattle.tx_ring.specs.Shown.{device_ring};
 ghost use Rattle.transcript_model.specs.Lines.{LineEvent, line_of};
 ghost use Rattle.drive_script.specs.Asked.{IsAsked, GoesOn};
 ghost use Rattle.drive_script.specs.Happened.{line_event};
-ghost use Rattle.drive_script.specs.Lanes.{Fixed, IsLane, sends_by};
+ghost use Rattle.drive_script.specs.Connections.{Fixed, IsConnection, sends_by};
 ghost use Rattle.drive_script.specs.Recycled.{Recycles};
 ghost use Rattle.drive_script.specs.Running.{RunsOn};
 ghost use Rattle.drive_script.specs.Shown.{session_shown, device_shown};
 
 use crate::asking::Asking;
+use crate::connection::Connection;
 use crate::happened::Happened;
-use crate::lane::Lane;
 use any_wire::WireCalls;
 use command_exec::Shop;
 use flake_base::{Seg, Source};
@@ -24,7 +24,7 @@ use pinned_pool::PoolName;
 use schedule_text::Line;
 use std::sync::Wait;
 
-impl<N: BookName, P: PoolName + Send> Lane<N, P> {
+impl<N: BookName, P: PoolName + Send> Connection<N, P> {
     /// Does what a line of a schedule asks of this session.
     pub fn act<R: Wait, S: Source, W: Drop, C: WireCalls<W>>(
         &mut self,
@@ -52,11 +52,11 @@ impl<N: BookName, P: PoolName + Send> Lane<N, P> {
             (origin : Origin) (before : ℕ)
             → IsAsked origin before given (length self.old.session.posted) asking.old.kept asking.old.end
             asking.old.pump
-            → IsLane (sends_by (C.put_may calls.now) (C.flush_may calls.now)) fixed start given
+            → IsConnection (sends_by (C.put_may calls.now) (C.flush_may calls.now)) fixed start given
             asking.old.end events (session_shown P.sizes self.old.session)
             (device_shown self.old.device.failed self.old.device.end) wire
             → GoesOn origin before (length self.new.session.posted) asking.new.kept asking.new.end asking.new.pump
-            (λ now. IsLane (sends_by (C.put_may calls.now) (C.flush_may calls.now)) fixed
+            (λ now. IsConnection (sends_by (C.put_may calls.now) (C.flush_may calls.now)) fixed
             start now asking.new.end (events ++ line_event result.1 sent.new.items stored.new.items ∷ [])
             (session_shown P.sizes self.new.session) (device_shown self.new.device.failed self.new.device.end)
             result.0

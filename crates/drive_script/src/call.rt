@@ -10,13 +10,13 @@ ghost use Rattle.tx_ring.specs.Shown.{device_ring};
 ghost use Rattle.transcript_model.specs.Lines.{LineEvent, line_of};
 ghost use Rattle.drive_script.specs.Asked.{IsAsked, GoesOn};
 ghost use Rattle.drive_script.specs.Happened.{line_event};
-ghost use Rattle.drive_script.specs.Lanes.{Fixed, IsDriven};
+ghost use Rattle.drive_script.specs.Connections.{Fixed, IsDriven};
 ghost use Rattle.drive_script.specs.Running.{RunsOn};
 ghost use Rattle.drive_script.specs.Shown.{session_shown, device_shown};
 
 use crate::asking::Asking;
+use crate::connection::Connection;
 use crate::happened::Happened;
-use crate::lane::Lane;
 use command_exec::Shop;
 use flake_base::{Seg, Source};
 use order_book::BookName;
@@ -24,7 +24,7 @@ use pinned_pool::PoolName;
 use session_pass::laws;
 use std::sync::Wait;
 
-impl<N: BookName, P: PoolName + Send> Lane<N, P> {
+impl<N: BookName, P: PoolName + Send> Connection<N, P> {
     /// Calls the session's next command. `sent` becomes the reply's segments, `stored` the fragments that were stored.
     pub fn call<R: Wait, S: Source>(
         &mut self,

@@ -2,11 +2,11 @@
 ghost use Rattle.std.specs.Prelude.{◌≡◌, ◌≤◌, ◌<◌, [], All, List, length, map, vec_capacity};
 ghost use Rattle.std.specs.List.{AllZip};
 ghost use Rattle.schedule_text.specs.Text.{line_session};
-ghost use Rattle.session_serve.specs.Working.{IsFresh};
+ghost use Rattle.session_pass.specs.Fresh.{IsFresh};
 ghost use Rattle.transcript_model.specs.Lines.{LineEvent};
 ghost use Rattle.drive_script.specs.Driven.{leaving_of, DroveAll};
 ghost use Rattle.drive_script.specs.Driving.{Driving as Shown, driving_of, IsNew, IsUnderWay};
-ghost use Rattle.drive_script.specs.Lanes.{sends_by};
+ghost use Rattle.drive_script.specs.Connections.{sends_by};
 ghost use Rattle.drive_script.specs.Left.{IsGoing, HasLeft};
 ghost use Rattle.drive_script.specs.Ran.{HasDriven};
 ghost use Rattle.drive_script.specs.Says.{text_room};
@@ -53,14 +53,14 @@ pub fn drive<
 ) -> Driven<N, P, S, W>
     requires calls { C.can_put calls.now × C.can_flush calls.now }
     requires there { All (λ line. line_session line < length sessions.items) schedule.now }
-    requires fresh { All (λ d. IsNew P.sizes (driving_of d.lane.session d.lane.device.failed d.lane.device.end
-        d.asking.kept d.asking.end d.asking.pump d.wire) × IsFresh P.sizes d.lane.session d.asking.pump)
-        sessions.items }
+    requires fresh { All (λ d. IsNew P.sizes (driving_of d.connection.session d.connection.device.failed
+        d.connection.device.end d.asking.kept d.asking.end d.asking.pump d.wire) × IsFresh P.sizes d.connection.session
+        d.asking.pump) sessions.items }
     requires line { text_room ≤ vec_capacity room.text }
     requires room { (accounts.items ≡ []) × (length sessions.items ≤ vec_capacity accounts) }
     ensures driven { DroveAll (C.put_may calls.now) (C.flush_may calls.now) P.sizes
-        N.sizes.shards (map (λ d. driving_of d.lane.session d.lane.device.failed d.lane.device.end d.asking.kept
-        d.asking.end d.asking.pump d.wire) sessions.items) schedule.now
+        N.sizes.shards (map (λ d. driving_of d.connection.session d.connection.device.failed d.connection.device.end
+        d.asking.kept d.asking.end d.asking.pump d.wire) sessions.items) schedule.now
         (map (λ a. leaving_of a.end a.mine a.seat a.pump a.wire) result.accounts.items) result.failed
         (H.host_told host.old) (H.host_told host.new) }
 {
@@ -80,13 +80,13 @@ fn leave_all<N: BookName, P: PoolName + Send, S: Source + Drop, W: Drop, C: Wire
 ) -> Vec<DrivenAccount<N, P, S, W>>
     requires calls { C.can_put calls.now × C.can_flush calls.now }
     requires going { All (λ d. IsGoing (sends_by (C.put_may calls.now) (C.flush_may calls.now))
-        P.sizes N.sizes.shards (driving_of d.lane.session d.lane.device.failed d.lane.device.end d.asking.kept
-        d.asking.end d.asking.pump d.wire)) sessions.items }
+        P.sizes N.sizes.shards (driving_of d.connection.session d.connection.device.failed d.connection.device.end
+        d.asking.kept d.asking.end d.asking.pump d.wire)) sessions.items }
     requires room { (accounts.items ≡ []) × (length sessions.items ≤ vec_capacity accounts) }
     ensures { AllZip (λ d a. (first : Shown W) (events : List LineEvent)
         → IsUnderWay (sends_by (C.put_may calls.now) (C.flush_may calls.now))
-        P.sizes N.sizes.shards first events (driving_of d.lane.session d.lane.device.failed d.lane.device.end
-        d.asking.kept d.asking.end d.asking.pump d.wire)
+        P.sizes N.sizes.shards first events (driving_of d.connection.session d.connection.device.failed
+        d.connection.device.end d.asking.kept d.asking.end d.asking.pump d.wire)
         → HasLeft (sends_by (C.put_may calls.now) (C.flush_may calls.now)) P.sizes first
         events a.end a.mine a.pump a.wire
         × HasDriven (C.put_may calls.now) (C.flush_may calls.now) P.sizes N.sizes.shards first

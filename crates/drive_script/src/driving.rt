@@ -6,14 +6,14 @@ ghost use Rattle.tx_ring.specs.Shown.{device_ring};
 ghost use Rattle.transcript_model.specs.Lines.{LineEvent, line_of};
 ghost use Rattle.drive_script.specs.Driving.{Driving as Shown, driving_of, IsAble, IsUnderWay};
 ghost use Rattle.drive_script.specs.Happened.{line_event};
-ghost use Rattle.drive_script.specs.Lanes.{sends_by};
+ghost use Rattle.drive_script.specs.Connections.{sends_by};
 ghost use Rattle.drive_script.specs.Left.{IsGoing, GathersAll};
 ghost use Rattle.drive_script.specs.Ran.{FlushesOnly, GathersOut};
 ghost use Rattle.drive_script.specs.Recycled.{Recycles};
 
 use crate::asking::Asking;
+use crate::connection::Connection;
 use crate::happened::Happened;
-use crate::lane::Lane;
 use any_wire::WireCalls;
 use command_exec::Shop;
 use flake_base::{Seg, Source};
@@ -30,7 +30,7 @@ pub struct Driving<N: BookName, P: PoolName + Send, S: Source, W>
 where
     Parcel<P>: Framed,
 {
-    pub lane: Lane<N, P>,
+    pub connection: Connection<N, P>,
     pub asking: Asking<S>,
     pub wire: Option<W>,
 }
@@ -48,26 +48,28 @@ impl<N: BookName, P: PoolName + Send, S: Source, W: Drop> Driving<N, P, S, W> {
         calls: &C,
     ) -> Happened
         requires calls { C.can_put calls.now × C.can_flush calls.now }
-        requires able { IsAble P.sizes (driving_of self.old.lane.session self.old.lane.device.failed
-            self.old.lane.device.end self.old.asking.kept self.old.asking.end self.old.asking.pump self.old.wire) }
+        requires able { IsAble P.sizes (driving_of self.old.connection.session self.old.connection.device.failed
+            self.old.connection.device.end self.old.asking.kept self.old.asking.end self.old.asking.pump
+            self.old.wire) }
         ensures answers { line_of (record {
           session = line_session line;
           event = line_event result sent.new.items stored.new.items;
         }) ≡ line }
-        ensures recycles { Recycles result self.old.lane.session self.new.lane.session }
+        ensures recycles { Recycles result self.old.connection.session self.new.connection.session }
         ensures right { (first : Shown W) (events : List LineEvent)
             → IsUnderWay (sends_by (C.put_may calls.now) (C.flush_may calls.now))
-            P.sizes N.sizes.shards first events (driving_of self.old.lane.session self.old.lane.device.failed
-            self.old.lane.device.end self.old.asking.kept self.old.asking.end self.old.asking.pump self.old.wire)
-            → IsUnderWay (sends_by (C.put_may calls.now) (C.flush_may calls.now))
+            P.sizes N.sizes.shards first events (driving_of self.old.connection.session
+            self.old.connection.device.failed self.old.connection.device.end self.old.asking.kept self.old.asking.end
+            self.old.asking.pump self.old.wire) → IsUnderWay (sends_by (C.put_may calls.now) (C.flush_may calls.now))
             P.sizes N.sizes.shards first (events ++ line_event result sent.new.items stored.new.items ∷ []) (driving_of
-            self.new.lane.session self.new.lane.device.failed self.new.lane.device.end self.new.asking.kept
-            self.new.asking.end self.new.asking.pump self.new.wire) }
+            self.new.connection.session self.new.connection.device.failed self.new.connection.device.end
+            self.new.asking.kept self.new.asking.end self.new.asking.pump
+            self.new.wire) }
     {
         let Some(wire) = self.wire.take() else {
             unreachable!()
         };
-        let (wire, happened) = self.lane.act(
+        let (wire, happened) = self.connection.act(
             rt,
             shop,
             line,
@@ -84,30 +86,31 @@ impl<N: BookName, P: PoolName + Send, S: Source, W: Drop> Driving<N, P, S, W> {
     /// Gathers the next reply, without a line.
     fn gather<C: WireCalls<W>>(&mut self, pool: &Pool<P>, calls: &C) -> Happened
         requires calls { C.can_put calls.now × C.can_flush calls.now }
-        requires ring { device_ring self.old.lane.device.end ≡ self.old.lane.session.ring }
+        requires ring { device_ring self.old.connection.device.end ≡ self.old.connection.session.ring }
         requires wire { IsSome self.old.wire }
-        ensures ring { device_ring self.new.lane.device.end ≡ self.new.lane.session.ring }
+        ensures ring { device_ring self.new.connection.device.end ≡ self.new.connection.session.ring }
         ensures wire { IsSome self.new.wire }
-        ensures posted { self.new.lane.session.posted ≡ self.old.lane.session.posted }
+        ensures posted { self.new.connection.session.posted ≡ self.old.connection.session.posted }
         ensures answers { line_of (record { session = 0; event = line_event result [] [] }) ≡ asked.Gather 0 }
         ensures flushed { (result ≡ Happened.NothingPosted) → FlushesOnly (C.flush_may calls.now)
-            (driving_of self.old.lane.session self.old.lane.device.failed self.old.lane.device.end
+            (driving_of self.old.connection.session self.old.connection.device.failed self.old.connection.device.end
             self.old.asking.kept self.old.asking.end self.old.asking.pump self.old.wire)
-            (driving_of self.new.lane.session self.new.lane.device.failed self.new.lane.device.end
+            (driving_of self.new.connection.session self.new.connection.device.failed self.new.connection.device.end
             self.new.asking.kept self.new.asking.end self.new.asking.pump self.new.wire) }
         ensures right { (first : Shown W) (events : List LineEvent)
             → IsUnderWay (sends_by (C.put_may calls.now) (C.flush_may calls.now))
-            P.sizes N.sizes.shards first events (driving_of self.old.lane.session self.old.lane.device.failed
-            self.old.lane.device.end self.old.asking.kept self.old.asking.end self.old.asking.pump self.old.wire)
-            → IsUnderWay (sends_by (C.put_may calls.now) (C.flush_may calls.now))
-            P.sizes N.sizes.shards first (events ++ line_event result [] [] ∷ []) (driving_of self.new.lane.session
-            self.new.lane.device.failed self.new.lane.device.end self.new.asking.kept self.new.asking.end
-            self.new.asking.pump self.new.wire) }
+            P.sizes N.sizes.shards first events (driving_of self.old.connection.session
+            self.old.connection.device.failed self.old.connection.device.end self.old.asking.kept self.old.asking.end
+            self.old.asking.pump self.old.wire) → IsUnderWay (sends_by (C.put_may calls.now) (C.flush_may calls.now))
+            P.sizes N.sizes.shards first (events ++ line_event result [] [] ∷ []) (driving_of
+            self.new.connection.session self.new.connection.device.failed self.new.connection.device.end
+            self.new.asking.kept self.new.asking.end self.new.asking.pump
+            self.new.wire) }
     {
         let Some(wire) = self.wire.take() else {
             unreachable!()
         };
-        let (wire, happened) = self.lane.gather(pool, wire, calls);
+        let (wire, happened) = self.connection.gather(pool, wire, calls);
         self.wire = Some(wire);
         happened
     }
@@ -116,26 +119,29 @@ impl<N: BookName, P: PoolName + Send, S: Source, W: Drop> Driving<N, P, S, W> {
     pub fn gather_all<C: WireCalls<W>>(&mut self, pool: &Pool<P>, calls: &C)
         requires calls { C.can_put calls.now × C.can_flush calls.now }
         requires going { IsGoing (sends_by (C.put_may calls.now) (C.flush_may calls.now))
-            P.sizes N.sizes.shards (driving_of self.old.lane.session self.old.lane.device.failed
-            self.old.lane.device.end self.old.asking.kept self.old.asking.end self.old.asking.pump self.old.wire) }
-        ensures ring { device_ring self.new.lane.device.end ≡ self.new.lane.session.ring }
+            P.sizes N.sizes.shards (driving_of self.old.connection.session self.old.connection.device.failed
+            self.old.connection.device.end self.old.asking.kept self.old.asking.end self.old.asking.pump
+            self.old.wire) }
+        ensures ring { device_ring self.new.connection.device.end ≡ self.new.connection.session.ring }
         ensures wire { IsSome self.new.wire }
         ensures right { (first : Shown W) (events : List LineEvent)
             → IsUnderWay (sends_by (C.put_may calls.now) (C.flush_may calls.now))
-            P.sizes N.sizes.shards first events (driving_of self.old.lane.session self.old.lane.device.failed
-            self.old.lane.device.end self.old.asking.kept self.old.asking.end self.old.asking.pump self.old.wire)
-            → GathersAll (sends_by (C.put_may calls.now) (C.flush_may calls.now))
-            P.sizes N.sizes.shards first events (driving_of self.new.lane.session self.new.lane.device.failed
-            self.new.lane.device.end self.new.asking.kept self.new.asking.end self.new.asking.pump self.new.wire) }
+            P.sizes N.sizes.shards first events (driving_of self.old.connection.session
+            self.old.connection.device.failed self.old.connection.device.end self.old.asking.kept self.old.asking.end
+            self.old.asking.pump self.old.wire) → GathersAll (sends_by (C.put_may calls.now) (C.flush_may calls.now))
+            P.sizes N.sizes.shards first events (driving_of self.new.connection.session
+            self.new.connection.device.failed self.new.connection.device.end self.new.asking.kept self.new.asking.end
+            self.new.asking.pump self.new.wire) }
         ensures out { (first : Shown W) (events : List LineEvent)
             → IsUnderWay (sends_by (C.put_may calls.now) (C.flush_may calls.now))
-            P.sizes N.sizes.shards first events (driving_of self.old.lane.session self.old.lane.device.failed
-            self.old.lane.device.end self.old.asking.kept self.old.asking.end self.old.asking.pump self.old.wire)
-            → GathersOut (C.put_may calls.now) (C.flush_may calls.now) P.sizes N.sizes.shards
-            first events (driving_of self.new.lane.session self.new.lane.device.failed self.new.lane.device.end
-            self.new.asking.kept self.new.asking.end self.new.asking.pump self.new.wire) }
+            P.sizes N.sizes.shards first events (driving_of self.old.connection.session
+            self.old.connection.device.failed self.old.connection.device.end self.old.asking.kept self.old.asking.end
+            self.old.asking.pump self.old.wire) → GathersOut (C.put_may calls.now) (C.flush_may calls.now) P.sizes
+            N.sizes.shards first events (driving_of self.new.connection.session self.new.connection.device.failed
+            self.new.connection.device.end self.new.asking.kept self.new.asking.end self.new.asking.pump
+            self.new.wire) }
     {
-        let made = self.lane.session.calls();
+        let made = self.connection.session.calls();
         for i in 0..u64::from(made) + 1 {
             if let Happened::NothingPosted = self.gather(pool, calls) {
                 return;

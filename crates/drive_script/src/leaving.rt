@@ -6,13 +6,13 @@ ghost use Rattle.tx_ring.specs.Shown.{device_ring, completed};
 ghost use Rattle.session_serve.specs.Working.{IsLeft};
 ghost use Rattle.transcript_model.specs.Lines.{LineEvent};
 ghost use Rattle.drive_script.specs.Driving.{Driving as Shown, driving_of, IsUnderWay};
-ghost use Rattle.drive_script.specs.Lanes.{sends_by};
+ghost use Rattle.drive_script.specs.Connections.{sends_by};
 ghost use Rattle.drive_script.specs.Left.{IsGoing, HasLeft};
 ghost use Rattle.drive_script.specs.Ran.{HasDriven};
 
 use crate::asking::Asking;
+use crate::connection::Connection;
 use crate::driving::Driving;
-use crate::lane::Lane;
 use any_wire::WireCalls;
 use command_exec::Shop;
 use command_pump::Pump;
@@ -21,7 +21,7 @@ use order_book::{BookName, SessionSeat};
 use pinned_pool::{PoolName, PoolSeat};
 use session_pass::Finish;
 
-/// What a lane leaves.
+/// What a connection leaves.
 #[derive(Drop)]
 pub(crate) struct Remains<N: BookName, P: PoolName> {
     pub end: SessionEnd,
@@ -40,7 +40,7 @@ pub struct DrivenAccount<N: BookName, P: PoolName, S: Source, W> {
     pub wire: W,
 }
 
-impl<N: BookName, P: PoolName + Send> Lane<N, P> {
+impl<N: BookName, P: PoolName + Send> Connection<N, P> {
     // Gives all replies back, and closes ring and pass.
     fn close(self, shop: &Shop<'_, N, P>, end: End, taken: u64) -> Remains<N, P>
         requires ring { device_ring self.device.end ≡ self.session.ring }
@@ -50,7 +50,7 @@ impl<N: BookName, P: PoolName + Send> Lane<N, P> {
         ensures list { result.mine ≡ self.session.pass.list }
         ensures left { IsLeft self.session result.seat result.mine }
     {
-        let Lane {
+        let Connection {
             session,
             mut device,
         } = self;
@@ -85,27 +85,36 @@ impl<N: BookName, P: PoolName + Send, S: Source, W: Drop> Driving<N, P, S, W> {
     ) -> DrivenAccount<N, P, S, W>
         requires calls { C.can_put calls.now × C.can_flush calls.now }
         requires going { IsGoing (sends_by (C.put_may calls.now) (C.flush_may calls.now))
-            P.sizes N.sizes.shards (driving_of self.lane.session self.lane.device.failed self.lane.device.end
+            P.sizes N.sizes.shards (driving_of self.connection.session self.connection.device.failed
+            self.connection.device.end
             self.asking.kept self.asking.end self.asking.pump self.wire) }
         ensures left { (first : Shown W) (events : List LineEvent)
             → IsUnderWay (sends_by (C.put_may calls.now) (C.flush_may calls.now))
-            P.sizes N.sizes.shards first events (driving_of self.lane.session self.lane.device.failed
-            self.lane.device.end self.asking.kept self.asking.end self.asking.pump self.wire)
+            P.sizes N.sizes.shards first events (driving_of self.connection.session self.connection.device.failed
+            self.connection.device.end self.asking.kept self.asking.end self.asking.pump self.wire)
             → HasLeft (sends_by (C.put_may calls.now) (C.flush_may calls.now)) P.sizes first
             events result.end result.mine result.pump result.wire }
         ensures driven { (first : Shown W) (events : List LineEvent)
             → IsUnderWay (sends_by (C.put_may calls.now) (C.flush_may calls.now))
-            P.sizes N.sizes.shards first events (driving_of self.lane.session self.lane.device.failed
-            self.lane.device.end self.asking.kept self.asking.end self.asking.pump self.wire)
+            P.sizes N.sizes.shards first events (driving_of self.connection.session self.connection.device.failed
+            self.connection.device.end self.asking.kept self.asking.end self.asking.pump self.wire)
             → HasDriven (C.put_may calls.now) (C.flush_may calls.now) P.sizes N.sizes.shards first
             events result.end result.mine result.seat result.pump result.wire }
     {
         let mut driving = self;
         driving.gather_all(shop.pool, calls);
-        let Driving { lane, asking, wire } = driving;
+        let Driving {
+            connection,
+            asking,
+            wire,
+        } = driving;
         let Asking { pump, kept: _, end } = asking;
         let Some(wire) = wire else { unreachable!() };
-        let Remains { end, seat, mine } = lane.close(shop, end.unwrap_or(End::Left), pump.taken());
+        let Remains { end, seat, mine } = connection.close(
+            shop,
+            end.unwrap_or(End::Left),
+            pump.taken(),
+        );
         DrivenAccount {
             end,
             seat,

@@ -5,10 +5,10 @@
 mod acting;
 mod asking;
 mod call;
+mod connection;
 mod driven;
 mod driving;
 mod happened;
-mod lane;
 pub mod laws;
 mod leaving;
 pub mod line_laws;
@@ -17,10 +17,10 @@ mod saying;
 mod telling;
 
 pub use asking::Asking;
+pub use connection::Connection;
 pub use driven::{Driven, drive};
 pub use driving::Driving;
 pub use happened::Happened;
-pub use lane::Lane;
 pub use leaving::DrivenAccount;
 pub use lines::drive_lines;
 pub use saying::LineRoom;

@@ -2,7 +2,7 @@
 ghost use Rattle.std.specs.Prelude.{◌<◌, ◌≤◌, All, length, map, vec_capacity};
 ghost use Rattle.schedule_text.specs.Text.{line_session};
 ghost use Rattle.drive_script.specs.Driving.{driving_of, AreFresh, WereDriven};
-ghost use Rattle.drive_script.specs.Lanes.{sends_by};
+ghost use Rattle.drive_script.specs.Connections.{sends_by};
 ghost use Rattle.drive_script.specs.Says.{text_room};
 
 use crate::driving::Driving;
@@ -37,12 +37,15 @@ pub fn drive_lines<
     requires there { All (λ line. line_session line < length sessions.old.items) schedule.now }
     requires room { text_room ≤ vec_capacity room.old.text }
     requires fresh { AreFresh (sends_by (C.put_may calls.now) (C.flush_may calls.now))
-        P.sizes N.sizes.shards (map (λ d. driving_of d.lane.session d.lane.device.failed d.lane.device.end d.asking.kept
+        P.sizes N.sizes.shards (map (λ d. driving_of d.connection.session d.connection.device.failed
+        d.connection.device.end d.asking.kept
         d.asking.end d.asking.pump d.wire) sessions.old.items) }
     ensures driven { WereDriven (sends_by (C.put_may calls.now) (C.flush_may calls.now))
-        P.sizes N.sizes.shards (map (λ d. driving_of d.lane.session d.lane.device.failed d.lane.device.end d.asking.kept
-        d.asking.end d.asking.pump d.wire) sessions.old.items) schedule.now (map (λ d. driving_of d.lane.session
-        d.lane.device.failed d.lane.device.end d.asking.kept d.asking.end d.asking.pump d.wire) sessions.new.items)
+        P.sizes N.sizes.shards (map (λ d. driving_of d.connection.session d.connection.device.failed
+        d.connection.device.end d.asking.kept
+        d.asking.end d.asking.pump d.wire) sessions.old.items) schedule.now (map (λ d. driving_of d.connection.session
+        d.connection.device.failed d.connection.device.end d.asking.kept d.asking.end d.asking.pump d.wire)
+        sessions.new.items)
         result
         (H.host_told host.old) (H.host_told host.new) }
 {

@@ -19,7 +19,7 @@ use Rattle.frag_value.specs.Values.{IsPlaced}
 use Rattle.flake_model.specs.Deed as deed
 use Rattle.flake_model.specs.Deed.{Deed, Places, IsLegal}
 use Rattle.order_book.specs.Pages.{ShardList}
-use Rattle.call_model.specs.Stock.{fragments_by, fragments_left, IsStock}
+use Rattle.shard_core.specs.Stock.{fragments_by, fragments_left, IsStock}
 use Rattle.serve_model.proofs.Held.{loose_there}
 use Rattle.serve_model.proofs.Places.{each_at}
 use Rattle.transcript_model.specs.Transcript.{AreAllApart}

@@ -120,7 +120,8 @@ module _ {W : Type 0} (sends : Sending W) (books : book_sizes.BookSizes) (z : po
       length-map each (λ (one : OneDriven W). one.stage) ∙ sym (length-map each (λ (one : OneDriven W). one.end))
       ∙ ap length (ran.ends_are sends z books.shards ring threshold lines 0 each are.all)
       ∙ length-map all (λ (r : SessionRun). r.run.end) in
-      let told = by_own sends z books.shards ring threshold lines each are.all past schedule answers journal held in
+      let told = by_own sends z books.shards ring threshold lines each are.all past schedule answers journal held
+      are.stages_apart in
       let sources : AreSources run (all_deeds shards) (own_of own_lists) stages =
       are_sources books all shards own_lists book_lists run stages refl
       (ran.ends_are sends z books.shards ring threshold lines 0 each are.all) were.parts.journal_is long in

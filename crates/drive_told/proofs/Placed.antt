@@ -19,7 +19,7 @@ use Rattle.flake_model.specs.Deed.{AreApart}
 use Rattle.flake_model.specs.Deed.{IsLegalFrom, store_left, places_left, final_store, final_places, IsLegal}
 use Rattle.flake_model.specs.Fragments.{fragments_of}
 use Rattle.flake_model.specs.Store.{Store, Change, keeps, puts, removes, changed, change_by, bytes_at, key_of, after}
-use Rattle.call_model.specs.Stock.{fragments_by}
+use Rattle.shard_core.specs.Stock.{fragments_by}
 
 -- the key has a value, and a place for each of its fragments
 record IsThere (store : Store) (places : Places) (key : List ℕ) : Type 0 where

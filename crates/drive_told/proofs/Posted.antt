@@ -14,7 +14,7 @@ use Rattle.flake_model.specs.Command.{Command, parts}
 use Rattle.flake_model.specs.Deed.{Deed, entries_of}
 use Rattle.flake_model.specs.Journal.{next_parts}
 use Rattle.flake_model.specs.Session.{IsBegun}
-use Rattle.call_model.specs.Outcomes.{Outcomes, call_told}
+use Rattle.shard_core.specs.Outcomes.{Outcomes, call_told}
 use Rattle.serve_model.specs.Runs.{Run, IsRun, calls_told, run_told}
 use Rattle.serve_model.proofs.Calls.{own, own_append, at_calls}
 

@@ -14,6 +14,7 @@ use Rattle.pin_core.specs.declared.sizes.Sizes.{Sizes}
 use Rattle.pinned_pool.specs.Ends.{End}
 use Rattle.order_book.specs.Closed.{own_deeds}
 use Rattle.order_book.specs.Pages.{SessionList}
+use Rattle.reply_planner.specs.Stages.{StagesAreApart}
 use Rattle.schedule_text.specs.declared.line.Line.{Line}
 use Rattle.serve_model.specs.Handed.{SessionRun, session_in}
 use Rattle.serve_model.proofs.Places.{index_at, get_map}
@@ -160,14 +161,15 @@ module _ {W : Type 0} (sends : Sending W) (z : Sizes) (shards ring threshold : �
       (omega (arith, count, olds, some), omega (arith, olds, news, some, more))
 
   -- all of them are
-  abbrev pub by_own : IsToldBy sends run (map (λ (one : OneDriven W). one.old) each ++ past)
+  abbrev pub by_own : StagesAreApart stages_in → IsToldBy sends run (map (λ (one : OneDriven W). one.old) each ++ past)
       (map (λ (one : OneDriven W). one.new) each ++ past) (own_of lists_in) schedule lines
-  by_own = record {
+  by_own apart = record {
     answers = answers;
     stages = stages_in;
     stages_are = all_stages sends z shards ring threshold lines 0 each all;
     one_each = length-map each (λ (one : OneDriven W). one.stage)
         ∙ sym (length-map each (λ (one : OneDriven W). one.end));
+    stages_apart = apart;
     wholes = wholes;
     told = told_are;
     wires = wires_long;

@@ -32,6 +32,7 @@ module _ {W : Type 0} (sends : Sending W) (tells : W → WireTold) (so : AreTold
     stages = by_own.stages;
     stages_are = by_own.stages_are;
     one_each = by_own.one_each;
+    stages_apart = by_own.stages_apart;
     wholes = by_own.wholes;
     told = by_own.told;
     wires = (

@@ -27,7 +27,7 @@ use Rattle.flake_model.specs.Store.{answer_on}
 use Rattle.flake_model.proofs.InTurn.{read_at_once}
 use Rattle.order_book.specs.Closed.{AreClosed, journal_of}
 use Rattle.order_book.specs.Pages.{ShardList, shown_session}
-use Rattle.call_model.specs.Stock.{AreParts, IsStock, fragments_left}
+use Rattle.shard_core.specs.Stock.{AreParts, IsStock, fragments_left}
 use Rattle.reply_planner.specs.Stages.{IsAbove, IsRising}
 use Rattle.serve_model.specs.Demand.{session_row}
 use Rattle.serve_model.specs.Handed.{SessionHasRun}
@@ -41,6 +41,7 @@ use Rattle.transcript_model.specs.Standing.{at_first}
 use Rattle.transcript_model.specs.Terms.{Terms}
 use Rattle.transcript_model.specs.Transcript.{IsStageShown}
 use Rattle.transcript_model.specs.Whole.{stage_from}
+use Rattle.transcript_model.proofs.Whole.{apart_of_two}
 use Rattle.transcript_model.proofs.Judge.{all_ok, last_of, all_right, ok, after, post_ok, post_after, gather_ok}
 use Rattle.transcript_model.proofs.Judge.{reap_ok, fits, none_fits, are_segs, is_seg, all_buffers, is_buffer, is_small}
 use Rattle.transcript_model.proofs.Judge.{is_large}
@@ -421,6 +422,7 @@ are = record {
     record { ran = set_ran; stage_is = set_stage; told = set_told; grew = set_grew },
     (record { ran = get_ran; stage_is = get_stage; told = get_told; grew = get_grew }, tt),
   );
+  stages_apart = apart_of_two;
   lists_are = refl;
   spare = view [] 1 [] [] 0 [];
   spare_is = record { holds = refl; idle = record { claims = refl; looks = refl } };

@@ -10,7 +10,7 @@ use Rattle.pinned_pool.specs.declared.view.View.{View}
 use Rattle.order_book.specs.Closed.{AreClosed}
 use Rattle.order_book.specs.Pages.{ShardList, SessionList}
 use Rattle.order_book.specs.declared.rule.BookSizes as book_sizes
-use Rattle.call_model.specs.Stock.{AreParts}
+use Rattle.shard_core.specs.Stock.{AreParts}
 
 -- A store was taken apart, the book was closed with the lists of all sessions, and then the pool with the store's seat
 -- in the last one.

@@ -1,11 +1,12 @@
 -- What driven sessions hand up, one by one and together.
-use Rattle.std.specs.Prelude.{◌≡◌, ℕ, ◌+◌, Bool, List, [], ◌∷◌, map}
+use Rattle.std.specs.Prelude.{◌≡◌, ℕ, ◌+◌, Bool, List, [], ◌∷◌, map, ⊤}
 use Rattle.flake_base.specs.declared.session.SessionEnd.{SessionEnd}
 use Rattle.flake_model.specs.Command.{Command}
 use Rattle.pin_core.specs.declared.sizes.Sizes.{Sizes}
 use Rattle.pinned_pool.specs.declared.view.View.{View}
 use Rattle.order_book.specs.Closed.{own_deeds}
 use Rattle.order_book.specs.Pages.{SessionList}
+use Rattle.reply_planner.specs.Stages.{StagesAreApart}
 use Rattle.serve_model.specs.Handed.{SessionHasRun}
 use Rattle.serve_model.specs.Seats.{HasAll, IsSpare}
 use Rattle.transcript_model.specs.Lines.{LineEvent, EventLine}
@@ -54,15 +55,17 @@ module _ {W : Type 0} (sends : Sending W) (z : Sizes) (shards ring threshold : �
 
   -- so did each, from a number on
   abbrev pub AllDriven : ℕ → List EventLine → List (OneDriven W) → Type 0
-  AllDriven session lines [] = Unit {0}
+  AllDriven session lines [] = ⊤
   AllDriven session lines (one ∷ others) =
       IsDriven session (events_of session lines) one × AllDriven (session + 1) lines others
 
-  -- All sessions did; the lists and the seat are theirs, but for a seat that has nothing.
+  -- All sessions did, and no two have a staging buffer in common; the lists and the seat are theirs, but for a seat
+  -- that has nothing.
   pub record AreDriven (lines : List EventLine) (each : List (OneDriven W)) (lists : List SessionList)
       (main : View) : Type 0
     where
       pub all : AllDriven 0 lines each
+      pub stages_apart : StagesAreApart (map (λ (one : OneDriven W). one.stage) each)
       pub lists_are : lists ≡ map (λ (one : OneDriven W). one.list) each
       pub spare : View
       pub spare_is : IsSpare spare

@@ -15,7 +15,7 @@ use Rattle.pinned_pool.specs.declared.view.View.{View}
 use Rattle.order_book.specs.Closed.{journal_of}
 use Rattle.order_book.specs.Pages.{Ranked, Page, page, ShardList, SessionList, shown_shard}
 use Rattle.order_book.specs.declared.rule.BookSizes as book_sizes
-use Rattle.call_model.specs.Outcomes.{PartOutcome, entry_at, deed_of}
+use Rattle.shard_core.specs.Outcomes.{PartOutcome, entry_at, deed_of}
 use Rattle.reply_layout.specs.Layout.{segment}
 use Rattle.schedule_text.specs.declared.line.Line.{Line}
 use Rattle.schedule_text.specs.declared.line.Line.TheVariants.{Call, Gather, Reap}

@@ -2,7 +2,7 @@
 use Rattle.std.proofs.Common.{◌≡◌, ℕ, ◌+◌, ◌<◌, ◌≤◌, zero, suc, List, [], ◌∷◌, ◌++◌, length, map, take, drop, None}
 use Rattle.std.proofs.Common.{Some, refl, ap, sym, ◌∙◌, subst, arith}
 use Rattle.std.specs.List.{range_with_len}
-use Rattle.std.specs.Prelude.{slice_get, slice_index}
+use Rattle.std.specs.Prelude.{slice_get, slice_index, ⊤}
 use Rattle.std.proofs.lemmas.List.{length-append, map-append}
 use Rattle.view_sums.specs.Total.{Each}
 use Rattle.view_sums.proofs.Eachs.{each-imp, each-front, each-back}
@@ -27,7 +27,7 @@ pub record IsAligned (shard : ShardList) (look : ShardSeen) : Type 0 where
   pub begins : shard.told ≡ look.1 ++ rest
 
 abbrev Aligned : List ShardList → List ShardSeen → Type 0
-Aligned [] [] = Unit {0}
+Aligned [] [] = ⊤
 Aligned [] (look ∷ seen) = ⊥
 Aligned (shard ∷ shards) [] = ⊥
 Aligned (shard ∷ shards) (look ∷ seen) = IsAligned shard look × Aligned shards seen

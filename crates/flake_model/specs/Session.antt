@@ -1,5 +1,5 @@
 -- One session of a run: its input, its commands, and how it ended.
-use Rattle.std.specs.Prelude.{◌≡◌, ℕ, ◌+◌, ◌<◌, ◌≤◌, ◌⊎◌, Bool, true, false, List, ◌++◌, length}
+use Rattle.std.specs.Prelude.{◌≡◌, ℕ, ◌+◌, ◌<◌, ◌≤◌, ◌⊎◌, Bool, true, false, List, ◌++◌, length, ⊤}
 use Rattle.flake_base.specs.declared.session.End.{End}
 use Rattle.flake_base.specs.declared.session.End.TheVariants.{Clean, Protocol, Truncated, TooLong, ReadFault, Memory}
 use Rattle.flake_base.specs.declared.session.End.TheVariants.{Left}
@@ -33,15 +33,15 @@ HasNoError shown = (shown ≡ Clean) ⊎ ((place : ℕ) × (shown ≡ Truncated 
 -- have been answered. Where memory was wanting, or a schedule ended, the bytes end as they may.
 abbrev pub EndsAs : End → End → Type 0
 EndsAs ReadFault shown = HasNoError shown
-EndsAs Memory shown = Unit {0}
-EndsAs Left shown = Unit {0}
+EndsAs Memory shown = ⊤
+EndsAs Left shown = ⊤
 EndsAs end shown = shown ≡ end
 
 -- such an input was read to its end
 abbrev pub IsReadOut : End → Bool → Type 0
 IsReadOut Clean ended = ended ≡ true
 IsReadOut (Truncated place) ended = ended ≡ true
-IsReadOut end ended = Unit {0}
+IsReadOut end ended = ⊤
 
 -- How many bytes a session took, of so many that its source gave: up to an error, or as many as are judged; else all.
 abbrev pub taken_of : End → ℕ → ℕ

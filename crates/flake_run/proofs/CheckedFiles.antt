@@ -2,7 +2,7 @@
 use Rattle.std.proofs.Common.{◌≡◌, ◌≢◌, ◌≤◌, inl, inr, ℕ, ◌+◌, zero, suc, ◌<◌, Bool, true, false, List, [], ◌∷◌, ◌++◌}
 use Rattle.std.proofs.Common.{Option, Some, None, Result, Ok, Err, IfOk, IfErr, length, map, take, slice_get, arith}
 use Rattle.std.proofs.Common.{refl, sym, ap, ◌∙◌, subst}
-use Rattle.std.specs.Prelude.{is_none}
+use Rattle.std.specs.Prelude.{is_none, ⊤}
 use Rattle.std.specs.List.{AllByRecursion}
 use Rattle.std.proofs.lemmas.List.{length-map, length-take}
 use Rattle.flake_base.specs.Causes.{Rose}
@@ -162,10 +162,10 @@ module _ {S : Type 0} (tells : S → SourceTold) where
       (at_map (ended_in ended) files k (file.Opened source) is))
 
   any_faults : (files : List (File S)) → AllByRecursion (HasFaultsBy Memory) (told_from 0 files)
-  any_faults files = told_at (λ n source. Unit {0}) files (λ k source is. tt)
+  any_faults files = told_at (λ n source. ⊤) files (λ k source is. tt)
 
   any_read : (files : List (File S)) → AllByRecursion (WasReadBy Memory) (told_from 0 files)
-  any_read files = told_at (λ n source. Unit {0}) files (λ k source is. tt)
+  any_read files = told_at (λ n source. ⊤) files (λ k source is. tt)
 
   -- at a name nothing is at its end before it is read
   not_ended : (words : List Named) (k : ℕ) (word : List ℕ) → slice_get words k ≡ Some (Some word)

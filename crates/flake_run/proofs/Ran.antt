@@ -14,7 +14,7 @@ use Rattle.command_pump.specs.Pump.{EndFaults}
 use Rattle.pin_core.specs.declared.class.Held.{Held}
 use Rattle.pinned_pool.specs.Ends.{End as PoolEnd}
 use Rattle.run_resources.specs.Opened.{pool_sizes}
-use Rattle.run_resources.specs.Ran.{AreReads}
+use Rattle.session_serve.specs.Ran.{AreReads}
 use Rattle.flake_run.specs.declared.outcome.Detail.TheVariants.{Nothing}
 use Rattle.flake_run.specs.declared.outcome.Opened.{Opened}
 use Rattle.flake_run.specs.Opening.{AreOfFiles, HaveOpened}

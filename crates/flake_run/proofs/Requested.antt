@@ -22,7 +22,7 @@ use Rattle.pinned_pool.specs.Ends.{End as PoolEnd}
 use Rattle.serve_model.specs.Replies.{all_replies, all_replies_from}
 use Rattle.serve_inputs.specs.Whole.{SentWhole, raised}
 use Rattle.run_resources.specs.Opened.{pool_sizes}
-use Rattle.run_resources.specs.Ran.{AllWhole}
+use Rattle.session_serve.specs.Ran.{AllWhole}
 use Rattle.any_wire.specs.Sent.{AreTold}
 use Rattle.any_wire.proofs.Sent.{sent_by_puts}
 use Rattle.command_line.specs.declared.generate_task.GenTask.{GenTask}

@@ -1,5 +1,5 @@
 -- Served sources are a served run of their sessions.
-use Rattle.std.proofs.Common.{◌≡◌, ℕ, ◌+◌, ◌++◌, Bool, true, false, if◌then◌else◌, List, [], ◌∷◌, Option, Some, None}
+use Rattle.std.proofs.Common.{◌≡◌, ℕ, ◌+◌, ◌++◌, Bool, true, false, List, [], ◌∷◌, Option, Some, None}
 use Rattle.std.proofs.Common.{length, map, drop, refl, sym, ap, ◌∙◌, subst, append-nil}
 use Rattle.std.specs.Borrow.{Bor}
 use Rattle.std.proofs.lemmas.List.{length-map, map-append}
@@ -13,8 +13,8 @@ use Rattle.flake_model.specs.Session.{Session}
 use Rattle.flake_model.specs.Wire.{EachWire, WiresGrew, WireFaultIs, FaultsAre, KeptIs, KeptAre, faults_told}
 use Rattle.pin_core.specs.declared.sizes.Sizes.{Sizes}
 use Rattle.pinned_pool.specs.Ends.{End}
-use Rattle.run_resources.specs.Ran.{AllSent}
-use Rattle.serve_inputs.specs.Dumped.{DumpTold, IsDumpTold, dump_texts, no_dump}
+use Rattle.session_serve.specs.Ran.{AllSent}
+use Rattle.serve_inputs.specs.Dumped.{DumpTold, dump_texts, no_dump}
 use Rattle.serve_inputs.specs.Ran.{RanAll}
 use Rattle.serve_model.specs.Shown.{WasRun}
 use Rattle.any_wire.specs.Sent.{WasSent, AreTold}

@@ -1,5 +1,5 @@
 -- What a run of `check` does.
-use Rattle.std.specs.Prelude.{◌≡◌, ◌≢◌, ◌⊎◌, ◌≤◌, ℕ, ◌<◌, true, false, List, [], Option, Some, None, length, map}
+use Rattle.std.specs.Prelude.{◌≡◌, ◌≢◌, ◌⊎◌, ◌≤◌, ℕ, ◌<◌, true, false, List, [], Option, Some, None, length, map, ⊤}
 use Rattle.std.specs.Prelude.{take, slice_get, IsNone, IsSome, IsSomeAnd, IfSome}
 use Rattle.std.specs.List.{AllByRecursion}
 use Rattle.flake_base.specs.Causes.{Rose}
@@ -29,7 +29,7 @@ use Rattle.flake_run.specs.declared.outcome.Opened.{Opened}
 abbrev pub HasFaultsBy : Finding → Opened SourceTold → Type 0
 HasFaultsBy (ReadFault file) one =
     (one.file ≡ file → Rose 0 one.source.faults) × (one.file ≢ file → one.source.faults ≡ 0)
-HasFaultsBy Memory one = Unit {0}
+HasFaultsBy Memory one = ⊤
 HasFaultsBy finding one = one.source.faults ≡ 0
 
 -- the files in front of this one were read to their ends, and those behind it were not read
@@ -41,7 +41,7 @@ WasReadTo file one = (one.file < file → one.source.ended ≡ true)
 abbrev pub WasReadBy : Finding → Opened SourceTold → Type 0
 WasReadBy (ReadFault file) one = WasReadTo file one
 WasReadBy (TooLarge file) one = WasReadTo file one
-WasReadBy Memory one = Unit {0}
+WasReadBy Memory one = ⊤
 WasReadBy finding one = one.source.ended ≡ true
 
 -- a file of this number was opened
@@ -58,7 +58,7 @@ ComesTo (BadLine line) texts sources = WhyStopped texts (errors.BadLine line)
 ComesTo (Judged verdict) texts sources = IsJudged texts verdict
 ComesTo (BadFrame number) texts sources = ⊥
 ComesTo (Missing call frame) texts sources = ⊥
-ComesTo Memory texts sources = Unit {0}
+ComesTo Memory texts sources = ⊤
 
 -- all files were opened, and what they gave comes to the finding
 pub record WasRead (finding : Finding) (words : List Named) (old new : HostTold) (sources : List (Opened SourceTold)) :

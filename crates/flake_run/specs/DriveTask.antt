@@ -1,5 +1,5 @@
 -- What the words of the command line ask `drive` for.
-use Rattle.std.specs.Prelude.{ℕ, ◌<◌, List, Option, Some, None, String, length, map, drop}
+use Rattle.std.specs.Prelude.{ℕ, ◌<◌, List, Option, Some, None, String, length, map, drop, ⊤}
 use Rattle.std.specs.Global.{Global}
 use Rattle.std.specs.Option.{option_map}
 use Rattle.run_resources.specs.declared.sizes.RunSizes.{RunSizes}
@@ -31,5 +31,5 @@ served_names job = drop 1 job.names
 
 -- there is no task, or not a wire for each of these files
 abbrev pub IsUndrivable : {W : Type 0} → Option DriveJob → Outside W → Type 0
-IsUndrivable None before = Unit {0}
+IsUndrivable None before = ⊤
 IsUndrivable (Some job) before = length before.wires < length (served_names job)

@@ -1,5 +1,5 @@
 -- What a run of generated requests does, and what it says.
-use Rattle.std.specs.Prelude.{◌≡◌, ◌≢◌, ◌⊎◌, ◌≤◌, ◌<◌, ℕ, Bool, List, [], ◌∷◌, Option, Some, None, codes}
+use Rattle.std.specs.Prelude.{◌≡◌, ◌≢◌, ◌⊎◌, ◌≤◌, ◌<◌, ℕ, Bool, List, [], ◌∷◌, Option, Some, None, codes, ⊤}
 use Rattle.std.specs.Prelude.{length, map}
 use Rattle.std.specs.Prelude.{drop, take, All, IfSome, IsSomeAnd}
 use Rattle.std.specs.List.{AllByRecursion}
@@ -111,7 +111,7 @@ pub record ServedRequests {W : Type 0} (task : GenTask) (before after : Outside 
 
 -- there is no task, or not a wire for each session, or no pool can have as many buffers as it needs
 abbrev pub IsUngenerated : {W : Type 0} → Option GenTask → Outside W → Type 0
-IsUngenerated None before = Unit {0}
+IsUngenerated None before = ⊤
 IsUngenerated (Some task) before = (length before.wires < task.sessions) ⊎ IsTooMuch task
 
 -- No file is opened for generated requests, whatever comes of them.

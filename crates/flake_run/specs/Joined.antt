@@ -1,6 +1,6 @@
 -- What a run of `join` does.
 use Rattle.std.specs.Prelude.{◌≡◌, ◌≢◌, ◌⊎◌, ◌≤◌, ◌<◌, ℕ, Bool, false, if◌then◌else◌, List, [], ◌∷◌, Option, Some, None}
-use Rattle.std.specs.Prelude.{length, drop, All, IfSome, IsSomeAnd}
+use Rattle.std.specs.Prelude.{length, drop, All, IfSome, IsSomeAnd, ⊤}
 use Rattle.std.specs.List.{concat}
 use Rattle.flake_base.specs.Causes.{Rose}
 use Rattle.flake_base.specs.Told.{HostTold, WireTold}
@@ -38,7 +38,7 @@ IsJoinable task before Holds = IsSomeAnd task (λ job. (0 < length before.wires)
 
 -- there is no task, or no wire
 abbrev pub IsUnjoinable : {W : Type 0} → Option Join → Outside W → Type 0
-IsUnjoinable None before = Unit {0}
+IsUnjoinable None before = ⊤
 IsUnjoinable (Some job) before = length before.wires ≡ 0
 
 -- the file of this name was opened, which has number 0, and no other; this is its source

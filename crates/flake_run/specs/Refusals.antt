@@ -1,5 +1,5 @@
 -- Why nothing was served, and what a run that served nothing has done.
-use Rattle.std.specs.Prelude.{◌≡◌, ℕ, ◌<◌, List, [], None, codes}
+use Rattle.std.specs.Prelude.{◌≡◌, ℕ, ◌<◌, List, [], None, codes, ⊤}
 use Rattle.flake_model.specs.Said.{said_line}
 use Rattle.serve_inputs.specs.Dumped.{no_dump}
 use Rattle.flake_run.specs.Outside.{Outside, LeavesFiles}
@@ -13,7 +13,7 @@ use Rattle.flake_run.specs.declared.outcome.Refusal.TheVariants.{BadWords, OpenF
 -- there are at most 16 files
 abbrev pub IsNumbered : Refusal → Type 0
 IsNumbered (OpenFault file) = file < 16
-IsNumbered refusal = Unit {0}
+IsNumbered refusal = ⊤
 
 abbrev pub status_of : Refusal → ℕ
 status_of BadWords = 1

@@ -1,5 +1,5 @@
 -- What the source of a schedule comes to.
-use Rattle.std.specs.Prelude.{◌≡◌, ◌≤◌, ◌<◌, ℕ, Bool, true, List, length}
+use Rattle.std.specs.Prelude.{◌≡◌, ◌≤◌, ◌<◌, ℕ, Bool, true, List, length, ⊤}
 use Rattle.flake_base.specs.Causes.{Rose}
 use Rattle.journal_text.specs.Lines.{lines_of}
 use Rattle.schedule_text.specs.Reading.{AreScheduleLines, IsBadScheduleLine}
@@ -35,4 +35,4 @@ IsUndriven (BadLine line) sessions given ended old new = HasBadLine sessions giv
 IsUndriven (Judged verdict) sessions given ended old new = ⊥
 IsUndriven (BadFrame number) sessions given ended old new = ⊥
 IsUndriven (Missing call frame) sessions given ended old new = ⊥
-IsUndriven Memory sessions given ended old new = Unit {0}
+IsUndriven Memory sessions given ended old new = ⊤

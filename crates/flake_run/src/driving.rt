@@ -2,7 +2,7 @@
 ghost use Rattle.std.specs.Prelude.{◌≡◌, ◌<◌, ◌≤◌, [], All, IfErr, IfOk, OnErr, OnOk, length, map};
 ghost use Rattle.schedule_text.specs.Text.{line_session};
 ghost use Rattle.run_resources.specs.Opened.{HasRunSizes, pool_sizes};
-ghost use Rattle.run_resources.specs.Ran.{AreReads};
+ghost use Rattle.session_serve.specs.Ran.{AreReads};
 ghost use Rattle.flake_base.specs.Histories.{histories};
 ghost use Rattle.any_wire.specs.Sent.{FlushIs, PutIs};
 ghost use Rattle.flake_run.specs.Driven.{IsDrivenBy, IsDrivenRun};

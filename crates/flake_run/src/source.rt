@@ -3,7 +3,7 @@ ghost use Rattle.std.specs.Prelude.{◌≡◌, ◌≢◌, ◌+◌, ◌<◌, ◌�
 ghost use Rattle.flake_base.specs.Histories.{histories};
 ghost use Rattle.flake_run.specs.Serving.{IsDumpingRun};
 ghost use Rattle.run_resources.specs.Opened.{HasRunSizes, dump_wires, pool_sizes};
-ghost use Rattle.run_resources.specs.Ran.{AreReads};
+ghost use Rattle.session_serve.specs.Ran.{AreReads};
 ghost use Rattle.serve_inputs.specs.Dumped.{dump_told};
 ghost use Rattle.any_wire.specs.Sent.{PutIs, FlushIs};
 

@@ -28,3 +28,6 @@ pub mod Staying
 pub mod Exact
 pub mod HeldCounts
 pub mod Carried
+pub mod PinSteps
+pub mod FewSteps
+pub mod Returned

@@ -2,6 +2,7 @@
 ghost use Rattle.frag_value.specs.Carried.{HoldsComeBack};
 ghost use Rattle.frag_value.specs.Counts.{FragmentsAreCounted};
 ghost use Rattle.frag_value.specs.Exactly.{ValuesAreCounted, ValuesComeAndGo};
+ghost use Rattle.frag_value.specs.Few.{AreFew};
 ghost use Rattle.frag_value.specs.Stays.{ValuesStay};
 
 /// How many fragments of each class some bytes have, and an append, by their number; and how many at most.
@@ -27,4 +28,9 @@ pub fn values_are_counted()
 /// A seat that gets a value's holds and gives them up has its other holds as before, in their order.
 pub fn holds_come_back()
     ensures { HoldsComeBack }
+{}
+
+/// Fragments that lie in different buffers are at most as many as there are buffers.
+pub fn few_fragments()
+    ensures { AreFew }
 {}

@@ -1,6 +1,7 @@
 -- Each step of a place keeps its rule.
 use Rattle.std.proofs.Common.{◌≡◌, ℕ, List, [], ◌∷◌, length, get_or, set, sym, refl, ap, ◌∙◌, subst, eqb, arith, Option}
 use Rattle.std.proofs.Common.{None, Some, length-set, get_or-set_same}
+use Rattle.std.specs.Prelude.{⊤}
 use mathlib.Core.Logic.{dite}
 use mathlib.Core.Option as home
 use native.Mathlib.Decide.{ℕ_discrete}
@@ -71,9 +72,9 @@ module _ {T V : Type 0} (fits : T → Type 0) where
       ))
 
   pub gives-value : (id : ℕ) (me : Me (Option T) V) (value : T) → HasOnly (Some value) me → fits value
-      → Allows Rule 1 id me 0 (λ _. 2) (λ _ _. Unit {0})
+      → Allows Rule 1 id me 0 (λ _. 2) (λ _ _. ⊤)
   gives-value id me value has ok =
-      subst (λ (x : Me (Option T) V). Allows Rule 1 id x 0 (λ _. 2) (λ _ _. Unit {0})) (λ i. (me.0, sym has i))
+      subst (λ (x : Me (Option T) V). Allows Rule 1 id x 0 (λ _. 2) (λ _ _. ⊤)) (λ i. (me.0, sym has i))
       (λ s kept wide _ _.
       let is : get_or (set s.words 0 2) 0 0 ≡ 2 = get_or-set_same s.words 0 2 0 (omega (arith, kept.one)) in
       let lies = set_here s.homes 0 (home.some (Some value)) (omega (arith, wide)) in (

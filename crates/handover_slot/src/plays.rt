@@ -24,5 +24,7 @@ impl<K, T: Fits<K>> Play<Option<T>, K> for Take {
 pub(crate) struct Give;
 
 impl<K, T> Play<Option<T>, K> for Give {
-    ghost then = { λ _ _ _ _. Unit {0} };
+    ghost use Rattle.std.specs.Prelude.{⊤};
+
+    ghost then = { λ _ _ _ _. ⊤ };
 }

@@ -1,5 +1,5 @@
 -- What comes of frames that a joiner takes one after another.
-use Rattle.std.specs.Prelude.{◌≡◌, ◌⊎◌, ◌<◌, ◌-◌, ℕ, List, [], Some, None, IsSome, Ok, map, take, slice_get}
+use Rattle.std.specs.Prelude.{◌≡◌, ◌⊎◌, ◌<◌, ◌-◌, ℕ, List, [], Some, None, IsSome, Ok, map, take, slice_get, ⊤}
 use Rattle.std.specs.List.{AllByRecursion}
 use Rattle.mtu_frames.specs.Frames.{MtuFrame}
 use Rattle.mtu_frames.specs.Reading.{frame_read, refusal}
@@ -50,7 +50,7 @@ WhyNotJoined TooLarge mtu calls sent = ⊥
 WhyNotJoined (BadFrame number) mtu calls sent = IsFirstRefused mtu calls sent number
 WhyNotJoined (errors.Missing call frame) mtu calls sent =
     IsMissingOf mtu calls sent (record { call = call; frame = frame })
-WhyNotJoined Memory mtu calls sent = Unit {0}
+WhyNotJoined Memory mtu calls sent = ⊤
 
 -- the least frame that is not there
 abbrev pub MissesBy : JoinError → List MtuFrame → ℕ → Type 0
@@ -77,7 +77,7 @@ IsRefusedAt ReadFault at mtu calls frames bytes = ⊥
 IsRefusedAt TooLarge at mtu calls frames bytes = ⊥
 IsRefusedAt (BadFrame number) at mtu calls frames bytes = (number ≡ at) × IsRefusedBy mtu calls frames bytes
 IsRefusedAt (errors.Missing call frame) at mtu calls frames bytes = ⊥
-IsRefusedAt Memory at mtu calls frames bytes = Unit {0}
+IsRefusedAt Memory at mtu calls frames bytes = ⊤
 
 -- none is refused and none is missing; the joiner has them
 pub record IsJoinedOf (mtu calls : ℕ) (sent : List (List ℕ)) (joining : Joining) : Type 0 where

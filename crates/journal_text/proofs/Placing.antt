@@ -3,12 +3,13 @@ use Rattle.std.proofs.Common.{◌≡◌, ◌≢◌, ◌∙◌, refl, sym, ap, �
 use Rattle.std.proofs.Common.{append_assoc, append-nil, length, map, set, get_or, replicate}
 use Rattle.std.proofs.lemmas.List.{map-append}
 use Rattle.std.specs.List.{AllByRecursion}
+use Rattle.std.specs.Prelude.{⊤}
 use Rattle.flake_base.specs.declared.journal.Entry.{Entry}
 use Rattle.journal_text.specs.Text.{ShardEntry, placed_from, IsInRange, IsEntryPlaced}
 
 -- the numbers of their shards ascend from this one
 abbrev pub Ascends : ℕ → List ShardEntry → Type 0
-Ascends low [] = Unit {0}
+Ascends low [] = ⊤
 Ascends low (first ∷ placed) = (low ≤ first.0) × Ascends first.0 placed
 
 -- the shard of the last entry; where there is none it is this one

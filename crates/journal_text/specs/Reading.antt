@@ -1,5 +1,5 @@
 -- What the lines of a text are read as.
-use Rattle.std.specs.Prelude.{◌≡◌, ℕ, ◌-◌, ◌≤◌, max, List, [], ◌∷◌, ◌++◌, length, take, slice_index_or}
+use Rattle.std.specs.Prelude.{◌≡◌, ℕ, ◌-◌, ◌≤◌, max, List, [], ◌∷◌, ◌++◌, length, take, slice_index_or, ⊤}
 use Rattle.flake_base.specs.declared.journal.Entry.{Entry}
 use Rattle.journal_text.specs.declared.error.JournalError.{JournalError}
 use Rattle.journal_text.specs.declared.error.JournalError.TheVariants.{BadLine, Memory}
@@ -27,4 +27,4 @@ pub record IsBadJournalLine (lines : List (List ℕ)) (line : ℕ) : Type 0 wher
 -- an error but for want of memory is that of a bad line
 abbrev pub IsJournalFault : List (List ℕ) → JournalError → Type 0
 IsJournalFault lines (BadLine line) = IsBadJournalLine lines line
-IsJournalFault lines Memory = Unit {0}
+IsJournalFault lines Memory = ⊤

@@ -1,6 +1,6 @@
 -- The seven events, and what each makes of a plain list of holds. Lists of holds and of credits are compared by how
 -- often each item stands in them.
-use Rattle.std.specs.Prelude.{◌≡◌, ℕ, ◌+◌, ◌<◌, ◌≤◌, List, [], ◌∷◌, ◌++◌, true, if◌then◌else◌, length, replicate}
+use Rattle.std.specs.Prelude.{◌≡◌, ℕ, ◌+◌, ◌<◌, ◌≤◌, List, [], ◌∷◌, ◌++◌, true, if◌then◌else◌, length, replicate, ⊤}
 use Rattle.std.specs.Prelude.{slice_set}
 use Rattle.view_sums.specs.Total.{SameItems, Adds}
 use Rattle.pin_core.specs.Buffers.{buffers, buffer_words, start}
@@ -103,7 +103,7 @@ module _ {H : Type 0} where
   IsNear z (pin b _ _) = b < buffers z
   IsNear z (unpin k _) = k.buffer < buffers z
   IsNear z (move k _ _) = k.buffer < buffers z
-  IsNear z (give _ _ _) = Unit {0}
+  IsNear z (give _ _ _) = ⊤
 
   -- the same holds and credits, each as often, and the same words
   pub record SamePins (old new : Pins H) : Type 0 where

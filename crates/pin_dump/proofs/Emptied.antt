@@ -14,8 +14,8 @@ use Rattle.dump_model.specs.Dump.{set_text, pairs_text}
 use Rattle.frag_value.specs.Values.{Frags, IsFilled, size_of, uses, value_bytes}
 use Rattle.frag_value.proofs.Cuts.{length-bytes-value}
 use Rattle.frag_value.proofs.Ends.{length-map}
-use Rattle.value_pins.specs.Pins.{KeyFrags, all_frags, pairs_shown, pin_key, pin_keys}
-use Rattle.value_pins.proofs.Returned.{asked-pins}
+use Rattle.frag_value.specs.Pins.{KeyFrags, all_frags, pairs_shown, pin_key, pin_keys}
+use Rattle.frag_value.proofs.Returned.{asked-pins}
 use Rattle.pin_dump.specs.Dumps.{GivesHolds, HoldsFor, IsEmptied, pair_length, pairs_length}
 use Rattle.pin_dump.proofs.Texts.{head_of, text_is}
 

@@ -9,8 +9,8 @@ use Rattle.pinned_pool.specs.Moves.{meant_count, without_keys}
 use Rattle.pinned_pool.specs.declared.view.View.{View}
 use Rattle.pinned_pool.proofs.AfterSteps.{left_by-append}
 use Rattle.frag_value.specs.Values.{Frags, uses}
-use Rattle.value_pins.specs.Pins.{KeyFrags, AreReturned, all_frags, pin_key, pin_keys}
-use Rattle.value_pins.proofs.Returned.{keys-append, left}
+use Rattle.frag_value.specs.Pins.{KeyFrags, AreReturned, all_frags, pin_key, pin_keys}
+use Rattle.frag_value.proofs.Returned.{keys-append, left}
 use Rattle.pin_dump.specs.Dumps.{GivesHolds}
 
 pub frags-append : (ps qs : List KeyFrags) → all_frags (ps ++ qs) ≡ all_frags ps ++ all_frags qs

@@ -4,3 +4,4 @@ pub mod Emptied
 pub mod Flushed
 pub mod TakenShards
 pub mod SeenTaken
+pub mod PutSteps

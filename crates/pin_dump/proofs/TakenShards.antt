@@ -24,8 +24,8 @@ use Rattle.frag_value.specs.Values.{IsFilled, uses, value_bytes}
 use Rattle.frag_value.proofs.Ends.{length-map}
 use Rattle.frag_value.proofs.Framed.{each_there}
 use Rattle.shard_core.proofs.Holds.{keys-times}
-use Rattle.value_pins.specs.Pins.{KeyFrags, IsPinned, all_frags, pairs_shown, pin_key, pin_keys}
-use Rattle.value_pins.proofs.Returned.{asked-pins, left}
+use Rattle.frag_value.specs.Pins.{KeyFrags, IsPinned, all_frags, pairs_shown, pin_key, pin_keys}
+use Rattle.frag_value.proofs.Returned.{asked-pins, left}
 use Rattle.shard_store.specs.Images.{IsImage}
 use Rattle.shard_store.proofs.Imaged.{shows_same}
 use Rattle.pin_dump.specs.Dumps.{GivesHolds, TookDump, HasTakenHolds, HoldsFor, KeepsDeeds}

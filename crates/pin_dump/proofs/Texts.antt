@@ -6,7 +6,7 @@ use Rattle.std.specs.Fmt.{decimal, digits}
 use Rattle.std.proofs.Math.Seq.{take-add}
 use Rattle.std.proofs.lemmas.Grind.{flat_map-append}
 use Rattle.frag_value.proofs.Lists.{map-more}
-use Rattle.value_pins.proofs.PinSteps.{take_one_more}
+use Rattle.frag_value.proofs.PinSteps.{take_one_more}
 use Rattle.flake_model.specs.Resp.{crlf, bulk_string, array_head}
 use Rattle.dump_model.specs.Dump.{Pair, set_text, pairs_text}
 use Rattle.view_sums.specs.Total.{same, Each}
@@ -14,7 +14,7 @@ use Rattle.view_sums.proofs.Eachs.{each-front, each-back}
 use Rattle.view_sums.proofs.Sums.{total-append}
 use Rattle.pin_core.specs.Holding.{Holding}
 use Rattle.frag_value.specs.Values.{IsFilled, uses}
-use Rattle.value_pins.specs.Pins.{KeyFrags, IsPinned, all_frags}
+use Rattle.frag_value.specs.Pins.{KeyFrags, IsPinned, all_frags}
 
 abbrev pub head_of : ℕ → List ℕ
 head_of n = 36 ∷ decimal n ++ crlf

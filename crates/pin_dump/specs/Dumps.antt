@@ -13,7 +13,7 @@ use Rattle.order_book.specs.Closed.{IsShared}
 use Rattle.order_book.specs.Pages.{SessionList}
 use Rattle.dump_model.specs.Dump.{pairs_text}
 use Rattle.dump_model.specs.Seen.{ShardSeen, list_seen, pairs_seen}
-use Rattle.value_pins.specs.Pins.{KeyFrags, IsPinned, all_frags, pairs_shown, pin_key, pin_keys}
+use Rattle.frag_value.specs.Pins.{KeyFrags, IsPinned, all_frags, pairs_shown, pin_key, pin_keys}
 
 -- how long the request is that sets a key to its value, and all of them
 abbrev pub pair_length : KeyFrags → ℕ

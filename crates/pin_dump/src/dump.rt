@@ -4,7 +4,7 @@ ghost use Rattle.any_wire.specs.Sends.{Sends};
 ghost use Rattle.pin_core.specs.Buffers.{buffers};
 ghost use Rattle.pin_dump.specs.Dumps.{TookDump, HasTakenHolds, HoldsFor, IsEmptied, IsSameSeat, KeepsDeeds};
 ghost use Rattle.pin_dump.specs.Dumps.{PutsAndFlushes};
-ghost use Rattle.value_pins.specs.Pins.{all_frags};
+ghost use Rattle.frag_value.specs.Pins.{all_frags};
 
 use crate::giving::give_back;
 use crate::pairs::put_pairs;
@@ -12,13 +12,13 @@ use crate::sizes::pairs_size;
 use crate::taking::take_all;
 use any_wire::{WireCalls, flush_unless_failed};
 use flake_base::Memory;
+use frag_value::PinnedPair;
 use order_book::{Book, BookName, SessionSeat};
 use pinned_pool::{Pool, PoolName, PoolSeat};
 use shard_store::Store;
 use std::alloc::Global;
 use std::marker::Model;
 use std::sync::Wait;
-use value_pins::PinnedPair;
 
 /// What all shards had, each at one point of its history, kept by pinned holds of the dump's seat. Contracts see the
 /// points, the text, and the seat.

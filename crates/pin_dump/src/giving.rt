@@ -2,11 +2,11 @@
 ghost use Rattle.std.specs.Prelude.{ℕ, ◌≤◌};
 ghost use Rattle.pinned_pool.specs.Moves.{meant_count};
 ghost use Rattle.frag_value.specs.Values.{uses};
-ghost use Rattle.value_pins.specs.Pins.{all_frags, pin_key};
+ghost use Rattle.frag_value.specs.Pins.{all_frags, pin_key};
 ghost use Rattle.pin_dump.specs.Dumps.{GivesHolds};
 
+use frag_value::{PinnedPair, release_pins};
 use pinned_pool::{Pool, PoolName, PoolSeat};
-use value_pins::{PinnedPair, release_pins};
 
 /// Gives back all values' holds, each with its credit.
 pub(crate) fn give_back<N: PoolName>(

@@ -8,5 +8,6 @@ mod pairs;
 mod putting;
 mod sizes;
 mod taking;
+mod values;
 
 pub use dump::{Dump, Written};

@@ -2,12 +2,14 @@
 ghost use Rattle.std.specs.Prelude.{◌≡◌};
 ghost use Rattle.dump_model.specs.Dump.{pairs_text, set_text};
 ghost use Rattle.frag_value.specs.Values.{value_bytes};
-ghost use Rattle.value_pins.specs.Pins.{IsPinned, PutsText, all_frags, pairs_shown};
+ghost use Rattle.any_wire.specs.Sends.{PutsText};
+ghost use Rattle.frag_value.specs.Pins.{IsPinned, all_frags, pairs_shown};
 
 use crate::putting::{put_bytes, put_head};
+use crate::values::put_value;
 use any_wire::{MOST_PUT, WireCalls};
+use frag_value::PinnedPair;
 use pinned_pool::{Pool, PoolName, PoolSeat};
-use value_pins::{PinnedPair, put_value};
 
 // Puts the request that sets a key to its value.
 fn put_pair<N: PoolName, W: Drop, C: WireCalls<W>>(

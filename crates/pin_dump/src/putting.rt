@@ -2,7 +2,7 @@
 ghost use Rattle.std.specs.Prelude.{◌≡◌, ◌∷◌, ◌++◌};
 ghost use Rattle.std.specs.Fmt.{decimal};
 ghost use Rattle.flake_model.specs.Resp.{crlf};
-ghost use Rattle.value_pins.specs.Pins.{PutsText};
+ghost use Rattle.any_wire.specs.Sends.{PutsText};
 
 use any_wire::{MOST_PUT, WireCalls, put_unless_failed};
 use resp_text::line;

@@ -2,12 +2,12 @@
 ghost use Rattle.std.specs.Prelude.{◌≡◌, length};
 ghost use Rattle.dump_model.specs.Dump.{Pair};
 ghost use Rattle.resp_text.specs.Sizes.{fitted};
-ghost use Rattle.value_pins.specs.Pins.{KeyFrags};
+ghost use Rattle.frag_value.specs.Pins.{KeyFrags};
 ghost use Rattle.pin_dump.specs.Dumps.{pair_length, pairs_length};
 
+use frag_value::PinnedPair;
 use pinned_pool::PoolName;
 use resp_text::line_size;
-use value_pins::PinnedPair;
 
 // Of the request that sets a key to its value.
 fn pair_size<N: PoolName>(pair: &PinnedPair<N>) -> u64

@@ -3,15 +3,15 @@ ghost use Rattle.std.specs.Prelude.{◌≡◌, ◌+◌, ◌*◌, ◌≤◌, [], 
 ghost use Rattle.pin_core.specs.Buffers.{buffers};
 ghost use Rattle.dump_model.specs.Dump.{pairs_text};
 ghost use Rattle.pin_dump.specs.Dumps.{TookDump, HasTakenHolds, HoldsFor, KeepsDeeds};
-ghost use Rattle.value_pins.specs.Pins.{IsPinned, all_frags, pairs_shown};
+ghost use Rattle.frag_value.specs.Pins.{IsPinned, all_frags, pairs_shown};
 
 use crate::giving::give_back;
 use flake_base::Memory;
+use frag_value::PinnedPair;
 use order_book::{Book, BookName, SessionSeat};
 use pinned_pool::{Pool, PoolName, PoolSeat};
 use shard_store::{ShardImage, Store};
 use std::sync::Wait;
-use value_pins::PinnedPair;
 
 /// Pins the values of all shards, and shows the session their lists. After want of memory the pairs are those whose
 /// holds the seat has.

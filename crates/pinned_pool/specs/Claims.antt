@@ -1,5 +1,5 @@
 -- How a claim goes over the buffers of a class.
-use Rattle.std.specs.Prelude.{◌≡◌, ℕ, suc, ◌+◌, ◌<◌, List, [], ◌∷◌, ◌++◌, length, false}
+use Rattle.std.specs.Prelude.{◌≡◌, ℕ, suc, ◌+◌, ◌<◌, List, [], ◌∷◌, ◌++◌, length, false, ⊤}
 use Rattle.view_sums.specs.Total.{total}
 use Rattle.pin_core.specs.Holding.{Key, at}
 use Rattle.pin_core.specs.declared.sizes.Sizes.{Sizes}
@@ -20,7 +20,7 @@ count_of z Large = z.large
 
 -- buffers one after another from b on, each with a number other than 0
 abbrev pub LooksFrom : ℕ → List (ℕ × ℕ) → Type 0
-LooksFrom b [] = Unit {0}
+LooksFrom b [] = ⊤
 LooksFrom b (l ∷ ls) = (l.0 ≡ b) × (0 < l.1) × LooksFrom (suc b) ls
 
 -- the seat with more looks

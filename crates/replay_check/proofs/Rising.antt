@@ -3,6 +3,7 @@ use Rattle.std.proofs.Common.{◌≡◌, ℕ, ◌+◌, ◌<◌, ◌≤◌, ◌�
 use Rattle.std.proofs.Common.{◌++◌, Some, None, length, slice_get, arith, refl, ap, sym, ◌∙◌, subst}
 use Rattle.std.proofs.lemmas.Bool.{cond_both}
 use Rattle.std.specs.List.{AllByRecursion, filter}
+use Rattle.std.specs.Prelude.{⊤}
 use Rattle.flake_base.specs.declared.journal.Entry.{Entry}
 use Rattle.flake_model.specs.Store.{Operation}
 use Rattle.flake_model.specs.Command.{Command, parts}
@@ -17,7 +18,7 @@ Later first step = IsBefore first.0 step.0
 
 -- each step is before those behind it
 abbrev pub AreRising : List Step → Type 0
-AreRising [] = Unit {0}
+AreRising [] = ⊤
 AreRising (step ∷ steps) = AllByRecursion (Later step) steps × AreRising steps
 
 -- what holds of each part from one on holds of those of a call

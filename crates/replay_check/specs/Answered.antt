@@ -1,5 +1,5 @@
 -- What a journal answers to inputs.
-use Rattle.std.specs.Prelude.{◌≡◌, ℕ, List, Some, length, map, slice_get}
+use Rattle.std.specs.Prelude.{◌≡◌, ℕ, List, Some, length, map, slice_get, ⊤}
 use Rattle.flake_base.specs.declared.journal.Entry.{Entry}
 use Rattle.flake_model.specs.Command.{Command}
 use Rattle.flake_model.specs.Journal.{wire_text, IsOrderly}
@@ -31,4 +31,4 @@ pub record IsBadJournal (inputs : List (List ℕ)) (journal : List (List Entry))
 -- an error but for want of memory is that of a bad journal
 abbrev pub IsRefusal : List (List ℕ) → List (List Entry) → AnswerError → Type 0
 IsRefusal inputs journal (BadJournal shard place) = IsBadJournal inputs journal shard place
-IsRefusal inputs journal Memory = Unit {0}
+IsRefusal inputs journal Memory = ⊤

@@ -1,5 +1,5 @@
 -- Why a replay stops.
-use Rattle.std.specs.Prelude.{◌≡◌, ℕ, ◌<◌, ◌≤◌, List, Some, length, slice_get}
+use Rattle.std.specs.Prelude.{◌≡◌, ℕ, ◌<◌, ◌≤◌, List, Some, length, slice_get, ⊤}
 use Rattle.flake_base.specs.declared.journal.Entry.{Entry}
 use Rattle.flake_model.specs.Command.{Command}
 use Rattle.replay_check.specs.InOrder.{IsInOrder, AreInOrder, IsFirstFault}
@@ -17,12 +17,12 @@ pub record IsFirstIn (sessions : List (List Command)) (shards shard : ℕ) (hist
 abbrev pub IsFaultIn : List (List Command) → ℕ → ℕ → List Entry → AnswerError → Type 0
 IsFaultIn sessions shards shard history (BadJournal other place) =
     (other ≡ shard) × IsFirstIn sessions shards shard history place
-IsFaultIn sessions shards shard history Memory = Unit {0}
+IsFaultIn sessions shards shard history Memory = ⊤
 
 -- an error of a journal but for want of memory
 abbrev pub IsFaultOf : List (List Command) → List (List Entry) → AnswerError → Type 0
 IsFaultOf sessions journal (BadJournal shard place) = IsFirstFault sessions journal shard place
-IsFaultOf sessions journal Memory = Unit {0}
+IsFaultOf sessions journal Memory = ⊤
 
 -- each shard's history is in order
 abbrev pub AllInOrder : List (List Command) → List (List Entry) → Type 0

@@ -1,5 +1,5 @@
 -- What a device gathers at the segments of a layout.
-use Rattle.std.specs.Prelude.{◌≡◌, ℕ, ◌+◌, ◌%◌, ◌≤◌, nat_le, if◌then◌else◌, List, [], length, take, drop}
+use Rattle.std.specs.Prelude.{◌≡◌, ℕ, ◌+◌, ◌%◌, ◌≤◌, nat_le, if◌then◌else◌, List, [], length, take, drop, ⊤}
 use Rattle.std.specs.List.{flat_map}
 use Rattle.flake_base.specs.declared.segment.Seg.{Seg}
 use Rattle.reply_layout.specs.Pieces.{Piece, plain, stored, piece_bytes}
@@ -33,5 +33,5 @@ pub record IsStaged (read : Reading) (stage : List ℕ) (text : List ℕ) : Type
 
 -- each stored piece lies at its address
 abbrev pub IsThere : Reading → Piece → Type 0
-IsThere read (plain bytes) = Unit {0}
+IsThere read (plain bytes) = ⊤
 IsThere read (stored address bytes) = read address (length bytes) ≡ bytes

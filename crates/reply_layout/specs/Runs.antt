@@ -1,5 +1,5 @@
 -- How many runs of copied bytes a text has, and which values a reply may have.
-use Rattle.std.specs.Prelude.{◌≡◌, ℕ, zero, suc, ◌+◌, ◌*◌, ◌^◌, ◌<◌, ◌≤◌, List, [], ◌∷◌, length, Option, None, Some}
+use Rattle.std.specs.Prelude.{◌≡◌, ℕ, zero, suc, ◌+◌, ◌*◌, ◌^◌, ◌<◌, ◌≤◌, List, [], ◌∷◌, length, Option, None, Some, ⊤}
 use Rattle.flake_model.specs.Deed.{Deed}
 use Rattle.flake_model.specs.Fragments.{fragment_limit}
 use Rattle.flake_base.specs.Limits.{value_limit}
@@ -25,7 +25,7 @@ pub record IsWholeValue (deed : Deed) (bytes : List ℕ) : Type 0 where
 
 -- the values of a list of items
 abbrev pub AreWholeValues : List (Option (List ℕ)) → List (Option Deed) → Type 0
-AreWholeValues [] deeds = Unit {0}
+AreWholeValues [] deeds = ⊤
 AreWholeValues (None ∷ items) [] = AreWholeValues items []
 AreWholeValues (None ∷ items) (deed ∷ deeds) = AreWholeValues items deeds
 AreWholeValues (Some bytes ∷ items) [] = ⊥
@@ -44,10 +44,10 @@ pub record IsWithinNeed (need : Need) (stage : List ℕ) (placings : List Placin
 
 -- a reply that is one short line, in no stored fragment
 abbrev pub IsLine : Reply → Type 0
-IsLine ok = Unit {0}
-IsLine pong = Unit {0}
-IsLine (error kind) = Unit {0}
+IsLine ok = ⊤
+IsLine pong = ⊤
+IsLine (error kind) = ⊤
 IsLine (int n) = n < 2 ^ 64
 IsLine (bulk bytes) = ⊥
-IsLine null = Unit {0}
+IsLine null = ⊤
 IsLine (array items) = ⊥

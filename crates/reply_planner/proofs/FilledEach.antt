@@ -163,3 +163,21 @@ filled_all text staged i old now all was = record {
         ∙ part (drop (512 * j) text) 512 r n in_one
         ∙ ap (take n) (drop-drop r (512 * j) text)
         ∙ ap (λ a. take n (drop a text)) (let e : 512 * j + r ≡ k = omega arith in e)
+
+-- a text that begins another one, which is filled in
+pub filled_front : (text more staged : List ℕ) (old now : View) → take (length text) more ≡ text
+    → IsFilledWith more staged old now → IsFilledWith text staged old now
+filled_front text more staged old now front was = record {
+  text_is = λ k n in_one in_text. was.text_is k n in_one (omega (arith, in_text, longer))
+      ∙ sym (part more (length text) k n in_text) ∙ ap (λ l. take n (drop k l)) front;
+  long = λ k n in_one in_text some. was.long k n in_one (omega (arith, in_text, longer)) some;
+  holds = was.holds;
+  credits = was.credits;
+  claims = was.claims;
+  looks = was.looks;
+  returns = was.returns;
+  lasts = was.lasts;
+}
+  where
+    longer : length text ≤ length more
+    longer = omega (arith, ap length front, length-take (length text) more)

@@ -23,3 +23,4 @@ pub mod Unboxed
 pub mod UsedFirst
 pub mod Grown
 pub mod Gathered
+pub mod Compared

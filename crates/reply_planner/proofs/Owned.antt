@@ -46,7 +46,7 @@ pub asked-own : (b : ℕ) (bs : List ℕ) → times_asked (loose_key b) (keys_fo
 asked-own b [] = refl
 asked-own b (c ∷ bs) = omega (arith, asked_bit (eqb c b), asked-own b bs)
 
-asked-pinned : (b : ℕ) (bs : List ℕ) → times_asked (record { buffer = b; pinned = true }) (keys_for bs) ≡ 0
+pub asked-pinned : (b : ℕ) (bs : List ℕ) → times_asked (record { buffer = b; pinned = true }) (keys_for bs) ≡ 0
 asked-pinned b [] = refl
 asked-pinned b (c ∷ bs) = omega (arith, unasked_bit (eqb c b), asked-pinned b bs)
 

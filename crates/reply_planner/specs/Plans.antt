@@ -1,5 +1,5 @@
 -- What a plan keeps.
-use Rattle.std.specs.Prelude.{◌≡◌, ℕ, zero, suc, ◌+◌, ◌-◌, ◌*◌, ◌/◌, ◌^◌, ◌<◌, ◌≤◌, List, [], ◌∷◌, ◌++◌, Bool, true}
+use Rattle.std.specs.Prelude.{◌≡◌, ℕ, zero, suc, ◌+◌, ◌-◌, ◌*◌, ◌/◌, ◌^◌, ◌<◌, ◌≤◌, List, [], ◌∷◌, ◌++◌, Bool, true, ⊤}
 use Rattle.std.specs.Prelude.{false, nat_le, Option, None, Some, length, map}
 use Rattle.std.specs.List.{AllByRecursion}
 use Rattle.view_sums.specs.Total.{total, Each}
@@ -28,7 +28,7 @@ pub record LiesAt (z : Sizes) (hs : List Holding) (address : ℕ) (bytes : List 
 
 -- a piece that stays is kept
 abbrev pub StaysReadable : Sizes → ℕ → List Holding → Piece → Type 0
-StaysReadable z threshold hs (plain bytes) = Unit {0}
+StaysReadable z threshold hs (plain bytes) = ⊤
 StaysReadable z threshold hs (stored address bytes) = nat_le threshold (length bytes) ≡ true → LiesAt z hs address bytes
 
 -- whether the last run stays
@@ -48,13 +48,13 @@ stays_of threshold (Some b) = one_if (total (long_of threshold) b.frags)
 
 -- of the value that was begun, there is still room for the line end
 abbrev pub IsSmall : ℕ → Option Begun → Type 0
-IsSmall threshold None = Unit {0}
+IsSmall threshold None = ⊤
 IsSmall threshold (Some b) = (b.size ≤ value_limit) × (length b.frags ≤ frags_limit)
     × (total (short_of threshold) b.frags + 2 ≤ copied_of_extent b.extent)
 
 -- the last run of the value, where there is one, is short, or no byte was copied behind it
 abbrev pub IsClosed : ℕ → ℕ → Option Begun → Type 0
-IsClosed threshold since None = Unit {0}
+IsClosed threshold since None = ⊤
 IsClosed threshold since (Some b) = ends_long threshold b.frags ≡ true → since ≡ 0
 
 -- these pieces' bytes are copied or stay, and segments are laid out for all but the last copied bytes

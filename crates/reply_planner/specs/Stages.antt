@@ -1,5 +1,6 @@
 -- The staging buffers of a session.
 use Rattle.std.specs.Prelude.{◌≡◌, ℕ, ◌<◌, ◌≤◌, reverse, List, [], ◌∷◌, nat_lt, if◌then◌else◌, length, Result, Ok, Err}
+use Rattle.std.specs.Prelude.{⊤, slice_get, Some}
 use Rattle.view_sums.specs.Total.{total, Each}
 use Rattle.flake_base.specs.declared.segment.Seg.{Seg}
 use Rattle.pin_core.specs.Holding.{Holding, Key, at}
@@ -17,11 +18,11 @@ stage_size = 128
 
 -- no number is below the one before it
 abbrev pub IsFrom : ℕ → List ℕ → Type 0
-IsFrom a [] = Unit {0}
+IsFrom a [] = ⊤
 IsFrom a (b ∷ bs) = (a ≤ b) × IsFrom b bs
 
 abbrev pub IsOrdered : List ℕ → Type 0
-IsOrdered [] = Unit {0}
+IsOrdered [] = ⊤
 IsOrdered (b ∷ bs) = IsFrom b bs
 
 -- a stage's holds, which lie in descending order, and how many there is room for
@@ -37,11 +38,11 @@ AreEmpty text segments pins staged = (text ≡ []) × (segments ≡ []) × (pins
 
 -- each number is above the one before it
 abbrev pub IsAbove : ℕ → List ℕ → Type 0
-IsAbove a [] = Unit {0}
+IsAbove a [] = ⊤
 IsAbove a (b ∷ bs) = (a < b) × IsAbove b bs
 
 abbrev pub IsRising : List ℕ → Type 0
-IsRising [] = Unit {0}
+IsRising [] = ⊤
 IsRising (b ∷ bs) = IsAbove b bs
 
 -- a buffer among others that rise, in its place
@@ -85,6 +86,24 @@ abbrev pub stage_found_none : {A : Type 0} → Result A OpenError → ℕ
 stage_found_none (Ok a) = 0
 stage_found_none (Err (OpenError.NoBuffer none)) = 1
 stage_found_none (Err OpenError.Memory) = 0
+
+-- the seat has what it had, its holds perhaps in another order
+pub record IsReordered (old new : View) : Type 0 where
+  pub holds : (weight : Holding → ℕ) → total weight new.holds ≡ total weight old.holds
+  pub credits : new.credits ≡ old.credits
+  pub claims : new.claims ≡ old.claims
+  pub looks : new.looks ≡ old.looks
+  pub returns : new.returns ≡ old.returns
+  pub lasts : new.lasts ≡ old.lasts
+
+-- no number stands in both lists
+abbrev pub NoneInBoth : List ℕ → List ℕ → Type 0
+NoneInBoth one other = (k l n : ℕ) → slice_get one k ≡ Some n → slice_get other l ≡ Some n → ⊥
+
+-- nor in two of these
+abbrev pub StagesAreApart : List (List ℕ) → Type 0
+StagesAreApart stages = (i j k l n : ℕ) (one other : List ℕ) → slice_get stages i ≡ Some one
+    → slice_get stages j ≡ Some other → slice_get one k ≡ Some n → slice_get other l ≡ Some n → i ≡ j
 
 -- all holds of a stage were given back
 pub record IsClosed (stage : List ℕ) (old new : View) : Type 0 where

@@ -1,6 +1,7 @@
 //! Plans a reply: what is short is copied into staging buffers, what is long stays where it lies.
 #![tactic(auto)]
 
+mod comparing;
 mod copying;
 mod error;
 mod filling;

@@ -9,7 +9,7 @@ ghost use Rattle.reply_planner.specs.Parcels.{pinned_keys, IsLaid, Hands};
 ghost use Rattle.reply_planner.specs.Places.{reading, buffer_addresses, IsHeld};
 ghost use Rattle.reply_planner.specs.Stages.{stage_size, merged};
 
-use crate::filling::fill;
+use crate::filling::fill_words;
 use crate::lists::Lists;
 use crate::parcel::Parcel;
 use crate::stage::Stage;
@@ -75,7 +75,7 @@ pub(crate) fn pack<N: PoolName>(
     let mut own = own;
     let parts = &mut *lists;
     let used = parts.text.len().div_ceil(512);
-    fill(pool, seat, &parts.staged, &parts.text);
+    fill_words(pool, seat, &parts.staged, &mut parts.text);
     seat.is_seat();
     keep_used(stage, parts, used);
     pool.fetch(seat, &mut own, parts.staged.as_slice());

@@ -174,9 +174,9 @@ impl<N: PoolName> Stage<N> {
         }
     }
 
-    // Puts a hold in its place.
-    #[inline(always)]
-    pub(crate) fn put(&mut self, hold: Hold<N>)
+    // Puts a hold in its place, which is looked for from the end on.
+    #[inline(never)]
+    fn put_before(&mut self, hold: Hold<N>)
         requires staging { IsStaging N.sizes hold }
         requires room { length self.old + 1 ≤ stage_size }
         ensures { self.new ≡ inserted hold.buffer self.old }
@@ -186,6 +186,21 @@ impl<N: PoolName> Stage<N> {
             place -= 1;
         }
         insert_reserved(&mut self.free, place, hold);
+    }
+
+    // Puts a hold in its place. Most come to the end.
+    #[inline(always)]
+    pub(crate) fn put(&mut self, hold: Hold<N>)
+        requires staging { IsStaging N.sizes hold }
+        requires room { length self.old + 1 ≤ stage_size }
+        ensures { self.new ≡ inserted hold.buffer self.old }
+    {
+        let end = self.free.len();
+        if end > 0 && self.free[end - 1].buffer() < hold.buffer() {
+            self.put_before(hold);
+        } else {
+            insert_reserved(&mut self.free, end, hold);
+        }
     }
 
     // Puts several holds in their places.

@@ -1,183 +1,245 @@
 -- Words in one room.
-use Rattle.std.proofs.Common.{◌≡◌, ℕ, ◌+◌, ◌-◌, ◌<◌, ◌≤◌, List, [], ◌∷◌, ◌++◌, length, take, drop, get_or, slice_range}
-use Rattle.std.proofs.Common.{append_assoc, suc, zero, inl, inr, arith, refl, ap, sym, ◌∙◌, length-append}
+use Rattle.std.proofs.Common.{◌≡◌, ℕ, ◌+◌, ◌-◌, ◌<◌, ◌≤◌, List, [], ◌∷◌, ◌++◌, length, take, drop, get_or, slice_get}
+use Rattle.std.proofs.Common.{slice_range}
+use Rattle.std.proofs.Common.{Some, subst, append_assoc, suc, zero, inl, inr, arith, refl, ap, sym, ◌∙◌}
+use Rattle.std.proofs.Common.{length-append}
 use Rattle.std.proofs.lemmas.List.{take_all, take_at, drop_all, take-append-drop, take-append-le, drop-append-le}
-use Rattle.std.proofs.lemmas.List.{drop-take, drop-drop, length-take, length-drop}
+use Rattle.std.proofs.lemmas.List.{length-take, length-take-le, length-drop}
 use Rattle.flake_model.specs.Resp.{Words}
-use Rattle.resp_reader.specs.WordRoom.{Held, held, words_to, last_end, AreEnds, GrowsFrom}
+use Rattle.resp_reader.specs.declared.word_room.Span.{Span}
+use Rattle.resp_reader.specs.WordRoom.{held, words_at, last_end, word_start, AreSpans, GrowsFrom}
 
-pub start-le : (start : ℕ) (ends : List ℕ) (most : ℕ) → AreEnds start ends most → start ≤ most
+pub start-le : (start : ℕ) (spans : List Span) (most : ℕ) → AreSpans start spans most → start ≤ most
 start-le start [] most are = are
-start-le start (end ∷ ends) most are = let behind = start-le end ends most are.1 in omega (arith, are.0)
+start-le start (span ∷ spans) most are = let behind = start-le span.end spans most are.2 in
+    omega (arith, are.0, are.1)
 
-pub last_end-le : (start : ℕ) (ends : List ℕ) (most : ℕ) → AreEnds start ends most → last_end start ends ≤ most
+pub last_end-le : (start : ℕ) (spans : List Span) (most : ℕ) → AreSpans start spans most
+    → last_end start spans ≤ most
 last_end-le start [] most are = are
-last_end-le start (end ∷ ends) most are = last_end-le end ends most are.1
+last_end-le start (span ∷ spans) most are = last_end-le span.end spans most are.2
 
-pub ends_within : (start : ℕ) (ends : List ℕ) (most other : ℕ) → AreEnds start ends most → last_end start ends ≤ other
-    → AreEnds start ends other
-ends_within start [] most other are within = within
-ends_within start (end ∷ ends) most other are within = (are.0, ends_within end ends most other are.1 within)
+pub spans_within : (start : ℕ) (spans : List Span) (most other : ℕ) → AreSpans start spans most
+    → last_end start spans ≤ other → AreSpans start spans other
+spans_within start [] most other are within = within
+spans_within start (span ∷ spans) most other are within =
+    (are.0, are.1, spans_within span.end spans most other are.2 within)
 
-pub length-words_to : (start : ℕ) (ends bytes : List ℕ) → length (words_to start ends bytes) ≡ length ends
-length-words_to start [] bytes = refl
-length-words_to start (end ∷ ends) bytes = ap suc (length-words_to end ends bytes)
+pub length-words_at : (spans : List Span) (bytes : List ℕ) → length (words_at spans bytes) ≡ length spans
+length-words_at [] bytes = refl
+length-words_at (span ∷ spans) bytes = ap suc (length-words_at spans bytes)
 
 -- a word stays where more bytes come
-pub words_to-append : (start : ℕ) (ends bytes more : List ℕ) → AreEnds start ends (length bytes)
-    → words_to start ends (bytes ++ more) ≡ words_to start ends bytes
-words_to-append start [] bytes more are = refl
-words_to-append start (end ∷ ends) bytes more are =
-    let within : end ≤ length bytes = start-le end ends (length bytes) are.1 in
-    let word : slice_range (bytes ++ more) start end ≡ slice_range bytes start end
-    = ap (take (end - start)) (drop-append-le start bytes more (omega (arith, are.0)))
-    ∙ take-append-le (end - start) (drop start bytes) more (omega (arith, length-drop start bytes)) in
-    ap (λ w. w ∷ words_to end ends (bytes ++ more)) word ∙ ap (λ ws. slice_range bytes start end ∷ ws)
-    (words_to-append end ends bytes more are.1)
+pub words_at-append : (start : ℕ) (spans : List Span) (bytes more : List ℕ) → AreSpans start spans (length bytes)
+    → words_at spans (bytes ++ more) ≡ words_at spans bytes
+words_at-append start [] bytes more are = refl
+words_at-append start (span ∷ spans) bytes more are =
+    let within : span.end ≤ length bytes = start-le span.end spans (length bytes) are.2 in
+    let word : slice_range (bytes ++ more) span.start span.end ≡ slice_range bytes span.start span.end
+    = ap (take (span.end - span.start)) (drop-append-le span.start bytes more (omega (arith, are.1)))
+    ∙ take-append-le (span.end - span.start) (drop span.start bytes) more
+    (omega (arith, length-drop span.start bytes)) in
+    ap (λ w. w ∷ words_at spans (bytes ++ more)) word
+    ∙ ap (λ ws. slice_range bytes span.start span.end ∷ ws) (words_at-append span.end spans bytes more are.2)
 
 -- one word more
-pub words_to-push : (start : ℕ) (ends : List ℕ) (n : ℕ) (bytes : List ℕ)
-    → words_to start (ends ++ n ∷ []) bytes ≡ words_to start ends bytes ++ slice_range bytes (last_end start ends) n
-    ∷ []
-words_to-push start [] n bytes = refl
-words_to-push start (end ∷ ends) n bytes = ap (λ ws. slice_range bytes start end ∷ ws) (words_to-push end ends n bytes)
+pub words_at-push : (spans : List Span) (span : Span) (bytes : List ℕ)
+    → words_at (spans ++ span ∷ []) bytes ≡ words_at spans bytes ++ slice_range bytes span.start span.end ∷ []
+words_at-push [] span bytes = refl
+words_at-push (first ∷ spans) span bytes =
+    ap (λ ws. slice_range bytes first.start first.end ∷ ws) (words_at-push spans span bytes)
 
-pub last_end-push : (start : ℕ) (ends : List ℕ) (n : ℕ) → last_end start (ends ++ n ∷ []) ≡ n
-last_end-push start [] n = refl
-last_end-push start (end ∷ ends) n = last_end-push end ends n
+pub last_end-push : (start : ℕ) (spans : List Span) (span : Span) → last_end start (spans ++ span ∷ []) ≡ span.end
+last_end-push start [] span = refl
+last_end-push start (first ∷ spans) span = last_end-push first.end spans span
 
-pub ends_push : (start : ℕ) (ends : List ℕ) (n most : ℕ) → AreEnds start ends most → last_end start ends ≤ n → n ≤ most
-    → AreEnds start (ends ++ n ∷ []) most
-ends_push start [] n most are from to = (from, to)
-ends_push start (end ∷ ends) n most are from to = (are.0, ends_push end ends n most are.1 from to)
+pub spans_push : (start : ℕ) (spans : List Span) (span : Span) (most other : ℕ) → AreSpans start spans most
+    → last_end start spans ≤ span.start → span.start ≤ span.end → span.end ≤ other
+    → AreSpans start (spans ++ span ∷ []) other
+spans_push start [] span most other are from ordered to = (from, ordered, to)
+spans_push start (first ∷ spans) span most other are from ordered to =
+    (are.0, are.1, spans_push first.end spans span most other are.2 from ordered to)
 
--- the word at a place lies between the end before it and its own
-pub word_at : (start : ℕ) (ends bytes : List ℕ) (i : ℕ) → i < length ends
-    → get_or (words_to start ends bytes) i [] ≡ slice_range bytes (get_or (start ∷ ends) i 0) (get_or ends i 0)
-word_at start [] bytes i below = absurd (omega arith)
-word_at start (end ∷ ends) bytes zero below = refl
-word_at start (end ∷ ends) bytes (suc i) below = word_at end ends bytes i (omega arith)
+pub words_at-take : (spans : List Span) (bytes : List ℕ) (n : ℕ) → words_at (take n spans) bytes
+    ≡ take n (words_at spans bytes)
+words_at-take spans bytes zero = refl
+words_at-take [] bytes (suc n) = refl
+words_at-take (span ∷ spans) bytes (suc n) = ap (λ ws. slice_range bytes span.start span.end ∷ ws)
+    (words_at-take spans bytes n)
 
-pub end_at : (start : ℕ) (ends : List ℕ) (most i : ℕ) → AreEnds start ends most → i < length ends
-    → (get_or (start ∷ ends) i 0 ≤ get_or ends i 0) × (get_or ends i 0 ≤ most)
-end_at start [] most i are below = absurd (omega arith)
-end_at start (end ∷ ends) most zero are below = (are.0, start-le end ends most are.1)
-end_at start (end ∷ ends) most (suc i) are below = end_at end ends most i are.1 (omega arith)
+pub spans_take : (start : ℕ) (spans : List Span) (most n : ℕ) → AreSpans start spans most
+    → AreSpans start (take n spans) most
+spans_take start spans most zero are = start-le start spans most are
+spans_take start [] most (suc n) are = are
+spans_take start (span ∷ spans) most (suc n) are = (are.0, are.1, spans_take span.end spans most n are.2)
 
-pub words_to-take : (start : ℕ) (ends bytes : List ℕ) (n : ℕ) → words_to start (take n ends) bytes
-    ≡ take n (words_to start ends bytes)
-words_to-take start ends bytes zero = refl
-words_to-take start [] bytes (suc n) = refl
-words_to-take start (end ∷ ends) bytes (suc n) = ap (λ ws. slice_range bytes start end ∷ ws)
-    (words_to-take end ends bytes n)
+-- a word lies behind those before it
+pub word_start-le : (start : ℕ) (spans : List Span) (most n : ℕ) → AreSpans start spans most
+    → (last_end start (take n spans) ≤ word_start start spans n) × (word_start start spans n ≤ most)
+word_start-le start [] most zero are = (omega arith, are)
+word_start-le start [] most (suc n) are = (omega arith, are)
+word_start-le start (span ∷ spans) most zero are =
+    (are.0, let behind = start-le span.end spans most are.2 in omega (arith, are.1))
+word_start-le start (span ∷ spans) most (suc n) are = word_start-le span.end spans most n are.2
 
-pub ends_take : (start : ℕ) (ends : List ℕ) (most n : ℕ) → AreEnds start ends most → AreEnds start (take n ends) most
-ends_take start ends most zero are = start-le start ends most are
-ends_take start [] most (suc n) are = are
-ends_take start (end ∷ ends) most (suc n) are = (are.0, ends_take end ends most n are.1)
-
--- what stands behind the first words begins with the next
-pub next_word : (start : ℕ) (ends bytes : List ℕ) (n : ℕ) → AreEnds start ends (length bytes) → n < length ends
-    → drop (last_end start (take n ends)) bytes ≡ get_or (words_to start ends bytes) n []
-    ++ drop (get_or ends n 0) bytes
+-- what stands from the start of a word on begins with it
+pub next_word : (start : ℕ) (spans : List Span) (bytes : List ℕ) (n : ℕ) → AreSpans start spans (length bytes)
+    → n < length spans → (rest : List ℕ) × (drop (word_start start spans n) bytes
+    ≡ get_or (words_at spans bytes) n [] ++ rest)
 next_word start [] bytes n are below = absurd (omega arith)
-next_word start (end ∷ ends) bytes zero are below =
-    let sum : start + (end - start) ≡ end = omega (arith, are.0) in
-    sym (take-append-drop (end - start) (drop start bytes)) ∙ ap (λ (t : List ℕ). slice_range bytes start end ++ t)
-    (drop-drop (end - start) start bytes ∙ ap (λ k. drop k bytes) sum)
-next_word start (end ∷ ends) bytes (suc n) are below = next_word end ends bytes n are.1 (omega arith)
+next_word start (span ∷ spans) bytes zero are below = (
+  drop (span.end - span.start) (drop span.start bytes),
+  sym (take-append-drop (span.end - span.start) (drop span.start bytes)),
+)
+next_word start (span ∷ spans) bytes (suc n) are below = next_word span.end spans bytes n are.2 (omega arith)
 
-pub last_end-at : (start : ℕ) (ends : List ℕ) → last_end start ends ≡ get_or (start ∷ ends) (length ends) 0
-last_end-at start [] = refl
-last_end-at start (end ∷ ends) = last_end-at end ends
+pub word_start-all : (start : ℕ) (spans : List Span) (n : ℕ) → length spans ≤ n
+    → word_start start spans n ≡ last_end start spans
+word_start-all start [] n all = refl
+word_start-all start (span ∷ spans) zero all = absurd (omega arith)
+word_start-all start (span ∷ spans) (suc n) all = word_start-all span.end spans n (omega arith)
+
+pub last_span : (start : ℕ) (spans : List Span) (n : ℕ) (span : Span) → suc n ≡ length spans
+    → slice_get spans n ≡ Some span → last_end start spans ≡ span.end
+last_span start [] n span is at = absurd (omega (arith, is))
+last_span start (first ∷ []) zero span is at = cc
+last_span start (first ∷ []) (suc n) span is at = absurd (omega (arith, is))
+last_span start (first ∷ next ∷ spans) zero span is at = absurd (omega (arith, is))
+last_span start (first ∷ next ∷ spans) (suc n) span is at =
+    last_span first.end (next ∷ spans) n span (omega (arith, is)) at
+
+pub last_of : (spans : List Span) (span : Span) → slice_get spans (length spans - 1) ≡ Some span
+    → span.end ≡ last_end 0 spans
+last_of [] span at = absurd cc
+last_of (first ∷ spans) span at =
+    sym (last_span 0 (first ∷ spans) (length (first ∷ spans) - 1) span (omega arith) at)
+
+pub start_at : (start : ℕ) (spans : List Span) (n : ℕ) (d : Span) → n < length spans
+    → word_start start spans n ≡ (get_or spans n d).start
+start_at start [] n d below = absurd (omega (arith, below))
+start_at start (first ∷ spans) zero d below = refl
+start_at start (first ∷ spans) (suc n) d below = start_at first.end spans n d (omega (arith, below))
+
+pub word_at : (spans : List Span) (bytes : List ℕ) (n : ℕ) (d : Span) → n < length spans
+    → get_or (words_at spans bytes) n [] ≡ slice_range bytes (get_or spans n d).start (get_or spans n d).end
+word_at [] bytes n d below = absurd (omega (arith, below))
+word_at (first ∷ spans) bytes zero d below = refl
+word_at (first ∷ spans) bytes (suc n) d below = word_at spans bytes n d (omega (arith, below))
+
+pub span_at : (start : ℕ) (spans : List Span) (most n : ℕ) (d : Span) → AreSpans start spans most
+    → n < length spans → ((get_or spans n d).start ≤ (get_or spans n d).end) × ((get_or spans n d).end ≤ most)
+span_at start [] most n d are below = absurd (omega (arith, below))
+span_at start (first ∷ spans) most zero d are below = (are.1, start-le first.end spans most are.2)
+span_at start (first ∷ spans) most (suc n) d are below = span_at first.end spans most n d are.2 (omega (arith, below))
 
 pub same_held : (words others : Words) (word other : List ℕ) → words ≡ others → word ≡ other → held words word
     ≡ held others other
 same_held words others word other same_words same_word = cc
 
 -- more bytes of the next word
-pub appended : (ends bytes more : List ℕ) → AreEnds 0 ends (length bytes)
-    → held (words_to 0 ends (bytes ++ more)) (drop (last_end 0 ends) (bytes ++ more)) ≡ held (words_to 0 ends bytes)
-    (drop (last_end 0 ends) bytes ++ more)
-appended ends bytes more are =
-    same_held _ _ _ _ (words_to-append 0 ends bytes more are)
-    (drop-append-le (last_end 0 ends) bytes more (last_end-le 0 ends (length bytes) are))
+pub appended : (spans : List Span) (bytes more : List ℕ) → AreSpans 0 spans (length bytes)
+    → held (words_at spans (bytes ++ more)) (drop (last_end 0 spans) (bytes ++ more)) ≡ held (words_at spans bytes)
+    (drop (last_end 0 spans) bytes ++ more)
+appended spans bytes more are =
+    same_held _ _ _ _ (words_at-append 0 spans bytes more are)
+    (drop-append-le (last_end 0 spans) bytes more (last_end-le 0 spans (length bytes) are))
 
-pub ends_more : (ends bytes more : List ℕ) → AreEnds 0 ends (length bytes) → AreEnds 0 ends (length (bytes ++ more))
-ends_more ends bytes more are = ends_within 0 ends (length bytes) (length (bytes ++ more)) are
-    (omega (arith, last_end-le 0 ends (length bytes) are, length-append bytes more))
+pub spans_more : (spans : List Span) (bytes more : List ℕ) → AreSpans 0 spans (length bytes)
+    → AreSpans 0 spans (length (bytes ++ more))
+spans_more spans bytes more are = spans_within 0 spans (length bytes) (length (bytes ++ more)) are
+    (omega (arith, last_end-le 0 spans (length bytes) are, length-append bytes more))
 
 -- the next word ends
-pub ended : (ends bytes : List ℕ) (n : ℕ) → AreEnds 0 ends (length bytes) → n ≡ length bytes
-    → held (words_to 0 (ends ++ n ∷ []) bytes) (drop (last_end 0 (ends ++ n ∷ [])) bytes)
-    ≡ held (words_to 0 ends bytes ++ drop (last_end 0 ends) bytes ∷ []) []
-ended ends bytes n are n_is =
-    let start = last_end 0 ends in
-    let word : slice_range bytes start n ≡ drop start bytes = take_all (n - start) (drop start bytes)
-    (omega (arith, length-drop start bytes)) in
-    same_held _ _ _ _ (words_to-push 0 ends n bytes ∙ ap (λ w. words_to 0 ends bytes ++ w ∷ []) word)
-    (ap (λ k. drop k bytes) (last_end-push 0 ends n) ∙ drop_all n bytes (omega arith))
+pub ended : (spans : List Span) (bytes : List ℕ) (span : Span) → AreSpans 0 spans (length bytes)
+    → span.start ≡ last_end 0 spans → span.end ≡ length bytes
+    → held (words_at (spans ++ span ∷ []) bytes) (drop (last_end 0 (spans ++ span ∷ [])) bytes)
+    ≡ held (words_at spans bytes ++ drop (last_end 0 spans) bytes ∷ []) []
+ended spans bytes span are from to =
+    let word : slice_range bytes span.start span.end ≡ drop span.start bytes =
+    take_all (span.end - span.start) (drop span.start bytes) (omega (arith, length-drop span.start bytes)) in
+    same_held _ _ _ _ (words_at-push spans span bytes
+    ∙ ap (λ w. words_at spans bytes ++ w ∷ []) (word ∙ ap (λ k. drop k bytes) from))
+    (ap (λ k. drop k bytes) (last_end-push 0 spans span) ∙ drop_all span.end bytes (omega arith))
 
 get_or-seam : (words others : Words) (word : List ℕ) → get_or (words ++ word ∷ others) (length words) [] ≡ word
 get_or-seam [] others word = refl
 get_or-seam (first ∷ words) others word = get_or-seam words others word
 
--- what stands behind the words that stay begins with what stays of the next
-grown_word : (ends bytes : List ℕ) (words : Words) (word : List ℕ) → AreEnds 0 ends (length bytes)
-    → GrowsFrom words word (words_to 0 ends bytes) (drop (last_end 0 ends) bytes)
-    → (rest : List ℕ) × (drop (last_end 0 (take (length words) ends)) bytes ≡ word ++ rest)
-grown_word ends bytes words word are (inl same) =
-    let count : length ends ≡ length words = sym (length-words_to 0 ends bytes) ∙ ap length same.1 in
-    (same.0, ap (λ es. drop (last_end 0 es) bytes) (take_all (length words) ends (omega arith)) ∙ same.2)
-grown_word ends bytes words word are (inr more) =
-    let news = words_to 0 ends bytes in
-    let count : length words < length ends =
-    omega (arith, length-words_to 0 ends bytes, ap length more.2, length-append words ((word ++ more.0) ∷ more.1))
-    in
+-- what stands from the word behind those that stay begins with what stays of it
+grown_word : (spans : List Span) (bytes : List ℕ) (words : Words) (word : List ℕ) → AreSpans 0 spans (length bytes)
+    → GrowsFrom words word (words_at spans bytes) (drop (last_end 0 spans) bytes)
+    → (rest : List ℕ) × (drop (word_start 0 spans (length words)) bytes ≡ word ++ rest)
+grown_word spans bytes words word are (inl same) =
+    let count : length spans ≡ length words = sym (length-words_at spans bytes) ∙ ap length same.1 in
+    (same.0, ap (λ k. drop k bytes) (word_start-all 0 spans (length words) (omega arith)) ∙ same.2)
+grown_word spans bytes words word are (inr more) =
+    let news = words_at spans bytes in
+    let count : length words < length spans =
+    omega (arith, length-words_at spans bytes, ap length more.2, length-append words ((word ++ more.0) ∷ more.1)) in
     let next : get_or news (length words) [] ≡ word ++ more.0 = ap (λ ws. get_or ws (length words) []) more.2
-    ∙ get_or-seam words more.1 (word ++ more.0) in (
-      more.0 ++ drop (get_or ends (length words) 0) bytes,
-      next_word 0 ends bytes (length words) are count
-          ∙ ap (λ (t : List ℕ). t ++ drop (get_or ends (length words) 0) bytes) next ∙ append_assoc word more.0 _,
+    ∙ get_or-seam words more.1 (word ++ more.0) in
+    let found = next_word 0 spans bytes (length words) are count in (
+      more.0 ++ found.0,
+      found.1 ∙ ap (λ (t : List ℕ). t ++ found.0) next ∙ append_assoc word more.0 _,
     )
 
-grown_words : (ends bytes : List ℕ) (words : Words) (word : List ℕ)
-    → GrowsFrom words word (words_to 0 ends bytes) (drop (last_end 0 ends) bytes)
-    → take (length words) (words_to 0 ends bytes) ≡ words
-grown_words ends bytes words word (inl same) = ap (take (length words)) same.1 ∙ take_all (length words) words
+grown_words : (spans : List Span) (bytes : List ℕ) (words : Words) (word : List ℕ)
+    → GrowsFrom words word (words_at spans bytes) (drop (last_end 0 spans) bytes)
+    → take (length words) (words_at spans bytes) ≡ words
+grown_words spans bytes words word (inl same) = ap (take (length words)) same.1 ∙ take_all (length words) words
     (omega arith)
-grown_words ends bytes words word (inr more) = ap (take (length words)) more.2 ∙ take_at words _ (length words) refl
+grown_words spans bytes words word (inr more) = ap (take (length words)) more.2 ∙ take_at words _ (length words) refl
 
-pub ends_back : (ends bytes : List ℕ) (count len : ℕ) → AreEnds 0 ends (length bytes)
-    → AreEnds 0 (take count ends) (length (take (last_end 0 (take count ends) + len) bytes))
-ends_back ends bytes count len are =
-    let some = ends_take 0 ends (length bytes) count are in
-    ends_within 0 (take count ends) (length bytes) _ some
+front_length : (spans : List Span) (bytes : List ℕ) (n : ℕ) → AreSpans 0 spans (length bytes)
+    → length (take (last_end 0 (take n spans)) bytes) ≡ last_end 0 (take n spans)
+front_length spans bytes n are = length-take-le (last_end 0 (take n spans)) bytes
+    (last_end-le 0 (take n spans) (length bytes) (spans_take 0 spans (length bytes) n are))
+
+-- the bytes that stay where so many words stay, and so many bytes of the next
+abbrev pub kept_bytes : List Span → List ℕ → ℕ → ℕ → List ℕ
+kept_bytes spans bytes count len =
+    take (last_end 0 (take count spans) + len)
+    (take (last_end 0 (take count spans)) bytes ++ drop (word_start 0 spans count) bytes)
+
+pub spans_back : (spans : List Span) (bytes : List ℕ) (count len : ℕ) → AreSpans 0 spans (length bytes)
+    → AreSpans 0 (take count spans) (length (kept_bytes spans bytes count len))
+spans_back spans bytes count len are =
+    let start = last_end 0 (take count spans) in
+    let front = take start bytes in
+    let behind = drop (word_start 0 spans count) bytes in
+    spans_within 0 (take count spans) (length bytes) _ (spans_take 0 spans (length bytes) count are)
     (omega (
       arith,
-      last_end-le 0 (take count ends) (length bytes) some,
-      length-take
-          (last_end 0 (take count ends) + len) bytes,
+      front_length spans bytes count are,
+      length-append front behind,
+      length-take (start + len) (front ++ behind),
     ))
 
 -- back at so many words, and so much of the next
-pub back_at : (ends bytes : List ℕ) (words : Words) (word : List ℕ) → AreEnds 0 ends (length bytes)
-    → GrowsFrom words word (words_to 0 ends bytes) (drop (last_end 0 ends) bytes)
-    → (let start : ℕ = last_end 0 (take (length words) ends) in
-    held (words_to 0 (take (length words) ends) (take (start + length word) bytes))
-    (drop start (take (start + length word) bytes)) ≡ held words word)
-back_at ends bytes words word are grown =
-    let some = take (length words) ends in
+pub back_at : (spans : List Span) (bytes : List ℕ) (words : Words) (word : List ℕ) → AreSpans 0 spans (length bytes)
+    → GrowsFrom words word (words_at spans bytes) (drop (last_end 0 spans) bytes)
+    → held (words_at (take (length words) spans) (kept_bytes spans bytes (length words) (length word)))
+    (drop (last_end 0 (take (length words) spans)) (kept_bytes spans bytes (length words) (length word)))
+    ≡ held words word
+back_at spans bytes words word are grown =
+    let some = take (length words) spans in
     let start = last_end 0 some in
-    let front = take (start + length word) bytes in
-    let found = grown_word ends bytes words word are grown in
-    let kept : words_to 0 some bytes ≡ words_to 0 some front
-    = ap (words_to 0 some) (sym (take-append-drop (start + length word) bytes)) ∙ words_to-append 0 some front
-    (drop (start + length word) bytes) (ends_back ends bytes (length words) (length word) are) in
-    let here : words_to 0 some front ≡ words = sym kept ∙ words_to-take 0 ends bytes (length words)
-    ∙ grown_words ends bytes words word grown in
-    same_held _ _ _ _ here (drop-take start (length word) bytes ∙ ap (take (length word)) found.1
-    ∙ take_at word found.0 (length word) refl)
+    let front = take start bytes in
+    let found = grown_word spans bytes words word are grown in
+    let long : length front ≡ start = front_length spans bytes (length words) are in
+    let kept : kept_bytes spans bytes (length words) (length word) ≡ front ++ word =
+    ap (λ (t : List ℕ). take (start + length word) (front ++ t)) found.1
+    ∙ ap (take (start + length word)) (sym (append_assoc front word found.0))
+    ∙ take_at (front ++ word) found.0 (start + length word) (omega (arith, long, length-append front word)) in
+    let within : AreSpans 0 some (length front) = spans_within 0 some (length bytes) (length front)
+    (spans_take 0 spans (length bytes) (length words) are) (omega (arith, long)) in
+    let same : words_at some bytes ≡ words_at some front = ap (words_at some) (sym (take-append-drop start bytes))
+    ∙ words_at-append 0 some front (drop start bytes) within in
+    let here : words_at some (front ++ word) ≡ words = words_at-append 0 some front word within ∙ sym same
+    ∙ words_at-take spans bytes (length words) ∙ grown_words spans bytes words word grown in
+    let rest : drop start (front ++ word) ≡ word = drop-append-le start front word (omega (arith, long))
+    ∙ ap (λ (t : List ℕ). t ++ word) (drop_all start front (omega (arith, long))) in
+    ap (λ b. held (words_at some b) (drop start b)) kept ∙ same_held _ _ _ _ here rest
 
 -- growing goes on
 pub grows_on : (words : Words) (word : List ℕ) (mids : Words) (mid : List ℕ) (news : Words) (new : List ℕ)
@@ -207,21 +269,19 @@ grows_word words word mids mid more news new grown none news_are =
     grows_on words word mids mid news new grown
     (inr (more, [], news_are ∙ ap (λ (w : List ℕ). mids ++ (w ++ more) ∷ []) (sym none)))
 
--- a whole word more
-pub pushed : (ends bytes word : List ℕ) (n : ℕ) → AreEnds 0 ends (length bytes) → drop (last_end 0 ends) bytes ≡ []
-    → n ≡ length (bytes ++ word)
-    → held (words_to 0 (ends ++ n ∷ []) (bytes ++ word)) (drop (last_end 0 (ends ++ n ∷ [])) (bytes ++ word))
-    ≡ held (words_to 0 ends bytes ++ word ∷ []) []
-pushed ends bytes word n are none n_is =
-    let more : held (words_to 0 ends (bytes ++ word)) (drop (last_end 0 ends) (bytes ++ word))
-    ≡ held (words_to 0 ends bytes) word = appended ends bytes word are
-    ∙ ap (λ w. held (words_to 0 ends bytes) (w ++ word)) none in
-    ended ends (bytes ++ word) n (ends_more ends bytes word are) n_is
-    ∙ ap (λ (r : Held). held (r.words ++ r.word ∷ []) []) more
+pub same_grows : (words others : Words) (word other : List ℕ) (news more : Words) (new end : List ℕ) → words ≡ others
+    → word ≡ other → news ≡ more → new ≡ end → GrowsFrom words word news new → GrowsFrom others other more end
+same_grows words others word other news more new end a b c d grows =
+    subst (λ (w : List ℕ). GrowsFrom others other more w) d
+    (subst (λ (ws : Words). GrowsFrom others other ws new) c
+    (subst (λ (w : List ℕ). GrowsFrom others w news new) b
+    (subst (λ (ws : Words). GrowsFrom ws word news new) a grows)))
 
-pub ends_pushed : (ends bytes word : List ℕ) (n : ℕ) → AreEnds 0 ends (length bytes) → n ≡ length (bytes ++ word)
-    → AreEnds 0 (ends ++ n ∷ []) (length (bytes ++ word))
-ends_pushed ends bytes word n are n_is =
-    let more = ends_more ends bytes word are in
-    ends_push 0 ends n (length (bytes ++ word)) more
-    (omega (arith, last_end-le 0 ends (length (bytes ++ word)) more)) (omega arith)
+pub no_word : (spans : List Span) (bytes : List ℕ) (n : ℕ) → AreSpans 0 spans (length bytes)
+    → drop (last_end 0 spans) bytes ≡ [] → n ≡ length bytes → last_end 0 spans ≡ n
+no_word spans bytes n are none is = omega (
+  arith,
+  last_end-le 0 spans (length bytes) are,
+  ap length none,
+  length-drop (last_end 0 spans) bytes,
+)

@@ -8,7 +8,8 @@ use Rattle.flake_model.specs.Fronts.{array_front}
 use Rattle.flake_model.proofs.Streams.{all_append}
 use Rattle.resp_reader.specs.declared.begun.State.{State}
 use Rattle.resp_reader.specs.declared.begun.State.TheVariants.{AtWord, Whole}
-use Rattle.resp_reader.specs.Begun.{AreWordsOf, IsState, state_front}
+use Rattle.resp_reader.specs.WordRoom.{AreWordsOf}
+use Rattle.resp_reader.specs.Begun.{IsState, state_front}
 
 pub words_on : (count : ℕ) (words : Words) (word : List ℕ) → AreWordsOf count words → IsWord word
     → length words < count → AreWordsOf count (words ++ word ∷ [])

@@ -1,5 +1,5 @@
 -- An element as far as it came.
-use Rattle.std.specs.Prelude.{◌≡◌, ℕ, ◌+◌, ◌<◌, ◌≤◌, List, [], ◌∷◌, ◌++◌, length}
+use Rattle.std.specs.Prelude.{◌≡◌, ℕ, ◌+◌, ◌<◌, ◌≤◌, List, [], ◌∷◌, ◌++◌, length, ⊤}
 use Rattle.std.specs.Fmt.{decimal}
 use Rattle.std.specs.List.{AllByRecursion}
 use Rattle.resp_reader.specs.declared.head.Head.TheVariants.{Count, Length}
@@ -33,11 +33,6 @@ pub record IsArray (count : ℕ) (words : Words) : Type 0 where
   pub less : length words < count
   pub most : count ≤ 1024
 
--- the words so far are allowed, and maybe all
-pub record AreWordsOf (count : ℕ) (words : Words) : Type 0 where
-  pub allowed : AllByRecursion IsWord words
-  pub most : length words ≤ count
-
 abbrev pub IsState : State → Words → List ℕ → Type 0
 IsState Start words word = (words ≡ []) × (word ≡ [])
 IsState (InCount digits) words word = (words ≡ []) × (word ≡ []) × IsDigits Count digits
@@ -52,14 +47,14 @@ IsState (Whole count) words word = AllByRecursion IsWord words × (length words 
 
 -- no element is whole
 abbrev pub IsUnfinished : State → Type 0
-IsUnfinished Start = Unit {0}
-IsUnfinished (InCount digits) = Unit {0}
-IsUnfinished (CountEnd digits) = Unit {0}
-IsUnfinished (AtWord count) = Unit {0}
-IsUnfinished (InLength count digits) = Unit {0}
-IsUnfinished (LengthEnd count len) = Unit {0}
-IsUnfinished (InWord count len) = Unit {0}
-IsUnfinished (WordEnd count) = Unit {0}
+IsUnfinished Start = ⊤
+IsUnfinished (InCount digits) = ⊤
+IsUnfinished (CountEnd digits) = ⊤
+IsUnfinished (AtWord count) = ⊤
+IsUnfinished (InLength count digits) = ⊤
+IsUnfinished (LengthEnd count len) = ⊤
+IsUnfinished (InWord count len) = ⊤
+IsUnfinished (WordEnd count) = ⊤
 IsUnfinished Null = ⊥
 IsUnfinished (Whole count) = ⊥
 
@@ -72,7 +67,7 @@ Moves old bytes new rest = (words : Words) (word : List ℕ) → IsState old wor
 abbrev pub Stops : State → List ℕ → Stop → Type 0
 Stops state bytes (Fault kind place) = (words : Words) (word : List ℕ) → IsState state words word
     → IsFaulty (state_front state words word ++ bytes) [] kind (length (state_front state words word) + place)
-Stops state bytes Memory = Unit {0}
+Stops state bytes Memory = ⊤
 
 abbrev pub begun_front : Begun → List ℕ
 begun_front begun = state_front begun.state begun.room.words begun.room.word
@@ -87,4 +82,4 @@ Grows old new = GrowsFrom old.room.words old.room.word new.room.words new.room.w
 abbrev pub Breaks : Begun → List ℕ → Stop → Type 0
 Breaks begun bytes (Fault kind place) = IsFaulty (begun_front begun ++ bytes) [] kind
     (length (begun_front begun) + place)
-Breaks begun bytes Memory = Unit {0}
+Breaks begun bytes Memory = ⊤

@@ -1,5 +1,5 @@
 -- The line that begins an array or a word, as far as it came.
-use Rattle.std.specs.Prelude.{◌≡◌, ℕ, ◌≤◌, List, [], ◌∷◌, ◌++◌, length}
+use Rattle.std.specs.Prelude.{◌≡◌, ℕ, ◌≤◌, List, [], ◌∷◌, ◌++◌, length, ⊤}
 use Rattle.std.specs.Fmt.{decimal}
 use Rattle.resp_reader.specs.declared.head.Head.{Head}
 use Rattle.resp_reader.specs.declared.head.Head.TheVariants.{Count, Length}
@@ -20,19 +20,19 @@ digits_text MinusOne = 45 ∷ 49 ∷ []
 
 -- only a count may be -1
 abbrev pub IsDigits : Head → Digits → Type 0
-IsDigits head Nothing = Unit {0}
+IsDigits head Nothing = ⊤
 IsDigits head (Number n) = n ≤ number_limit head
-IsDigits Count Minus = Unit {0}
-IsDigits Count MinusOne = Unit {0}
+IsDigits Count Minus = ⊤
+IsDigits Count MinusOne = ⊤
 IsDigits Length Minus = ⊥
 IsDigits Length MinusOne = ⊥
 
 -- the line may end here
 abbrev pub MayEnd : Digits → Type 0
 MayEnd Nothing = ⊥
-MayEnd (Number n) = Unit {0}
+MayEnd (Number n) = ⊤
 MayEnd Minus = ⊥
-MayEnd MinusOne = Unit {0}
+MayEnd MinusOne = ⊤
 
 -- no line of the head has this front and this byte behind it
 abbrev pub NoLine : Head → List ℕ → ℕ → Type 0

@@ -1,5 +1,5 @@
 -- Elements behind one another, as far as they came.
-use Rattle.std.specs.Prelude.{◌≡◌, ℕ, ◌+◌, ◌≤◌, ◌⊎◌, List, ◌∷◌, ◌++◌, length}
+use Rattle.std.specs.Prelude.{◌≡◌, ℕ, ◌+◌, ◌≤◌, ◌⊎◌, List, ◌∷◌, ◌++◌, length, ⊤}
 use Rattle.resp_reader.specs.declared.begun.Stop.{Stop}
 use Rattle.resp_reader.specs.declared.begun.Stop.TheVariants.{Fault, Memory}
 use Rattle.resp_reader.specs.declared.begun.Mark.{Mark}
@@ -54,4 +54,4 @@ pub record HasFault (old new : Parser) (bytes : List ℕ) (kind place : ℕ) : T
 
 abbrev pub StopsAt : Parser → Parser → List ℕ → Stop → Type 0
 StopsAt old new bytes (Fault kind place) = HasFault old new bytes kind place
-StopsAt old new bytes Memory = Unit {0}
+StopsAt old new bytes Memory = ⊤

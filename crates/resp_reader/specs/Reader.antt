@@ -1,5 +1,5 @@
 -- What was fed to a reader, and what it gives.
-use Rattle.std.specs.Prelude.{◌≡◌, ℕ, ◌+◌, ◌≤◌, ◌==◌, if◌then◌else◌, List, ◌++◌, length, Option, MatchOption}
+use Rattle.std.specs.Prelude.{◌≡◌, ℕ, ◌+◌, ◌≤◌, ◌==◌, if◌then◌else◌, List, ◌++◌, length, Option, MatchOption, ⊤}
 use Rattle.flake_base.specs.declared.session.End.{End}
 use Rattle.flake_base.specs.declared.session.End.TheVariants as ends
 use Rattle.flake_model.specs.Resp.{Words, Element, AllElements, stream, requests_of, IsElementFront, judged_bytes}
@@ -37,10 +37,10 @@ error_end Memory = ends.Memory
 
 -- an input that is too long is so behind all bytes that are judged
 abbrev pub IsErrorTaken : ReadError → Type 0
-IsErrorTaken (BadCount place) = Unit {0}
-IsErrorTaken (ExpectedBulk place) = Unit {0}
-IsErrorTaken (BadLength place) = Unit {0}
-IsErrorTaken (Inline place) = Unit {0}
+IsErrorTaken (BadCount place) = ⊤
+IsErrorTaken (ExpectedBulk place) = ⊤
+IsErrorTaken (BadLength place) = ⊤
+IsErrorTaken (Inline place) = ⊤
 IsErrorTaken (TooLong taken) = taken ≡ judged_bytes
 IsErrorTaken Memory = ⊥
 

@@ -10,7 +10,6 @@ ghost use Rattle.resp_reader.specs.WordRoom.{GrowsFrom};
 ghost use Rattle.resp_reader.specs.declared.begun.Stop.TheVariants.{Memory as OutOfMemory};
 
 use crate::head::{Digits, Head, line, line_end, strip, whole_line};
-use crate::whole::take_words;
 use crate::word_room::WordRoom;
 use flake_base::Memory;
 use std::alloc::{AllocError, Global};
@@ -265,7 +264,7 @@ impl Begun {
         let State::AtWord { count } = self.state else {
             return Ok(bytes);
         };
-        let rest = take_words(&mut self.room, count, bytes)?;
+        let rest = self.room.take_whole(count as usize, bytes)?;
         self.state = behind_words(count, self.room.count());
         Ok(rest)
     }
@@ -287,7 +286,7 @@ impl Begun {
             self.state = state;
             return Ok(rest);
         };
-        let rest = take_words(&mut self.room, count, rest)?;
+        let rest = self.room.take_whole(count as usize, rest)?;
         self.state = behind_words(count, self.room.count());
         Ok(rest)
     }

@@ -97,12 +97,23 @@ fn more(n: u32, head: Head, byte: u8) -> Option<Digits>
     Some(Digits::Number(next))
 }
 
+// The number that a digit is.
+#[inline(always)]
+fn digit(byte: u8) -> u32
+    requires from { 48 ≤ byte }
+    requires to { byte ≤ 57 }
+    ensures small { result < 10 }
+    ensures byte { byte ≡ 48 + result }
+{
+    (byte - b'0') as u32
+}
+
 fn digit_of(byte: u8) -> Option<u32>
     ensures some { IfSome result (λ digit. (digit < 10) × (byte ≡ 48 + digit)) }
     ensures none { IfNone result ((digit : ℕ) → digit < 10 → byte ≢ 48 + digit) }
 {
     if byte.is_ascii_digit() {
-        Some((byte - b'0') as u32)
+        Some(digit(byte))
     } else {
         None
     }
@@ -115,10 +126,10 @@ fn one_more(n: u32, limit: u32, byte: u8) -> Option<u32>
     ensures within { IfSome result (λ next. next ≤ limit) }
     ensures text { IfSome result (λ next. decimal next ≡ decimal n ++ byte ∷ []) }
 {
-    let Some(digit) = digit_of(byte) else {
+    if !byte.is_ascii_digit() {
         return None;
-    };
-    let next = n * 10 + digit;
+    }
+    let next = n * 10 + digit(byte);
     if n == 0 || next > limit {
         return None;
     }
@@ -183,14 +194,19 @@ fn short_line(n: u32, limit: u32, bytes: &[u8]) -> Option<(u32, &[u8])>
     ensures text { IfSome result (λ found. decimal n ++ bytes.now ≡ decimal found.0 ++ 13 ∷ 10 ∷ found.1.now) }
     ensures shorter { IfSome result (λ found. length found.1.now < length bytes.now) }
 {
-    match bytes {
-        [b'\r', b'\n', rest @ ..] => Some((n, rest)),
-        [byte, b'\r', b'\n', rest @ ..] => match one_more(n, limit, *byte) {
-            Some(next) => Some((next, rest)),
-            None => None,
-        },
-        _ => more_line(n, limit, bytes),
+    if let Some(behind) = line_end(bytes) {
+        return Some((n, behind));
     }
+    let Some((byte, rest)) = bytes.split_first() else {
+        return None;
+    };
+    let Some(next) = one_more(n, limit, *byte) else {
+        return None;
+    };
+    if let Some(behind) = line_end(rest) {
+        return Some((next, behind));
+    }
+    more_line(next, limit, rest)
 }
 
 /// A number that came with its whole line, and the bytes behind that.
@@ -203,10 +219,10 @@ pub fn whole_line(head: Head, bytes: &[u8]) -> Option<(u32, &[u8])>
     let Some((first, rest)) = bytes.split_first() else {
         return None;
     };
-    let Some(digit) = digit_of(*first) else {
+    if !first.is_ascii_digit() {
         return None;
-    };
-    short_line(digit, head.limit(), rest)
+    }
+    short_line(digit(*first), head.limit(), rest)
 }
 
 /// A line with the bytes behind it: the CR that ends it came, and the rest is behind that, or all bytes are the

@@ -1,9 +1,11 @@
 // The words of one request, in one room.
-ghost use Rattle.std.specs.Prelude.{◌≡◌, ◌<◌, ◌≤◌, ◌+◌, ◌++◌, ◌∷◌, [], List};
-ghost use Rattle.std.specs.Prelude.{ℕ, length, take, slice_index, slice_index_or, slice_range, OnOk, OnErr};
+ghost use Rattle.std.specs.Prelude.{◌≡◌, ◌<◌, ◌≤◌, ◌+◌, ◌^◌, ◌++◌, ◌∷◌, [], List};
+ghost use Rattle.std.specs.Prelude.{ℕ, length, take, drop, slice_index_or, slice_range, OnOk, OnErr, IfOk};
 ghost use Rattle.flake_model.specs.Resp.{Words};
-ghost use Rattle.resp_reader.specs.WordRoom.{AreEnds, GrowsFrom, last_end, words_to};
+ghost use Rattle.flake_model.specs.Fronts.{array_front};
+ghost use Rattle.resp_reader.specs.WordRoom.{AreSpans, AreWordsOf, Finds, GrowsFrom, last_end, word_start, words_at};
 
+use crate::whole::whole_word;
 use flake_base::Memory;
 use std::alloc::Global;
 use std::marker::Model;
@@ -17,40 +19,43 @@ pub const MOST: usize = 65_536;
 /// How many bytes of a word come before room is taken for all of it.
 pub const SOME: usize = 4096;
 
-/// Words behind one another, with where each ends, and the front of the next.
+/// Where a word lies.
+#[derive(Clone, Copy)]
+pub struct Span {
+    pub start: usize,
+    pub end: usize,
+}
+
+/// Words, with where each lies, and the front of the next. Between words that came together lie the bytes that stood
+/// there.
 #[derive(Drop)]
 pub struct WordRoom {
     bytes: Vec<u8>,
-    ends: Vec<usize>,
+    spans: Vec<Span>,
 }
 
 impl Model for WordRoom {
     ghost use Rattle.std.specs.Prelude.{length, drop};
-    ghost use Rattle.resp_reader.specs.WordRoom.{Held, words_to, last_end, AreEnds};
+    ghost use Rattle.resp_reader.specs.WordRoom.{Held, words_at, last_end, AreSpans};
 
     ghost Value = { Held };
 
     ghost view = { λ r. record {
-      words = words_to 0 r.ends.items r.bytes.items;
-      word = drop (last_end 0 r.ends.items) r.bytes.items;
+      words = words_at r.spans.items r.bytes.items;
+      word = drop (last_end 0 r.spans.items) r.bytes.items;
     } };
 
-    ghost invariant = { λ r. AreEnds 0 r.ends.items (length r.bytes.items) };
-}
-
-// Where the word at a place begins, behind the words before it.
-fn start_of(ends: &[usize], i: usize) -> usize
-    requires { i ≤ length ends.now }
-    ensures { result ≡ slice_index (0 ∷ ends.now) i }
-{
-    if i == 0 { 0 } else { ends[i - 1] }
+    ghost invariant = { λ r. AreSpans 0 r.spans.items (length r.bytes.items) };
 }
 
 // Where the next word begins.
-fn next_start(ends: &[usize]) -> usize
-    ensures { result ≡ last_end 0 ends.now }
+fn next_start(spans: &[Span]) -> usize
+    ensures { result ≡ last_end 0 spans.now }
 {
-    start_of(ends, ends.len())
+    match spans.last() {
+        Some(span) => span.end,
+        None => 0,
+    }
 }
 
 fn part(bytes: &[u8], start: usize, end: usize) -> &[u8]
@@ -61,12 +66,33 @@ fn part(bytes: &[u8], start: usize, end: usize) -> &[u8]
     &bytes[start..end]
 }
 
-fn word_of<'a>(bytes: &'a [u8], ends: &[usize], i: usize) -> &'a [u8]
-    requires below { i < length ends.now }
-    requires ends { AreEnds 0 ends.now (length bytes.now) }
-    ensures { result.now ≡ slice_index_or (words_to 0 ends.now bytes.now) i [] }
+fn word_of<'a>(bytes: &'a [u8], spans: &[Span], i: usize) -> &'a [u8]
+    requires below { i < length spans.now }
+    requires spans { AreSpans 0 spans.now (length bytes.now) }
+    ensures { result.now ≡ slice_index_or (words_at spans.now bytes.now) i [] }
 {
-    part(bytes, start_of(ends, i), ends[i])
+    let span = spans[i];
+    part(bytes, span.start, span.end)
+}
+
+// Where the word at this place begins, or the next one.
+fn start_of(spans: &[Span], i: usize) -> usize
+    ensures { result ≡ word_start 0 spans.now i }
+{
+    if i < spans.len() {
+        spans[i].start
+    } else {
+        next_start(spans)
+    }
+}
+
+// Takes out what lies between the start and the word behind it.
+fn close(bytes: &mut Vec<u8>, start: usize, word: usize)
+    requires ordered { start ≤ word }
+    requires within { word ≤ length bytes.old.items }
+    ensures { bytes.new.items ≡ take start bytes.old.items ++ drop word bytes.old.items }
+{
+    bytes.drain(start..word);
 }
 
 // Leaves so many bytes behind the start.
@@ -90,13 +116,59 @@ fn reserve_first(bytes: &mut Vec<u8>) -> Result<(), Memory>
     Ok(())
 }
 
+// Notes where the words that lie whole at the front come to lie behind so many bytes, up to so many words in all.
+// Answers the bytes with those words, and the rest.
+#[inline(always)]
+fn find_words<'a>(
+    spans: &mut Vec<Span>,
+    behind: usize,
+    count: usize,
+    bytes: &'a [u8],
+) -> Result<(&'a [u8], &'a [u8]), Memory>
+    requires { behind < 2 ^ 63 }
+    ensures kept { take (length spans.old.items) spans.new.items ≡ spans.old.items }
+    ensures shorter { IfOk result (λ found. length found.1.now ≤ length bytes.now) }
+    ensures ok { IfOk result (λ found. (room : List ℕ) → length room ≡ behind → AreSpans 0 spans.old.items behind
+        → last_end 0 spans.old.items ≡ behind → AreWordsOf count (words_at spans.old.items room)
+        → Finds count room spans.old.items spans.new.items bytes.now found.0.now found.1.now) }
+{
+    let mut end = 0;
+    let mut rest = bytes;
+    while spans.len() < count {
+        let Some((word, more)) = whole_word(rest) else {
+            break;
+        };
+        end = bytes.len() - more.len() - 2;
+        let span = Span {
+            start: behind + end - word.len(),
+            end: behind + end,
+        };
+        spans.push(span)?;
+        rest = more;
+    }
+    Ok((bytes.split_at(end).0, rest))
+}
+
+// Puts the bytes behind those of the room.
+#[inline(always)]
+fn copy(bytes: &mut Vec<u8>, taken: &[u8]) -> Result<(), Memory>
+    ensures ok { OnOk result (bytes.new.items ≡ bytes.old.items ++ taken.now) }
+    ensures err { OnErr result (bytes.new.items ≡ bytes.old.items) }
+{
+    if !taken.is_empty() {
+        reserve_first(bytes)?;
+        bytes.extend_from_slice(taken)?;
+    }
+    Ok(())
+}
+
 impl WordRoom {
     pub fn new(alloc: Global) -> Self
         ensures { result ≡ record { words = []; word = [] } }
     {
         WordRoom {
             bytes: Vec::new(alloc),
-            ends: Vec::new(alloc),
+            spans: Vec::new(alloc),
         }
     }
 
@@ -109,21 +181,21 @@ impl WordRoom {
     pub fn count(&self) -> usize
         ensures { result ≡ length self.now.words }
     {
-        self.ends.len()
+        self.spans.len()
     }
 
     /// How many bytes of the next word came.
     pub fn word_len(&self) -> usize
         ensures { result ≡ length self.now.word }
     {
-        self.bytes.len() - next_start(&self.ends)
+        self.bytes.len() - next_start(&self.spans)
     }
 
     pub fn word(&self, i: usize) -> &[u8]
         requires { i < length self.now.words }
         ensures { result.now ≡ slice_index_or self.now.words i [] }
     {
-        word_of(&self.bytes, &self.ends, i)
+        word_of(&self.bytes, &self.spans, i)
     }
 
     /// Puts bytes behind those of the next word, of which so many are to come in all.
@@ -153,22 +225,38 @@ impl WordRoom {
         ensures ok { OnOk result (self.new ≡ record { words = self.old.words ++ self.old.word ∷ []; word = [] }) }
         ensures err { OnErr result (self.new ≡ self.old) }
     {
-        self.ends.push(self.bytes.len())?;
+        self.spans.push(Span {
+            start: next_start(&self.spans),
+            end: self.bytes.len(),
+        })?;
         Ok(())
     }
 
-    /// Puts a whole word behind the others, where nothing came of the next.
+    /// Takes the words that lie whole at the front, of an array of so many, and answers the rest.
     #[inline(always)]
-    pub fn push(&mut self, word: &[u8]) -> Result<(), Memory>
-        requires { self.old.word ≡ [] }
-        ensures ok { OnOk result (self.new ≡ record { words = self.old.words ++ word.now ∷ []; word = [] }) }
-        ensures err { OnErr result (self.new ≡ self.old) }
+    pub fn take_whole<'a>(&mut self, count: usize, bytes: &'a [u8]) -> Result<&'a [u8], Memory>
+        requires words { AreWordsOf count self.old.words }
+        requires word { self.old.word ≡ [] }
+        ensures words { OnOk result (AreWordsOf count self.new.words) }
+        ensures word { OnOk result (self.new.word ≡ []) }
+        ensures ok { IfOk result (λ rest. array_front count self.old.words ++ bytes.now
+            ≡ array_front count self.new.words ++ rest.now) }
+        ensures shorter { IfOk result (λ rest. length rest.now ≤ length bytes.now) }
+        ensures grows { GrowsFrom self.old.words self.old.word self.new.words self.new.word }
     {
-        self.ends.reserve(1)?;
-        reserve_first(&mut self.bytes)?;
-        self.bytes.extend_from_slice(word)?;
-        self.ends.push_reserved(self.bytes.len());
-        Ok(())
+        let held = self.spans.len();
+        let (taken, rest) = match find_words(&mut self.spans, self.bytes.len(), count, bytes) {
+            Ok(found) => found,
+            Err(error) => {
+                self.spans.truncate(held);
+                return Err(error);
+            }
+        };
+        if let Err(error) = copy(&mut self.bytes, taken) {
+            self.spans.truncate(held);
+            return Err(error);
+        }
+        Ok(rest)
     }
 
     /// Goes back to so many whole words, and so many bytes of the next.
@@ -176,8 +264,10 @@ impl WordRoom {
         ensures { (words : Words) (word : List ℕ) → length words ≡ count → length word ≡ len
             → GrowsFrom words word self.old.words self.old.word → self.new ≡ record { words = words; word = word } }
     {
-        self.ends.truncate(count);
-        let start = next_start(&self.ends);
+        let word = start_of(&self.spans, count);
+        self.spans.truncate(count);
+        let start = next_start(&self.spans);
+        close(&mut self.bytes, start, word);
         cut(&mut self.bytes, start, len);
     }
 
@@ -185,7 +275,7 @@ impl WordRoom {
     pub fn clear(&mut self)
         ensures { self.new ≡ record { words = []; word = [] } }
     {
-        self.ends.clear();
+        self.spans.clear();
         self.bytes.clear();
     }
 }

@@ -10,11 +10,11 @@ use Rattle.flake_model.specs.Run.{all_commands}
 use Rattle.flake_model.specs.Session.{Session}
 use Rattle.pin_core.specs.declared.sizes.Sizes as pool_sizes
 use Rattle.pinned_pool.specs.declared.view.View.{View}
-use Rattle.order_book.specs.Closed.{AreClosed, AreMeant, journal_of}
+use Rattle.order_book.specs.Closed.{AreClosed, AreMeant}
 use Rattle.order_book.specs.Pages.{ShardList, SessionList}
 use Rattle.order_book.specs.declared.rule.BookSizes as book_sizes
 use Rattle.order_book.proofs.Replayed.{means}
-use Rattle.call_model.specs.Stock.{AreParts}
+use Rattle.shard_core.specs.Stock.{AreParts}
 use Rattle.serve_model.specs.Handed.{session_in, runs_in, AreServed}
 use Rattle.serve_model.specs.Lists.{AreLists}
 use Rattle.serve_model.specs.Runs.{Run, list_of, lists_told}

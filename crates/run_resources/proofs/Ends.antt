@@ -17,7 +17,7 @@ use Rattle.pinned_pool.specs.declared.view.View.{View}
 use Rattle.order_book.specs.Closed.{AreClosed}
 use Rattle.order_book.specs.Pages.{ShardList, SessionList}
 use Rattle.order_book.specs.declared.rule.BookSizes as book_sizes
-use Rattle.call_model.specs.Stock.{AreParts}
+use Rattle.shard_core.specs.Stock.{AreParts}
 use Rattle.serve_model.specs.Handed.{OneRun, IsLastSeat}
 use Rattle.serve_model.specs.Seats.{HasAll}
 use Rattle.serve_model.specs.Replies.{all_replies}

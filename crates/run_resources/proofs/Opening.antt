@@ -16,7 +16,7 @@ use Rattle.order_book.specs.Pages.{SessionList}
 use Rattle.reply_planner.specs.Stages.{IsStageOpened, WhyUnopened}
 use Rattle.reply_planner.specs.declared.error.OpenError.{OpenError}
 use Rattle.command_exec.specs.Passes.{PassView, pass_of}
-use Rattle.call_model.specs.Stock.{IsIdle}
+use Rattle.shard_core.specs.Stock.{IsIdle}
 use Rattle.serve_model.specs.Demand.{stage_row}
 use Rattle.serve_model.proofs.Seats.{idle_starts}
 use Rattle.run_resources.specs.Opened.{session_credits, IsNewPass}

@@ -16,7 +16,7 @@ use Rattle.command_exec.specs.Passes.{PassView}
 use Rattle.command_pump.specs.Pump.{Origin, PumpState, IsPump}
 use Rattle.serve_model.specs.Demand.{stage_row}
 use Rattle.session_pass.specs.Views.{SessionView, whole_view}
-use Rattle.session_serve.specs.Working.{IsFresh}
+use Rattle.session_pass.specs.Fresh.{IsFresh}
 use Rattle.run_resources.specs.Opened.{session_credits, IsNewPass, IsSessionSlot}
 use Rattle.run_resources.proofs.Opening.{stage_alone}
 

@@ -10,7 +10,7 @@ use Rattle.pinned_pool.specs.declared.view.View.{View}
 use Rattle.order_book.specs.Closed.{AreClosed}
 use Rattle.order_book.specs.Pages.{ShardList, SessionList}
 use Rattle.order_book.specs.declared.rule.BookSizes as book
-use Rattle.call_model.specs.Stock.{AreParts}
+use Rattle.shard_core.specs.Stock.{AreParts}
 
 -- The lists of the shards and of the sessions belong together, and the shards' make the journal. The pool's last seat,
 -- by which its end is, has what this one had, and with it the store's.

@@ -1,4 +1,3 @@
-pub mod Ran
 pub mod Opened
 pub mod Joined
 pub mod Passing

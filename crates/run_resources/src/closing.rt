@@ -1,6 +1,6 @@
 // The end of a run.
 ghost use Rattle.std.specs.Prelude.{◌≡◌, ℕ, ◌+◌, List, length};
-ghost use Rattle.call_model.specs.Stock.{AreParts};
+ghost use Rattle.shard_core.specs.Stock.{AreParts};
 ghost use Rattle.serve_model.specs.Handed.{OneRun};
 ghost use Rattle.flake_base.specs.Histories.{histories};
 ghost use Rattle.run_resources.specs.Closed.{WasClosed};

@@ -2,6 +2,7 @@
 ghost use Rattle.std.specs.Prelude.{◌≡◌, ◌+◌, ◌*◌, ◌<◌, ◌≤◌, [], All, length, map, reverse, vec_capacity};
 ghost use Rattle.std.specs.Prelude.{IfOk, IfErr, IfSome};
 ghost use Rattle.pinned_pool.specs.Views.{opener};
+ghost use Rattle.reply_planner.specs.Stages.{NoneInBoth, StagesAreApart};
 ghost use Rattle.serve_model.specs.Seats.{IsSpare};
 ghost use Rattle.run_resources.specs.Opened.{session_credits, IsNewPass};
 ghost use Rattle.run_resources.specs.Passing.{IsNewList, SeatRefused, AreRefused, HasStages};
@@ -50,6 +51,25 @@ fn open_pass<N: BookName, P: PoolName>(
     }
 }
 
+// Tells a proof that a pass's stage is apart from those of other passes.
+fn compare_with<N: BookName, P: PoolName>(
+    pool: &Pool<P>,
+    pass: &mut Pass<N, P>,
+    others: &mut Vec<Pass<N, P>>,
+)
+    requires pass { IsNewPass P.sizes pass.old }
+    requires others { All (IsNewPass P.sizes) others.old.items }
+    ensures pass { IsNewPass P.sizes pass.new × (pass.new.stage ≡ pass.old.stage) × (pass.new.list ≡ pass.old.list)
+        × (pass.new.threshold ≡ pass.old.threshold) }
+    ensures others { others.new.items ≡ others.old.items }
+    ensures room { vec_capacity others.new ≡ vec_capacity others.old }
+    ensures apart { All (λ p. NoneInBoth pass.old.stage p.stage) others.old.items }
+{
+    for i in 0..others.len() {
+        pass.compare(pool, &mut others[i]);
+    }
+}
+
 // The same lists, the last one first.
 fn turned<N: BookName>(alloc: Global, lists: SessionSeats<N>) -> Result<SessionSeats<N>, Memory>
     requires { All IsNewList lists.items }
@@ -84,6 +104,7 @@ fn open_all<N: BookName, P: PoolName>(
     ensures main { IsSpare main.new }
     ensures credits { IfOk result (λ _. main.new.credits + session_credits * length lists.items ≡ main.old.credits) }
     ensures passes { IfOk result (λ passes. All (λ p. IsNewPass P.sizes p × (p.threshold ≡ threshold)) passes.items) }
+    ensures apart { IfOk result (λ passes. StagesAreApart (map (λ p. p.stage) passes.items)) }
     ensures lists { IfOk result (λ passes. map (λ p. p.list) passes.items ≡ reverse lists.items) }
     ensures refused { IfErr result (λ e. IfSome e (λ r. AreRefused P.sizes (length lists.items) main.old main.new r.0
         r.1.items)) }
@@ -92,7 +113,10 @@ fn open_all<N: BookName, P: PoolName>(
     let mut passes = passes;
     while let Some(mine) = lists.pop() {
         match open_pass(alloc, pool, main, mine, threshold) {
-            Ok(pass) => passes.push_reserved(pass),
+            Ok(mut pass) => {
+                compare_with(pool, &mut pass, &mut passes);
+                passes.push_reserved(pass);
+            }
             Err(refused) => {
                 let Some(seat) = refused else {
                     return Err(None);
@@ -139,6 +163,7 @@ pub(crate) fn open_passes<N: BookName, P: PoolName>(
     ensures main { IfOk result (λ r. IsSpare r.main
         × (r.main.credits + session_credits * length lists.items ≡ P.sizes.credits)) }
     ensures passes { IfOk result (λ r. All (λ p. IsNewPass P.sizes p × (p.threshold ≡ threshold)) r.passes.items) }
+    ensures apart { IfOk result (λ r. StagesAreApart (map (λ p. p.stage) r.passes.items)) }
     ensures lists { IfOk result (λ r. map (λ p. p.list) r.passes.items ≡ lists.items) }
 {
     let mut main = main;

@@ -2,6 +2,7 @@
 ghost use Rattle.std.specs.Prelude.{◌≡◌, ◌+◌, ◌<◌, ◌≤◌, All, map, IfOk};
 ghost use Rattle.std.specs.List.{range_with_len};
 ghost use Rattle.order_book.specs.Pages.{new_shards};
+ghost use Rattle.reply_planner.specs.Stages.{StagesAreApart};
 ghost use Rattle.serve_model.specs.Seats.{IsSpare};
 ghost use Rattle.tx_ring.specs.Shown.{ring_size};
 ghost use Rattle.run_resources.specs.Opened.{HasRunSizes, IsPool, IsBook, IsSessionSlot, dump_credits};
@@ -75,6 +76,7 @@ pub fn open_resources<N: BookName, P: PoolName + Send>(
         h.slots.items) }
     ensures numbers { IfOk result
         (λ h. map (λ d. d.session.pass.list.number) h.slots.items ≡ range_with_len 0 count) }
+    ensures apart { IfOk result (λ h. StagesAreApart (map (λ d. d.session.pass.stage) h.slots.items)) }
     ensures ring { IfOk result (λ h. All (λ d. ring_size d.session.ring ≡ sizes.now.ring) h.slots.items) }
     ensures threshold { IfOk result
         (λ h. All (λ d. d.session.pass.threshold ≡ sizes.now.threshold) h.slots.items) }

@@ -11,12 +11,11 @@ use order_book::BookName;
 use pinned_pool::PoolName;
 use reply_planner::Parcel;
 use session_pass::Session;
-use session_serve::Room;
 use std::alloc::Global;
 use tx_descriptor::Framed;
 use tx_ring::ring;
 
-/// A session, who gathers its replies, and room for what its calls tell.
+/// A session, and who gathers its replies.
 #[derive(Drop)]
 pub struct SessionSlot<N: BookName, P: PoolName + Send>
 where
@@ -24,7 +23,6 @@ where
 {
     pub session: Session<N, P>,
     pub device: Device<P>,
-    pub room: Room,
 }
 
 fn open_session_slot<N: BookName, P: PoolName + Send>(
@@ -39,17 +37,12 @@ fn open_session_slot<N: BookName, P: PoolName + Send>(
     ensures pass { IfOk result (λ d. d.session.pass ≡ pass) }
     ensures ring { IfOk result (λ d. ring_size d.session.ring ≡ descriptors) }
 {
-    let room = Room::new(alloc)?;
     let Ok((driver, end)) = ring::<Parcel<P>>(alloc, descriptors) else {
         return Err(Memory);
     };
     let session = Session::open(alloc, number, pass, driver);
     let device = Device::open(end);
-    Ok(SessionSlot {
-        session,
-        device,
-        room,
-    })
+    Ok(SessionSlot { session, device })
 }
 
 /// A session slot for each pass.

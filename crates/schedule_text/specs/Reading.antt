@@ -1,5 +1,5 @@
 -- What the lines of a text are read as.
-use Rattle.std.specs.Prelude.{◌≡◌, ◌≢◌, ℕ, ◌-◌, ◌<◌, ◌≤◌, List, [], length, map, take, slice_index_or}
+use Rattle.std.specs.Prelude.{◌≡◌, ◌≢◌, ℕ, ◌-◌, ◌<◌, ◌≤◌, List, [], length, map, take, slice_index_or, ⊤}
 use Rattle.std.specs.List.{AllByRecursion}
 use Rattle.schedule_text.specs.declared.error.ScheduleError.{ScheduleError}
 use Rattle.schedule_text.specs.declared.error.ScheduleError.TheVariants.{BadLine, Memory}
@@ -22,4 +22,4 @@ pub record IsBadScheduleLine (sessions : ℕ) (lines : List (List ℕ)) (line : 
 -- an error but for want of memory is that of a bad line
 abbrev pub IsScheduleFault : ℕ → List (List ℕ) → ScheduleError → Type 0
 IsScheduleFault sessions lines (BadLine line) = IsBadScheduleLine sessions lines line
-IsScheduleFault sessions lines Memory = Unit {0}
+IsScheduleFault sessions lines Memory = ⊤

@@ -20,7 +20,7 @@ use Rattle.serve_model.proofs.Complete.{complete}
 use Rattle.request_gen.specs.Words.{all_words, requests_text}
 use Rattle.command_line.specs.declared.generate_task.GenTask.{GenTask}
 use Rattle.run_resources.specs.Opened.{pool_sizes}
-use Rattle.run_resources.specs.Ran.{AreReads}
+use Rattle.session_serve.specs.Ran.{AreReads}
 use Rattle.serve_inputs.specs.Dumped.{DumpTold, IsDumpTold, no_dump}
 use Rattle.serve_inputs.specs.Ran.{RanAll}
 use Rattle.run_resources.specs.declared.sizes.RunSizes.{RunSizes}

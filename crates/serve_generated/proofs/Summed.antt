@@ -8,7 +8,7 @@ use Rattle.pin_core.specs.declared.class.Class.TheVariants.{Small, Large}
 use Rattle.frag_value.specs.Counts.{class_buffers_for}
 use Rattle.frag_value.proofs.Counting.{count-bytes}
 use Rattle.flake_model.specs.Command.{command_of, parts}
-use Rattle.call_model.specs.Demand.{parts_row}
+use Rattle.shard_core.specs.CallDemand.{parts_row}
 use Rattle.serve_model.specs.Demand.{commands_row, session_row, stage_row}
 use Rattle.request_gen.specs.Commands.{command_for}
 use Rattle.request_gen.specs.Draws.{first_state}

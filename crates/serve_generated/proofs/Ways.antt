@@ -18,7 +18,7 @@ use Rattle.command_pump.specs.Pump.{EndFaults}
 use Rattle.request_gen.specs.Words.{all_words, requests_text}
 use Rattle.request_gen.proofs.Clean.{is_clean}
 use Rattle.serve_generated.specs.Sessions.{generated_commands_of}
-use Rattle.run_resources.specs.Ran.{AreReads}
+use Rattle.session_serve.specs.Ran.{AreReads}
 use Rattle.serve_generated.specs.Generated.{HadMemory, AreFronts}
 
 -- clean, unless memory was wanting

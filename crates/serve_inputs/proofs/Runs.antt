@@ -41,7 +41,7 @@ use Rattle.session_serve.specs.declared.dump.DumpPlan.{DumpPlan}
 use Rattle.serve_inputs.specs.Jobs.{IsDone}
 use Rattle.serve_inputs.specs.declared.job.Dumped.{Dumped}
 use Rattle.run_resources.specs.Opened.{session_credits}
-use Rattle.run_resources.specs.Ran.{AreReads, AllSent, AllWhole}
+use Rattle.session_serve.specs.Ran.{AreReads, AllSent, AllWhole}
 use Rattle.run_resources.proofs.SessionSlots.{number_of, HasCredits}
 
 module _ {J D P W : Type 0} (put_may : W → Bor (List ℕ) → (W × Bool) → Type 0) (flush_may : W → (W × Bool) → Type 0)

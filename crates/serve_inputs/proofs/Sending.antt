@@ -14,12 +14,11 @@ use Rattle.command_exec.specs.contracts.pass.Pass.TheInside as pass_inside
 use Rattle.session_pass.specs.contracts.session.Session as session
 use Rattle.session_pass.specs.contracts.session.Session.TheInside as session_inside
 use Rattle.session_pass.proofs.ready.Ready.TheSendSync as ready
-use Rattle.session_serve.proofs.room.Room.TheSendSync as room
 use Rattle.session_serve.specs.contracts.dump.DumpPlan as plan
 use Rattle.session_serve.specs.contracts.dump.DumpTurn as turn
 use Rattle.session_serve.specs.contracts.link.Link as link
 use Rattle.serve_inputs.specs.contracts.job.Waiting as waiting
-use Rattle.order_book.proofs.seat.SessionSeat.TheSendSync as mine
+use Rattle.order_book.proofs.seat.BookSeat.TheSendSync as mine
 use Rattle.pin_dump.proofs.dump.Dump.TheSendSync as dumped
 use Rattle.pinned_pool.proofs.seat.PoolSeat.TheSendSync as seat
 use Rattle.reply_planner.proofs.stage.Stage.TheSendSync as stage
@@ -114,10 +113,7 @@ module _ (N P : RattleType) (book : Book N.Denot) (pool : Pool P.Denot) (n : IsS
         declared_send (waiting.the_type (link.the_row N P S pool (framed.ghosts P pool framed.no_dict) book source) W) (
           link-sends,
           (
-            search (sendable, crosses, room.the_send),
-            (
-              search sendable,
-              (search (sendable, crosses, option-sends), tt),
-            ),
+            search sendable,
+            (search (sendable, crosses, option-sends), tt),
           ),
         )

@@ -8,7 +8,7 @@ use Rattle.order_book.specs.Pages.{SessionList}
 use Rattle.dump_model.specs.Dump.{dumped}
 use Rattle.dump_model.specs.Seen.{HasSeen, IsDumpOf}
 use Rattle.serve_inputs.specs.Jobs.{HasDumped}
-use Rattle.run_resources.specs.Ran.{AllSent}
+use Rattle.session_serve.specs.Ran.{AllSent}
 use Rattle.serve_inputs.specs.Dumped.{DumpTold, IsDumpTold, no_dump, dump_texts}
 
 -- what the first session saw is a dump of the journal

@@ -41,7 +41,7 @@ use Rattle.pinned_pool.specs.declared.view.View.{View}
 use Rattle.order_book.specs.Pages.{SessionList}
 use Rattle.command_pump.specs.Pump.{PumpState}
 use Rattle.serve_model.specs.Handed.{OneRun}
-use Rattle.serve_model.specs.Seats.{HasAll, IsSpare}
+use Rattle.serve_model.specs.Seats.{HasAll}
 use Rattle.any_wire.specs.Texts.{joined}
 use Rattle.serve_model.specs.Replies.{all_replies}
 use Rattle.session_pass.specs.Views.{SessionView}
@@ -49,7 +49,7 @@ use Rattle.session_serve.specs.Forms.{all_as_sent}
 use Rattle.session_serve.specs.declared.dump.DumpPlan.{DumpPlan}
 use Rattle.serve_inputs.specs.declared.job.Dumped.{Dumped}
 use Rattle.run_resources.specs.Opened.{session_credits}
-use Rattle.run_resources.specs.Ran.{AreReads, AllSent, AllWhole}
+use Rattle.session_serve.specs.Ran.{AreReads, AllSent, AllWhole}
 use Rattle.run_resources.specs.Together.{AreRuns, HaveShown}
 use Rattle.run_resources.proofs.SessionSlots.{number_of, HasCredits}
 use Rattle.serve_inputs.specs.Dumped.{DumpTold, dump_texts}

@@ -1,5 +1,5 @@
 -- Sessions that wait for a worker, and what becomes of them.
-use Rattle.std.specs.Prelude.{◌≡◌, ◌≢◌, ℕ, Bool, true, false, List, [], Option, Some, None, Result, length}
+use Rattle.std.specs.Prelude.{◌≡◌, ◌≢◌, ℕ, Bool, true, false, List, [], Option, Some, None, Result, length, ⊤}
 use Rattle.std.specs.Borrow.{Bor}
 use Rattle.pin_core.specs.declared.sizes.Sizes.{Sizes}
 use Rattle.pinned_pool.specs.declared.view.View.{View}
@@ -13,7 +13,7 @@ use Rattle.tx_ring.specs.declared.device.DeviceEnd.{DeviceEnd}
 use Rattle.reply_planner.specs.Parcels.{Sent}
 use Rattle.device_model.specs.Devices.{CanFrame}
 use Rattle.session_pass.specs.Views.{SessionView}
-use Rattle.session_serve.specs.Working.{IsFresh}
+use Rattle.session_pass.specs.Fresh.{IsFresh}
 use Rattle.session_serve.specs.Served.{IsServed}
 use Rattle.session_serve.specs.Wires.{SendsOut}
 use Rattle.session_serve.specs.Dumps.{CanTake}
@@ -24,10 +24,10 @@ use Rattle.serve_inputs.specs.declared.job.Dumped.{Dumped}
 
 -- a dump that is asked for has its wire
 abbrev pub HasDumpWire : {P W : Type 0} → Option (DumpPlan P) → Option W → Type 0
-HasDumpWire None None = Unit {0}
+HasDumpWire None None = ⊤
 HasDumpWire None (Some wire) = ⊥
 HasDumpWire (Some plan) None = ⊥
-HasDumpWire (Some plan) (Some wire) = Unit {0}
+HasDumpWire (Some plan) (Some wire) = ⊤
 
 module _ {g : Ghosts Sent} where
   -- nothing was done yet, and the session's ring is the device's

@@ -8,7 +8,7 @@ use Rattle.pin_core.specs.declared.sizes.Sizes.{Sizes}
 use Rattle.pinned_pool.specs.Ends.{End}
 use Rattle.serve_model.specs.Replies.{all_replies}
 use Rattle.serve_model.specs.Shown.{WasRun}
-use Rattle.run_resources.specs.Ran.{AllSent, AllWhole}
+use Rattle.session_serve.specs.Ran.{AllSent, AllWhole}
 use Rattle.serve_inputs.specs.Dumped.{DumpTold, IsDumpTold, dump_texts}
 use Rattle.serve_inputs.specs.Wires.{sent_on_wires}
 

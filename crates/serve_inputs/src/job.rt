@@ -2,13 +2,12 @@
 use flake_base::Source;
 use order_book::BookName;
 use pinned_pool::{PoolName, PoolSeat};
-use session_serve::{Link, Room, ServedAccount};
+use session_serve::{Link, ServedAccount};
 
-/// What waits for a worker: with its room and its wire, and the wire of the dump that it is asked for.
+/// What waits for a worker: with its wire, and the wire of the dump that it is asked for.
 #[derive(Drop)]
 pub struct Waiting<L, W> {
     pub link: L,
-    pub room: Room,
     pub wire: W,
     pub dump_wire: Option<W>,
 }

@@ -58,11 +58,7 @@ pub(crate) fn line_up<N: BookName, P: PoolName + Send, S: Source + Drop, W: Drop
         let Some(wire) = more_wires.next() else {
             unreachable!()
         };
-        let SessionSlot {
-            session,
-            device,
-            room,
-        } = slot;
+        let SessionSlot { session, device } = slot;
         let pump = Pump::new(alloc, source);
         let dump = DumpTurn::new(alloc, None);
         let link = Link {
@@ -74,7 +70,6 @@ pub(crate) fn line_up<N: BookName, P: PoolName + Send, S: Source + Drop, W: Drop
         };
         jobs.push_reserved(ServeJob {
             link,
-            room,
             wire,
             dump_wire: None,
         });

@@ -2,7 +2,7 @@
 ghost use Rattle.std.specs.Prelude.{◌≡◌, ◌≢◌, ◌+◌, ◌<◌, ◌≤◌, [], All, length, map, IfOk, IfErr};
 ghost use Rattle.flake_base.specs.Histories.{histories};
 ghost use Rattle.run_resources.specs.Opened.{HasRunSizes, IsPool, IsBook, dump_wires, pool_sizes};
-ghost use Rattle.run_resources.specs.Ran.{AreReads};
+ghost use Rattle.session_serve.specs.Ran.{AreReads};
 ghost use Rattle.serve_inputs.specs.Dumped.{dump_told};
 ghost use Rattle.serve_inputs.specs.Ran.{RanAll};
 

@@ -6,7 +6,7 @@ ghost use Rattle.flake_base.specs.Histories.{histories};
 ghost use Rattle.run_resources.specs.Opened.{HasRunSizes, IsPool, IsBook, IsSessionSlot, pool_sizes};
 ghost use Rattle.run_resources.specs.Opened.{dump_credits, dump_wires};
 ghost use Rattle.serve_inputs.specs.Dumped.{dump_told};
-ghost use Rattle.run_resources.specs.Ran.{AreReads};
+ghost use Rattle.session_serve.specs.Ran.{AreReads};
 ghost use Rattle.serve_inputs.specs.Ran.{RanAll};
 
 use crate::dumped::DumpEnd;

@@ -135,11 +135,10 @@ pub fn serve_job<
 {
     let ServeJob {
         link,
-        room,
         wire,
         dump_wire,
     } = job;
-    let (wire, mut account) = serve_beside(rt, alloc, shop, link, room, gate, wire, calls);
+    let (wire, mut account) = serve_beside(rt, alloc, shop, link, gate, wire, calls);
     let dump = match (account.dump.take(), dump_wire) {
         (Some(taken), Some(dump_wire)) => {
             Some(write_dump(alloc, shop.pool, taken, dump_wire, calls))

@@ -13,7 +13,7 @@ use Rattle.flake_model.specs.Journal.{Step, is_entry, answer_at, call_steps, ses
 use Rattle.flake_model.specs.Order.{IsBefore}
 use Rattle.flake_model.proofs.Entries.{entry_is, is_itself}
 use Rattle.flake_model.proofs.OneOrder.{before_itself}
-use Rattle.call_model.specs.Outcomes.{Outcomes, call_told, answers_told, entry_at}
+use Rattle.shard_core.specs.Outcomes.{Outcomes, call_told, answers_told, entry_at}
 use Rattle.serve_model.specs.Runs.{calls_told, AreCalls, replies_told, parts_told}
 use Rattle.serve_model.proofs.Places.{all_imp}
 use Rattle.serve_model.proofs.Calls.{own, told_entries, both_told, at_call, at_calls}

@@ -12,7 +12,7 @@ use Rattle.flake_model.specs.Journal.{next_parts}
 use Rattle.flake_model.specs.Order.{IsBefore, EntriesRise}
 use Rattle.flake_model.proofs.Streams.{all_append}
 use Rattle.order_book.specs.Closed.{AreMeant}
-use Rattle.call_model.specs.Outcomes.{Outcomes, entry_at, call_told}
+use Rattle.shard_core.specs.Outcomes.{Outcomes, entry_at, call_told}
 use Rattle.serve_model.specs.Runs.{calls_told, Run, run_told}
 
 abbrev pub own : List (ℕ × Deed) → List Deed

@@ -14,7 +14,7 @@ use Rattle.pinned_pool.specs.Views.{nobody}
 use Rattle.pinned_pool.specs.declared.view.View.{View}
 use Rattle.flake_model.specs.Run.{all_commands, missing_writes}
 use Rattle.flake_model.specs.Session.{Session}
-use Rattle.call_model.specs.Stock.{IsIdle}
+use Rattle.shard_core.specs.Stock.{IsIdle}
 use Rattle.serve_model.specs.Demand.{stage_row, demand_of}
 use Rattle.serve_model.specs.Shown.{IsCounted}
 use Rattle.serve_model.specs.Stages.{IsStageRefused}

@@ -6,7 +6,7 @@ use Rattle.std.specs.Ordering.{nat_cmp}
 use Rattle.std.proofs.lemmas.Cmp.{nat_list_cmp_total}
 use Rattle.flake_model.specs.Store as part
 use Rattle.flake_model.specs.Store.{Operation, answer_on, first_on}
-use Rattle.call_model.specs.Demand.{pins_by}
+use Rattle.shard_core.specs.CallDemand.{pins_by}
 use Rattle.serve_model.specs.Shown.{pins_found}
 use Rattle.serve_model.specs.Copied.{asking_session, asking_journal, asks_all, asks_one, asks_old, CopiedIsNone}
 

@@ -24,15 +24,15 @@ use Rattle.order_book.specs.Closed.{AreMeant, AreShared, journal_of}
 use Rattle.order_book.specs.Pages.{ShardList, SessionList}
 use Rattle.order_book.specs.declared.rule.BookSizes as book_sizes
 use Rattle.order_book.proofs.Replayed.{means}
-use Rattle.call_model.specs.Needed.{may_need}
+use Rattle.shard_core.specs.Needed.{may_need, may_need_some}
 use Rattle.order_book.proofs.Shared.{shares}
-use Rattle.call_model.specs.Stock.{IsIdle, IsStock}
+use Rattle.shard_core.specs.Stock.{IsIdle, IsStock}
 use Rattle.serve_model.specs.Demand.{session_row, demand_of}
 use Rattle.serve_model.specs.Handed.{SessionRun, session_in, runs_in, IsLastSeat}
 use Rattle.serve_model.specs.Lists.{AreLists}
 use Rattle.serve_model.specs.Runs.{Run, IsRun, missed_by, parts_told, calls_pins, lists_told}
 use Rattle.serve_model.specs.Seats.{IsSpare, AreSpentSeats}
-use Rattle.serve_model.specs.Shown.{fragments_by_class, pins_found, IsCounted}
+use Rattle.serve_model.specs.Shown.{fragments_by_class, pins_found, missing_in_need, IsCounted}
 use Rattle.serve_model.proofs.Counts.{sums_of, missed_whole, runs_none, none_in, weigh, counted_by, served_weight}
 use Rattle.serve_model.proofs.Finals.{weigh_fragment}
 use Rattle.serve_model.proofs.Held.{held_at, loose_there, held_is, held_most, placed_total, left_total}
@@ -130,7 +130,11 @@ module _ (books : book_sizes.BookSizes) (all : List SessionRun) (shards : List S
   missing_are : missing_writes ran journal ≡ total (λ (run : Run). missed_by run.calls) runs
   missing_are =
       counted_by (λ (step : Step). is_none (answer_at step.0 answers)) (served_steps 0 ran)
-      ∙ weights none_in ∙ runs_none runs lists.runs_are
+      ∙ weights none_in ∙ runs_none none_in (λ operation may. refl) (λ operation answer. refl) runs lists.runs_are
+
+  need_are : missing_in_need ran journal ≡ total (λ (run : Run). missed_by run.calls) runs
+  need_are = weights may_need_some
+      ∙ runs_none may_need_some (λ operation may. omega (arith, may.1)) (λ operation answer. refl) runs lists.runs_are
 
   -- the journal pins no more than the sessions' calls did
   pins_are : pins_found threshold ran journal
@@ -184,6 +188,7 @@ module _ (books : book_sizes.BookSizes) (all : List SessionRun) (shards : List S
         missed = whole.missed;
         missed_are = whole.missed_are ∙ sym missing_are;
         needed = λ class. omega (arith, whole.needed class, weights (may_need class));
+        all_need = need_are ∙ sym missing_are;
         claims = λ class. omega (arith, claimed class, whole.within class);
         looks_small = λ b below.
             let small = class_of_range z Small b (omega arith) (omega arith) in

@@ -20,7 +20,7 @@ use Rattle.flake_model.specs.Command.{Command, parts}
 use Rattle.flake_model.specs.Journal.{Step, answer_at, session_steps}
 use Rattle.flake_model.specs.Run.{served_steps}
 use Rattle.flake_model.specs.Store.{Operation, Answer}
-use Rattle.call_model.specs.Outcomes.{Outcomes, answers_told, missed_in}
+use Rattle.shard_core.specs.Outcomes.{Outcomes, MayMiss, AreOutcomes, answers_told, missed_in}
 use Rattle.serve_model.specs.Demand.{session_row}
 use Rattle.serve_model.specs.Handed.{SessionRun, session_in, runs_in}
 use Rattle.serve_model.specs.Misses.{calls_needing, WholeMisses}
@@ -108,33 +108,38 @@ none_in operation answer = if is_none answer then 1 else 0
 abbrev pub weigh : (Operation → Option Answer → ℕ) → Operation × Option Answer → ℕ
 weigh weight p = weight p.0 p.1
 
--- the parts without a buffer are those without an answer
-zip_none : (operations : List Operation) (outcomes : Outcomes) → length outcomes ≡ length operations
-    → total (weigh none_in) (zip operations (answers_told outcomes)) ≡ missed_in outcomes
-zip_none [] [] long = refl
-zip_none [] (outcome ∷ outcomes) long = absurd (let no : ⊥ = omega arith in no)
-zip_none (operation ∷ operations) [] long = absurd (let no : ⊥ = omega arith in no)
-zip_none (operation ∷ operations) (None ∷ outcomes) long = omega (arith, zip_none operations outcomes (omega arith))
-zip_none (operation ∷ operations) (Some done ∷ outcomes) long =
-    omega (arith, zip_none operations outcomes (omega arith))
+-- a weight that is 1 for each part that found no buffer, and 0 for all others, counts those
+module _ (weight : Operation → Option Answer → ℕ)
+    (one : (operation : Operation) → MayMiss operation → weight operation None ≡ 1)
+    (zero : (operation : Operation) (answer : Answer) → weight operation (Some answer) ≡ 0) where
+  zip_none : (operations : List Operation) (outcomes : Outcomes) → AreOutcomes operations outcomes
+      → length outcomes ≡ length operations
+      → total (weigh weight) (zip operations (answers_told outcomes)) ≡ missed_in outcomes
+  zip_none [] [] are long = refl
+  zip_none [] (outcome ∷ outcomes) are long = absurd are
+  zip_none (operation ∷ operations) [] are long = absurd (let no : ⊥ = omega arith in no)
+  zip_none (operation ∷ operations) (None ∷ outcomes) are long =
+      omega (arith, one operation are.0, zip_none operations outcomes are.1 (omega arith))
+  zip_none (operation ∷ operations) (Some done ∷ outcomes) are long =
+      omega (arith, zero operation done.answer, zip_none operations outcomes are (omega arith))
 
-told_none : (commands : List Command) (calls : List Outcomes) → AreCalls commands calls
-    → total (weigh none_in) (parts_told commands calls) ≡ missed_by calls
-told_none commands [] are = refl
-told_none [] (outcomes ∷ calls) are = absurd are
-told_none (command ∷ commands) (outcomes ∷ calls) are = omega (
-  arith,
-  total-append (weigh none_in) (zip (parts command) (answers_told outcomes)) (parts_told commands calls),
-  zip_none (parts command) outcomes are.1,
-  told_none commands calls are.2,
-)
+  told_none : (commands : List Command) (calls : List Outcomes) → AreCalls commands calls
+      → total (weigh weight) (parts_told commands calls) ≡ missed_by calls
+  told_none commands [] are = refl
+  told_none [] (outcomes ∷ calls) are = absurd are
+  told_none (command ∷ commands) (outcomes ∷ calls) are = omega (
+    arith,
+    total-append (weigh weight) (zip (parts command) (answers_told outcomes)) (parts_told commands calls),
+    zip_none (parts command) outcomes are.0 are.1,
+    told_none commands calls are.2,
+  )
 
-pub runs_none : (runs : List Run) → Each IsRun runs
-    → total (λ (run : Run). total (weigh none_in) (parts_told run.commands run.calls)) runs
-    ≡ total (λ (run : Run). missed_by run.calls) runs
-runs_none [] each = refl
-runs_none (run ∷ runs) each =
-    omega (arith, told_none run.commands run.calls each.0.calls_are, runs_none runs each.1)
+  pub runs_none : (runs : List Run) → Each IsRun runs
+      → total (λ (run : Run). total (weigh weight) (parts_told run.commands run.calls)) runs
+      ≡ total (λ (run : Run). missed_by run.calls) runs
+  runs_none [] each = refl
+  runs_none (run ∷ runs) each =
+      omega (arith, told_none run.commands run.calls each.0.calls_are, runs_none runs each.1)
 
 -- a count is a total
 folded : {A : Type 0} (weight : A → ℕ) (n : ℕ) (xs : List A) → fold (λ a x. a + weight x) n xs ≡ n + total weight xs

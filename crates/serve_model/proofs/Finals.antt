@@ -20,7 +20,7 @@ use Rattle.flake_model.specs.Deed.{Deed, Places, places_at, AreStored, places_wi
 use Rattle.flake_model.specs.Deed.{IsLegalFrom, store_left, places_left, final_store, final_places, IsLegal}
 use Rattle.flake_model.specs.Fragments.{fragments_of}
 use Rattle.flake_model.specs.Store.{Store, Change, keeps, puts, removes, changed, change_by, bytes_at, key_of, after}
-use Rattle.call_model.specs.Stock.{fragments_by}
+use Rattle.shard_core.specs.Stock.{fragments_by}
 
 -- each entry of a sorted list is found at its key
 first : (a b : Bool) → T (a && b) → T a

@@ -22,10 +22,10 @@ use Rattle.flake_model.specs.Command.{Command, parts}
 use Rattle.flake_model.specs.Reply.{Reply, reply_of, reply_text}
 use Rattle.flake_model.specs.Journal.{next_parts}
 use Rattle.flake_model.specs.Session.{IsBegun}
-use Rattle.call_model.specs.Demand.{parts_row, call_pins}
-use Rattle.call_model.specs.Needed.{may_need, parts_needing, SoughtFor}
-use Rattle.call_model.specs.Outcomes.{Outcomes, SessionDeeds, AreOutcomes, call_told, answers_told, missed_in}
-use Rattle.call_model.proofs.Needed.{for_then, for_within, for_moved, for_nothing}
+use Rattle.shard_core.specs.CallDemand.{parts_row, call_pins}
+use Rattle.shard_core.specs.Needed.{may_need, parts_needing, SoughtFor}
+use Rattle.shard_core.specs.Outcomes.{Outcomes, SessionDeeds, AreOutcomes, call_told, answers_told, missed_in}
+use Rattle.shard_core.proofs.Needed.{for_then, for_within, for_moved, for_nothing}
 use Rattle.serve_model.specs.Demand.{stage_row, commands_row, session_row}
 use Rattle.serve_model.specs.Misses.{calls_needing, WholeMisses, SoughtByRun}
 use Rattle.serve_model.specs.Runs.{Run, calls_told, replies_told, parts_told, missed_by, calls_pins}

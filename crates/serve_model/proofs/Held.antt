@@ -21,7 +21,7 @@ use Rattle.flake_model.specs.Journal.{step_of, store_after}
 use Rattle.flake_model.specs.Store.{Store, after}
 use Rattle.order_book.specs.Closed.{AreMeant, journal_of}
 use Rattle.order_book.specs.Pages.{ShardList}
-use Rattle.call_model.specs.Stock.{fragments_by, fragments_left}
+use Rattle.shard_core.specs.Stock.{fragments_by, fragments_left}
 use Rattle.serve_model.specs.Shown.{values_left, fragments_by_class}
 use Rattle.serve_model.proofs.Finals.{length_in, weigh_fragment, fragments_total}
 use Rattle.serve_model.proofs.Ranges.{sum_from, range_one}

@@ -10,7 +10,7 @@ use Rattle.flake_model.specs.Command.{Command, parts}
 use Rattle.flake_model.specs.Deed.{Deed}
 use Rattle.flake_model.specs.Journal.{Step, shard_of, call_steps, session_steps, next_parts, ran_steps, in_shard}
 use Rattle.flake_model.specs.Journal.{IsServed, none, next, left_out}
-use Rattle.call_model.specs.Outcomes.{Outcomes, deed_of, AreOutcomes, call_told, entry_at}
+use Rattle.shard_core.specs.Outcomes.{Outcomes, deed_of, AreOutcomes, call_told, entry_at}
 use Rattle.serve_model.specs.Runs.{calls_told, AreCalls, Run, IsRun, run_told}
 use Rattle.serve_model.proofs.Calls.{told_entries, entries_append}
 
@@ -55,7 +55,7 @@ module _ (shards shard session : ℕ) where
   call_served call part (operation ∷ operations) (None ∷ outcomes) are =
       without_part (shard_of shards (key_of operation) == shard) (entry_at session call part, operation)
       (in_shard shards shard (call_steps session call (part + 1) (take (length outcomes) operations)))
-      (told_entries (told_in shard (call_told shards session call (part + 1) operations outcomes))) are.0
+      (told_entries (told_in shard (call_told shards session call (part + 1) operations outcomes))) are.0.0
       (call_served call (part + 1) operations outcomes are.1)
   call_served call part (operation ∷ operations) (Some done ∷ outcomes) are =
       with_part (shard_of shards (key_of operation) == shard) (entry_at session call part, operation)

@@ -3,6 +3,7 @@ use Rattle.std.proofs.Common.{◌≡◌, ℕ, suc, ◌+◌, ◌<◌, ◌≤◌, 
 use Rattle.std.proofs.Common.{slice_get, refl, ap, sym, ◌∙◌, subst, ⊎_elim, arith}
 use Rattle.std.specs.List.{filter}
 use Rattle.std.proofs.lemmas.Bool.{leb-true, le-leb, true≢false, cases_lt}
+use Rattle.std.specs.Prelude.{⊤}
 use Rattle.view_sums.specs.Total.{Each}
 use Rattle.view_sums.proofs.Eachs.{each-imp}
 use Rattle.order_book.specs.Pages.{Ranked, Page}
@@ -84,7 +85,7 @@ Goes x y = (x.rank ≤ y.rank) × (x ≡ y → ⊥)
 
 -- each goes before those behind it
 abbrev pub Pairs : List Ranked → Type 0
-Pairs [] = Unit {0}
+Pairs [] = ⊤
 Pairs (x ∷ xs) = Each (Goes x) xs × Pairs xs
 
 abbrev pub IsOf : ℕ → Ranked → Type 0
@@ -163,7 +164,7 @@ rising_pairs r (x ∷ xs) rises = (
 
 -- the numbers of the pages go up by one, from n on
 abbrev pub IsRow : ℕ → List Page → Type 0
-IsRow n [] = Unit {0}
+IsRow n [] = ⊤
 IsRow n (p ∷ ps) = (p.number ≡ n) × IsRow (n + 1) ps
 
 pub row_of : (n : ℕ) (ps : List Page) → ((k : ℕ) (p : Page) → slice_get ps k ≡ Some p → p.number ≡ n + k) → IsRow n ps

@@ -3,11 +3,11 @@ use Rattle.std.proofs.Common.{◌≡◌, ℕ, List, [], ◌∷◌, refl, lit≤,
 use Rattle.pin_core.specs.declared.class.Class.TheVariants.{Small, Large}
 use Rattle.pinned_pool.specs.Classes.{buffers_in}
 use Rattle.pinned_pool.specs.Views.{looked_at}
-use Rattle.flake_model.specs.Run.{all_commands}
+use Rattle.flake_model.specs.Run.{all_commands, missing_writes}
 use Rattle.serve_model.specs.Demand.{demand_of}
 use Rattle.serve_model.specs.Mixed.{mixed_pool, mixed_session, mixed_journal, mixed_end, MixedIsNone}
-use Rattle.serve_model.specs.Mixed.{long_session, small_end, SmallIsNone}
-use Rattle.serve_model.specs.Shown.{missing_in_class}
+use Rattle.serve_model.specs.Mixed.{long_session, small_end, SmallIsNone, empty_session, EmptyIsNone}
+use Rattle.serve_model.specs.Shown.{missing_in_class, missing_in_need}
 
 demand : (given : List ℕ) (taken : ℕ) → demand_of Large (all_commands (mixed_session given taken ∷ [])) ≡ 2
 demand given taken = refl
@@ -38,6 +38,19 @@ small_is_none given taken = record {
       ) in
       no;
 }
+
+in_need : (given : List ℕ) (taken : ℕ) → missing_in_need (empty_session given taken ∷ []) mixed_journal ≡ 1
+in_need given taken = refl
+
+pub empty_is_none : (given : List ℕ) (taken : ℕ) → EmptyIsNone given taken
+empty_is_none given taken =
+    let missing : missing_writes (empty_session given taken ∷ []) mixed_journal ≡ 2 = refl in
+    record {
+      missing = missing;
+      not_so = λ threshold counted.
+          let no : ⊥ = omega (arith, counted.all_need, in_need given taken, missing) in
+          no;
+    }
 
 pub mixed_is_none : (given : List ℕ) (taken : ℕ) → MixedIsNone given taken
 mixed_is_none given taken = record {

@@ -29,7 +29,7 @@ use Rattle.order_book.specs.Closed.{AreMeant, AreRising, journal_of}
 use Rattle.order_book.specs.declared.rule.BookSizes.{BookSizes}
 use Rattle.order_book.proofs.Among.{each-among, among-each, among-map}
 use Rattle.order_book.proofs.Ordered.{entry_of, all-among, in_session, session_page_of, rising_shown}
-use Rattle.call_model.specs.Outcomes.{Outcomes, call_told}
+use Rattle.shard_core.specs.Outcomes.{Outcomes, call_told}
 use Rattle.serve_model.specs.Runs.{calls_told, Run, run_told, lists_told}
 use Rattle.flake_model.specs.Run.{all_commands}
 use Rattle.serve_model.specs.Handed.{SessionRun, session_in, runs_in}
@@ -38,6 +38,7 @@ use Rattle.flake_model.specs.OneHistory.{HasOneHistory}
 use Rattle.serve_model.proofs.Places.{get_map, get_map_none, in_range}
 use Rattle.order_book.proofs.Replayed.{means}
 use Rattle.std.proofs.lemmas.Option.{slice_get-get_or}
+use Rattle.std.specs.Prelude.{⊤}
 use Rattle.serve_model.proofs.Served.{shards_long, sessions_long, rising, answered}
 use Rattle.serve_model.proofs.Merged.{merged, all_merged, filter_yes, filter_no, Goes, Pairs, IsRow, row_of, AreNamed}
 use Rattle.serve_model.proofs.Merged.{merged_pairs, IsOf, IsAway, away_from}
@@ -145,7 +146,7 @@ filter_same f g (x ∷ xs) each = (λ i. cond (each.0 i) (x ∷ filter_same f g 
 
 -- what a list has at most once
 abbrev AllApart : List Entry → Type 0
-AllApart [] = Unit {0}
+AllApart [] = ⊤
 AllApart (e ∷ es) = AllByRecursion (λ later. e ≡ later → ⊥) es × AllApart es
 
 entries_of_answers : (store : Store) (steps : List Step)

@@ -17,8 +17,8 @@ use Rattle.flake_model.specs.Run.{all_commands}
 use Rattle.flake_model.specs.Session.{Session}
 use Rattle.order_book.specs.Closed.{AreMeant, IsShared, AreShared, deeds_by, session_deeds_in, own_deeds, journal_of}
 use Rattle.order_book.specs.Pages.{ShardList, SessionList}
-use Rattle.call_model.specs.Demand.{pins_by, call_pins}
-use Rattle.call_model.specs.Outcomes.{Outcomes, entry_at, call_told}
+use Rattle.shard_core.specs.CallDemand.{pins_by, call_pins}
+use Rattle.shard_core.specs.Outcomes.{Outcomes, entry_at, call_told}
 use Rattle.serve_model.specs.Runs.{Run, calls_told, calls_pins, list_of, lists_told}
 use Rattle.serve_model.specs.Shown.{has_reply, pins_after, pins_found}
 use Rattle.serve_model.proofs.Calls.{own, own_append}

@@ -15,7 +15,7 @@ use Rattle.order_book.specs.Closed.{AreClosed, journal_of}
 use Rattle.order_book.specs.Pages.{ShardList, SessionList}
 use Rattle.order_book.specs.declared.rule.BookSizes as book_sizes
 use Rattle.order_book.proofs.Ordered.{has_ranks}
-use Rattle.call_model.specs.Stock.{AreParts}
+use Rattle.shard_core.specs.Stock.{AreParts}
 use Rattle.serve_model.specs.Handed.{SessionRun, session_in, runs_in, OneRun, AllRun, AreServed, IsLastSeat}
 use Rattle.serve_model.specs.Lists.{AreLists}
 use Rattle.serve_model.specs.Runs.{Run, run_text, run_texts, replies_told, IsRun}

@@ -21,7 +21,7 @@ use Rattle.order_book.specs.Closed.{IsShared}
 use Rattle.order_book.specs.declared.rule.BookSizes.{BookSizes}
 use Rattle.order_book.proofs.Shared.{shares}
 use Rattle.order_book.proofs.Replayed.{replays}
-use Rattle.call_model.specs.Outcomes.{call_told}
+use Rattle.shard_core.specs.Outcomes.{call_told}
 use Rattle.serve_model.specs.Handed.{SessionRun, session_in, runs_in}
 use Rattle.serve_model.specs.Lists.{AreLists}
 use Rattle.serve_model.specs.Replies.{reply_texts, all_replies_from}

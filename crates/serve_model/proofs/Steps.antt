@@ -3,8 +3,8 @@ use Rattle.std.proofs.Common.{◌≡◌, ℕ, suc, ◌+◌, List, [], ◌∷◌,
 use Rattle.std.specs.List.{zip}
 use Rattle.std.proofs.lemmas.List.{append_assoc}
 use Rattle.flake_model.specs.Command.{Command, parts}
-use Rattle.call_model.specs.Demand.{call_pins}
-use Rattle.call_model.specs.Outcomes.{Outcomes, SessionDeeds, AreOutcomes, call_told, answers_told}
+use Rattle.shard_core.specs.CallDemand.{call_pins}
+use Rattle.shard_core.specs.Outcomes.{Outcomes, SessionDeeds, AreOutcomes, call_told, answers_told}
 use Rattle.serve_model.specs.Runs.{calls_told, AreCalls, replies_told, parts_told, calls_pins}
 use Rattle.serve_model.specs.Steps.{CallsAdd, FirstCalls}
 

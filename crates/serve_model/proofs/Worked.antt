@@ -25,7 +25,7 @@ use Rattle.flake_model.specs.Store.{answer_on}
 use Rattle.flake_model.proofs.InTurn.{read_at_once}
 use Rattle.order_book.specs.Closed.{AreClosed, journal_of}
 use Rattle.order_book.specs.Pages.{ShardList}
-use Rattle.call_model.specs.Stock.{AreParts, IsStock, fragments_left}
+use Rattle.shard_core.specs.Stock.{AreParts, IsStock, fragments_left}
 use Rattle.serve_model.specs.Demand.{session_row}
 use Rattle.serve_model.specs.Handed.{SessionRun, session_in, runs_in, AreServed, IsLastSeat}
 use Rattle.serve_model.specs.Misses.{calls_needing}
@@ -252,7 +252,15 @@ runs_are = (
   record { replies_are = refl; calls_are = (tt, refl, tt); behind_are = tt; begun_is = refl },
   (
     record { replies_are = refl; calls_are = (tt, refl, tt); behind_are = tt; begun_is = refl },
-    (record { replies_are = refl; calls_are = ((tt, tt), refl, tt); behind_are = tt; begun_is = refl }, tt),
+    (
+      record {
+        replies_are = refl;
+        calls_are = (((tt, omega arith), tt), refl, tt);
+        behind_are = tt;
+        begun_is = refl;
+      },
+      tt,
+    ),
   ),
 )
 

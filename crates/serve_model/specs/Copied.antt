@@ -8,7 +8,7 @@ use Rattle.pinned_pool.specs.Ends.{End}
 use Rattle.flake_model.specs.Command.{Command, get, set, get_range}
 use Rattle.flake_model.specs.Session.{Session}
 use Rattle.flake_model.specs.Store.{always, if_missing}
-use Rattle.call_model.specs.Demand.{pieces_from}
+use Rattle.shard_core.specs.CallDemand.{pieces_from}
 use Rattle.serve_model.specs.Shown.{pins_found, IsCounted}
 
 -- a session that sets a key to two bytes, and asks for them

@@ -5,7 +5,7 @@ use Rattle.pin_core.specs.declared.class.Class.{Class}
 use Rattle.pin_core.specs.declared.class.Class.TheVariants.{Small}
 use Rattle.pinned_pool.specs.Classes.{just}
 use Rattle.flake_model.specs.Command.{Command, parts}
-use Rattle.call_model.specs.Demand.{parts_row}
+use Rattle.shard_core.specs.CallDemand.{parts_row}
 
 -- the buffers of one staging area
 abbrev pub stage_row : Class → ℕ

@@ -5,8 +5,8 @@ use Rattle.pin_core.specs.declared.sizes.Sizes.{Sizes}
 use Rattle.pinned_pool.specs.declared.view.View.{View}
 use Rattle.flake_model.specs.Command.{Command}
 use Rattle.flake_model.specs.Reply.{reply_text}
-use Rattle.call_model.specs.Needed.{SoughtFor}
-use Rattle.call_model.specs.Outcomes.{Outcomes, SessionDeeds}
+use Rattle.shard_core.specs.Needed.{SoughtFor}
+use Rattle.shard_core.specs.Outcomes.{Outcomes, SessionDeeds}
 use Rattle.serve_model.specs.Demand.{commands_row}
 use Rattle.serve_model.specs.Misses.{calls_needing, SoughtByRun}
 use Rattle.serve_model.specs.Runs.{Run, IsRun, AreCalls, calls_told, replies_told, missed_by, calls_pins}

@@ -1,5 +1,5 @@
 -- What the sessions of a run hand up, one by one and together.
-use Rattle.std.specs.Prelude.{◌≡◌, ℕ, ◌+◌, Bool, List, [], ◌∷◌, ◌++◌, map}
+use Rattle.std.specs.Prelude.{◌≡◌, ℕ, ◌+◌, Bool, List, [], ◌∷◌, ◌++◌, map, ⊤}
 use Rattle.view_sums.specs.Total.{Each}
 use Rattle.flake_base.specs.declared.session.SessionEnd.{SessionEnd}
 use Rattle.pin_core.specs.declared.sizes.Sizes.{Sizes}
@@ -34,7 +34,7 @@ pub record OneRun : Type 0 where
 
 -- each session ran, from a number on
 abbrev pub AllRun : Sizes → ℕ → ℕ → ℕ → List OneRun → Type 0
-AllRun z threshold shards session [] = Unit {0}
+AllRun z threshold shards session [] = ⊤
 AllRun z threshold shards session (one ∷ others) =
     SessionHasRun z threshold shards session one.given one.ended one.end one.list one.seat one.texts
     × AllRun z threshold shards (session + 1) others

@@ -7,8 +7,8 @@ use Rattle.pin_core.specs.declared.sizes.Sizes.{Sizes}
 use Rattle.pinned_pool.specs.Sought.{Sought}
 use Rattle.pinned_pool.specs.declared.view.View.{View}
 use Rattle.flake_model.specs.Command.{Command}
-use Rattle.call_model.specs.Needed.{may_need}
-use Rattle.call_model.specs.Outcomes.{Outcomes, missed_in}
+use Rattle.shard_core.specs.Needed.{may_need}
+use Rattle.shard_core.specs.Outcomes.{Outcomes, missed_in}
 use Rattle.serve_model.specs.Runs.{Run, parts_told, missed_by}
 
 -- how many parts of these calls found no buffer, and may need one of the class

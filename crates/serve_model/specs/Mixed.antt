@@ -6,7 +6,7 @@ use Rattle.flake_base.specs.declared.session.End.TheVariants.{Clean}
 use Rattle.pin_core.specs.declared.sizes.Sizes.{Sizes}
 use Rattle.pinned_pool.specs.Ends.{End}
 use Rattle.pinned_pool.specs.Views.{view}
-use Rattle.flake_model.specs.Command.{Command, set}
+use Rattle.flake_model.specs.Command.{Command, set, append}
 use Rattle.flake_model.specs.Run.{missing_writes}
 use Rattle.flake_model.specs.Session.{Session}
 use Rattle.flake_model.specs.Store.{always}
@@ -61,6 +61,26 @@ small_pool = record { small = 1; large = 1; credits = 4 }
 
 abbrev pub small_end : End
 small_end = record { seat = view [] 4 (0 ∷ []) ((0, 1) ∷ []) 0 []; small = 0; large = 0 }
+
+-- a session of a write that may need both classes and a write that needs no buffer
+abbrev pub empty_session : List ℕ → ℕ → Session
+empty_session given taken = record {
+  given = given;
+  ended = true;
+  commands = append (codes "b") (codes "xx") ∷ set always false (codes "c") [] ∷ [];
+  end = record { end = Clean; taken = taken; replies = 2; failed = false };
+  begun = 0;
+}
+
+-- where both buffers were found held
+abbrev pub both_end : End
+both_end = record { seat = view [] 4 (0 ∷ 1 ∷ []) ((0, 1) ∷ (1, 1) ∷ []) 0 []; small = 0; large = 0 }
+
+-- Both writes are missing, and the second one didn't miss either buffer.
+pub record EmptyIsNone (given : List ℕ) (taken : ℕ) : Type 0 where
+  pub missing : missing_writes (empty_session given taken ∷ []) mixed_journal ≡ 2
+  pub not_so : (threshold : ℕ)
+      → IsCounted small_pool threshold (empty_session given taken ∷ []) mixed_journal both_end → ⊥
 
 -- The long write is missing, and it didn't miss the small buffer.
 pub record SmallIsNone (given : List ℕ) (taken : ℕ) : Type 0 where

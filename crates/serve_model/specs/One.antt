@@ -11,7 +11,7 @@ use Rattle.flake_model.specs.Run.{all_commands}
 use Rattle.order_book.specs.Closed.{AreClosed}
 use Rattle.order_book.specs.Pages.{ShardList, SessionList}
 use Rattle.order_book.specs.declared.rule.BookSizes as book_sizes
-use Rattle.call_model.specs.Stock.{AreParts}
+use Rattle.shard_core.specs.Stock.{AreParts}
 use Rattle.serve_model.specs.Handed.{SessionHasRun, IsLastSeat}
 use Rattle.serve_model.specs.Shown.{WasRun}
 

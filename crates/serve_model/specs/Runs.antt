@@ -1,5 +1,5 @@
 -- What one session did, call by call: its run.
-use Rattle.std.specs.Prelude.{◌≡◌, ℕ, ◌+◌, Bool, List, [], ◌∷◌, ◌++◌, Option, length, map}
+use Rattle.std.specs.Prelude.{◌≡◌, ℕ, ◌+◌, Bool, List, [], ◌∷◌, ◌++◌, Option, length, map, ⊤}
 use Rattle.std.specs.List.{flat_map, zip}
 use Rattle.view_sums.specs.Total.{total}
 use Rattle.flake_base.specs.declared.session.SessionEnd.{SessionEnd}
@@ -10,8 +10,8 @@ use Rattle.flake_model.specs.Deed.{Deed}
 use Rattle.flake_model.specs.Journal.{next_parts}
 use Rattle.flake_model.specs.Session.{Session, IsBegun}
 use Rattle.order_book.specs.Pages.{SessionList}
-use Rattle.call_model.specs.Demand.{call_pins}
-use Rattle.call_model.specs.Outcomes.{Outcomes, SessionDeeds, AreOutcomes, call_told, answers_told, missed_in}
+use Rattle.shard_core.specs.CallDemand.{call_pins}
+use Rattle.shard_core.specs.Outcomes.{Outcomes, SessionDeeds, AreOutcomes, call_told, answers_told, missed_in}
 
 -- what a session is told of its first calls, from a call on
 abbrev pub calls_told : ℕ → ℕ → ℕ → List Command → List Outcomes → SessionDeeds
@@ -22,7 +22,7 @@ calls_told shards session call (command ∷ commands) (outcomes ∷ calls) =
 
 -- each of these calls has an outcome for each of its parts
 abbrev pub AreCalls : List Command → List Outcomes → Type 0
-AreCalls commands [] = Unit {0}
+AreCalls commands [] = ⊤
 AreCalls [] (outcomes ∷ calls) = ⊥
 AreCalls (command ∷ commands) (outcomes ∷ calls) =
     AreOutcomes (parts command) outcomes × (length outcomes ≡ length (parts command)) × AreCalls commands calls

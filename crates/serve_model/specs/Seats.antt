@@ -1,5 +1,5 @@
 -- What seats of the pool have together, and what a session's seat has at its end.
-use Rattle.std.specs.Prelude.{◌≡◌, ℕ, ◌≤◌, List, [], ◌∷◌}
+use Rattle.std.specs.Prelude.{◌≡◌, ℕ, ◌≤◌, List, [], ◌∷◌, ⊤}
 use Rattle.view_sums.specs.Total.{total, SameItems}
 use Rattle.pin_core.specs.Holding.{Holding}
 use Rattle.pin_core.specs.declared.class.Class.{Class}
@@ -8,7 +8,7 @@ use Rattle.pinned_pool.specs.Moves.{joined_views}
 use Rattle.pinned_pool.specs.Sought.{Sought}
 use Rattle.pinned_pool.specs.Views.{nobody, looked_at}
 use Rattle.pinned_pool.specs.declared.view.View.{View}
-use Rattle.call_model.specs.Stock.{IsIdle}
+use Rattle.shard_core.specs.Stock.{IsIdle}
 use Rattle.serve_model.specs.Demand.{session_row}
 use Rattle.serve_model.specs.Misses.{SoughtByRun}
 use Rattle.serve_model.specs.Runs.{Run, calls_pins}
@@ -52,7 +52,7 @@ pub record IsSpentSeat (z : Sizes) (threshold : ℕ) (run : Run) (seat : View) :
 
 -- each session has its seat
 abbrev pub AreSpentSeats : Sizes → ℕ → List Run → List View → Type 0
-AreSpentSeats z threshold [] [] = Unit {0}
+AreSpentSeats z threshold [] [] = ⊤
 AreSpentSeats z threshold [] (seat ∷ seats) = ⊥
 AreSpentSeats z threshold (run ∷ runs) [] = ⊥
 AreSpentSeats z threshold (run ∷ runs) (seat ∷ seats) =

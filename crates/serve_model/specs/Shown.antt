@@ -21,8 +21,8 @@ use Rattle.flake_model.specs.Fragments.{fragments_of}
 use Rattle.flake_model.specs.Journal.{Step, step_of, store_after, answers_of, answer_at}
 use Rattle.flake_model.specs.Run.{WasServed, all_commands, served_steps, missing_writes}
 use Rattle.flake_model.specs.Session.{Session}
-use Rattle.call_model.specs.Demand.{pins_by}
-use Rattle.call_model.specs.Needed.{may_need}
+use Rattle.shard_core.specs.CallDemand.{pins_by}
+use Rattle.shard_core.specs.Needed.{may_need, may_need_some}
 use Rattle.flake_model.specs.Store.{Store, answer, first_at, after}
 use Rattle.serve_model.specs.Demand.{demand_of}
 
@@ -67,6 +67,12 @@ missing_in_class class sessions journal =
     let answers = answers_of (all_commands sessions) journal in
     total (λ (step : Step). may_need class step.1 (answer_at step.0 answers)) (served_steps 0 sessions)
 
+-- how many of the writes that are missing may need a buffer at all
+abbrev pub missing_in_need : List Session → List (List Entry) → ℕ
+missing_in_need sessions journal =
+    let answers = answers_of (all_commands sessions) journal in
+    total (λ (step : Step). may_need_some step.1 (answer_at step.0 answers)) (served_steps 0 sessions)
+
 -- The buffers that are held, that were claimed and that were missed, and the pinned holds that were given back.
 pub record IsCounted (z : Sizes) (threshold : ℕ) (sessions : List Session) (journal : List (List Entry)) (end : End)
     : Type 0 where
@@ -80,6 +86,8 @@ pub record IsCounted (z : Sizes) (threshold : ℕ) (sessions : List Session) (jo
   pub missed_are : missed Small + missed Large ≡ missing_writes sessions journal
   -- of each class no more than may need a buffer of it
   pub needed : (class : Class) → missed class ≤ missing_in_class class sessions journal
+  -- and each write that is missing may need one
+  pub all_need : missing_in_need sessions journal ≡ missing_writes sessions journal
   -- of each class no more were claimed and missed than the commands may claim
   pub claims : (class : Class)
       → buffers_in z class end.seat.claims + missed class ≤ demand_of class (all_commands sessions)

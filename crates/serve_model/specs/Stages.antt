@@ -6,7 +6,7 @@ use Rattle.pinned_pool.specs.Ends.{LooksClaimed}
 use Rattle.pinned_pool.specs.Sought.{Sought}
 use Rattle.pinned_pool.specs.Views.{nobody}
 use Rattle.pinned_pool.specs.declared.view.View.{View}
-use Rattle.call_model.specs.Stock.{IsIdle}
+use Rattle.shard_core.specs.Stock.{IsIdle}
 use Rattle.serve_model.specs.Demand.{stage_row}
 use Rattle.serve_model.specs.Seats.{HasAll}
 

@@ -10,8 +10,8 @@ use Rattle.pinned_pool.specs.declared.view.View.{View}
 use Rattle.flake_model.specs.Command.{Command, parts}
 use Rattle.flake_model.specs.Deed.{Deed}
 use Rattle.flake_model.specs.Session.{IsSession}
-use Rattle.call_model.specs.Calls.{IsExecuted, IsCutShort}
-use Rattle.call_model.specs.Outcomes.{Outcomes, SessionDeeds, AreOutcomes, call_told}
+use Rattle.shard_core.specs.Calls.{IsExecuted, IsCutShort}
+use Rattle.shard_core.specs.Outcomes.{Outcomes, SessionDeeds, AreOutcomes, call_told}
 use Rattle.serve_model.specs.Demand.{stage_row, commands_row, session_row}
 use Rattle.serve_model.specs.Going.{IsGoing, CallsNoMore, IsFinished}
 use Rattle.serve_model.specs.Handed.{SessionHasRun}

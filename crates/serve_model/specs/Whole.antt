@@ -13,7 +13,7 @@ use Rattle.flake_model.specs.Session.{Session}
 use Rattle.order_book.specs.Closed.{AreClosed}
 use Rattle.order_book.specs.Pages.{ShardList, SessionList}
 use Rattle.order_book.specs.declared.rule.BookSizes as book_sizes
-use Rattle.call_model.specs.Stock.{AreParts}
+use Rattle.shard_core.specs.Stock.{AreParts}
 use Rattle.serve_model.specs.Demand.{demand_of}
 use Rattle.serve_model.specs.Handed.{SessionRun, session_in, runs_in, OneRun, AllRun, AreServed, IsLastSeat}
 use Rattle.serve_model.specs.Replies.{all_replies}

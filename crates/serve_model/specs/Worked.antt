@@ -12,8 +12,8 @@ use Rattle.flake_model.specs.Store as part
 use Rattle.order_book.specs.Closed.{AreClosed, journal_of}
 use Rattle.order_book.specs.Pages.{Ranked, Page, page, ShardList, SessionList, shown_shard, shown_session}
 use Rattle.order_book.specs.declared.rule.BookSizes as book_sizes
-use Rattle.call_model.specs.Outcomes.{PartOutcome, Outcomes, entry_at, deed_of}
-use Rattle.call_model.specs.Stock.{AreParts}
+use Rattle.shard_core.specs.Outcomes.{PartOutcome, Outcomes, entry_at, deed_of}
+use Rattle.shard_core.specs.Stock.{AreParts}
 use Rattle.serve_model.specs.Handed.{SessionRun, runs_in, AreServed, IsLastSeat}
 use Rattle.serve_model.specs.Runs.{texts_told}
 use Rattle.serve_model.specs.Shown.{WasRun}

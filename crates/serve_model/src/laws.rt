@@ -2,7 +2,7 @@
 ghost use Rattle.std.specs.Prelude.{ℕ, List};
 ghost use Rattle.serve_model.specs.Copied.{CopiedIsNone};
 ghost use Rattle.serve_model.specs.Cuts.{CutsAgree};
-ghost use Rattle.serve_model.specs.Mixed.{MixedIsNone, SmallIsNone};
+ghost use Rattle.serve_model.specs.Mixed.{MixedIsNone, SmallIsNone, EmptyIsNone};
 ghost use Rattle.serve_model.specs.One.{OneRan};
 ghost use Rattle.serve_model.specs.Rows.{AreRows};
 ghost use Rattle.serve_model.specs.Seats.{JoinsAdd, OneSeat, AnyOrder, IdleStarts};
@@ -127,6 +127,11 @@ pub fn not_mixed()
 /// A write that needs a large buffer alone doesn't miss a small one.
 pub fn not_small()
     ensures { (given : List ℕ) (taken : ℕ) → SmallIsNone given taken }
+{}
+
+/// A write that needs no buffer isn't missing.
+pub fn not_empty()
+    ensures { (given : List ℕ) (taken : ℕ) → EmptyIsNone given taken }
 {}
 
 /// Answers whose pieces have the threshold's bytes aren't copied.

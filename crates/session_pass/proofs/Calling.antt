@@ -16,9 +16,9 @@ use Rattle.reply_layout.specs.Need.{need_of}
 use Rattle.reply_layout.specs.declared.need.Need.{Need}
 use Rattle.reply_planner.specs.Parcels.{Sent}
 use Rattle.reply_planner.specs.Places.{buffer_addresses}
-use Rattle.call_model.specs.Calls.{IsExecuted, IsCutShort}
-use Rattle.call_model.specs.Outcomes.{Outcomes, call_deeds}
-use Rattle.call_model.proofs.Needed.{for_moved}
+use Rattle.shard_core.specs.Calls.{IsExecuted, IsCutShort}
+use Rattle.shard_core.specs.Outcomes.{Outcomes, call_deeds}
+use Rattle.shard_core.proofs.Needed.{for_moved}
 use Rattle.session_pass.specs.Views.{SessionView}
 use Rattle.session_pass.specs.Waiting.{waiting, room_left, free_of, FitsBeside}
 use Rattle.session_pass.specs.Calls.{CallPosts, CallRefused, KeepsAll}

@@ -5,9 +5,9 @@ use Rattle.pinned_pool.proofs.SoughtLaws.{sought_nothing, sought_within}
 use Rattle.pinned_pool.specs.declared.view.View.{View}
 use Rattle.flake_model.specs.Command.{Command, parts}
 use Rattle.flake_model.specs.Store.{Operation}
-use Rattle.call_model.specs.Calls.{IsCutShort}
-use Rattle.call_model.specs.Demand.{parts_row}
-use Rattle.call_model.specs.Outcomes.{AreOutcomes, SessionDeeds}
+use Rattle.shard_core.specs.Calls.{IsCutShort}
+use Rattle.shard_core.specs.CallDemand.{parts_row}
+use Rattle.shard_core.specs.Outcomes.{AreOutcomes, SessionDeeds}
 use Rattle.command_exec.specs.Passes.{PassView}
 use Rattle.command_exec.specs.Executed.{FallsShort}
 

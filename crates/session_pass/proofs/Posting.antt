@@ -13,9 +13,9 @@ use Rattle.pinned_pool.specs.Named.{IsSeat}
 use Rattle.pinned_pool.specs.declared.view.View.{View}
 use Rattle.flake_base.specs.declared.segment.Seg.{Seg}
 use Rattle.flake_model.specs.Command.{Command, parts}
-use Rattle.call_model.specs.Calls.{IsExecuted, IsCutShort}
-use Rattle.call_model.specs.Outcomes.{call_deeds}
-use Rattle.call_model.specs.Parts.{IsInBuffer}
+use Rattle.shard_core.specs.Calls.{IsExecuted, IsCutShort}
+use Rattle.shard_core.specs.Outcomes.{call_deeds}
+use Rattle.shard_core.specs.Parts.{IsInBuffer}
 use Rattle.reply_layout.specs.Frames.{frame_from}
 use Rattle.reply_layout.specs.Need.{need_of}
 use Rattle.reply_planner.specs.Owned.{AreOwn}

@@ -9,9 +9,9 @@ use Rattle.reply_layout.specs.Need.{need_of}
 use Rattle.reply_planner.specs.Owned.{bare_all, fresh_all}
 use Rattle.reply_planner.specs.Parcels.{Sent}
 use Rattle.reply_planner.specs.Places.{buffer_addresses}
-use Rattle.call_model.specs.Outcomes.{Outcomes, call_deeds}
-use Rattle.call_model.specs.Calls.{IsExecuted, IsCutShort}
-use Rattle.call_model.specs.Parts.{call_segs, IsInBuffer}
+use Rattle.shard_core.specs.Outcomes.{Outcomes, call_deeds}
+use Rattle.shard_core.specs.Calls.{IsExecuted, IsCutShort}
+use Rattle.shard_core.specs.Parts.{call_segs, IsInBuffer}
 use Rattle.command_exec.specs.Executed.{frame_shown}
 use Rattle.session_pass.specs.Views.{SessionView}
 use Rattle.session_pass.specs.Waiting.{waiting, room_left, free_of, FitsBeside}
@@ -62,6 +62,11 @@ pub record CallPosts (z : Sizes) (shards : ℕ) (command : Command) (old new : S
   pub rest : KeepsRest old new
   pub misses : new.misses ≡ old.misses
   pub stopped : new.stopped ≡ old.stopped
+
+-- the same, whatever its segments are
+abbrev pub PostsOne : Sizes → ℕ → Command → SessionView → SessionView → ℕ → ℕ → Type 0
+PostsOne z shards command old new call freed =
+    (sent stored : List Seg) × CallPosts z shards command old new call freed sent stored
 
 -- Some of the oldest replies were reaped, and the next one was found not to be sent.
 pub record CallReaps (old new : SessionView) : Type 0 where

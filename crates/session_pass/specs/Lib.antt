@@ -7,3 +7,4 @@ pub mod Finished
 pub mod Ends
 pub mod Running
 pub mod Ended
+pub mod Fresh

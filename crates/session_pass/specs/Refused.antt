@@ -1,5 +1,5 @@
 -- Why a call posts nothing, and what making room for it does.
-use Rattle.std.specs.Prelude.{◌≡◌, ℕ, ◌<◌, nat_lt, if◌then◌else◌, List, ◌++◌, length}
+use Rattle.std.specs.Prelude.{◌≡◌, ℕ, ◌<◌, nat_lt, if◌then◌else◌, List, ◌++◌, length, ⊤}
 use Rattle.pin_core.specs.declared.sizes.Sizes.{Sizes}
 use Rattle.flake_base.specs.declared.segment.Seg.{Seg}
 use Rattle.flake_model.specs.Command.{Command}
@@ -20,7 +20,7 @@ WhyCallRefused z shards command old new CallError.Memory = CallRefused z shards 
 abbrev pub TellsNothing : CallError → List Seg → List Seg → Type 0
 TellsNothing (CallError.RingFull need room) old new = new ≡ old
 TellsNothing (CallError.StageFull need free) old new = new ≡ old
-TellsNothing CallError.Memory old new = Unit {0}
+TellsNothing CallError.Memory old new = ⊤
 
 -- which of ring and stage has less than is needed
 abbrev pub full_error : Need → Need → CallError

@@ -11,3 +11,8 @@ pub record RunsCommand (z : Sizes) (shards : ℕ) (command : Command) (call : �
     (sent stored : List Seg) : Type 0 where
   pub executes : Executes z shards command call old new parcel [] stored
   pub sent_is : sent ≡ parcel.segments
+
+-- whatever it stored
+abbrev pub RunsUntold : Sizes → ℕ → Command → ℕ → PassView → PassView → Sent → Type 0
+RunsUntold z shards command call old new parcel =
+    (stored : List Seg) × RunsCommand z shards command call old new parcel parcel.segments stored

@@ -1,12 +1,12 @@
 // Calls.
 ghost use Rattle.std.specs.Prelude.{◌≡◌, ◌-◌, ◌^◌, ◌<◌, true, length, Err, IfOk, IfErr, OnErr};
 ghost use Rattle.reply_layout.specs.Need.{need_of};
-ghost use Rattle.session_pass.specs.Calls.{CallPosts, CallRefused};
+ghost use Rattle.session_pass.specs.Calls.{CallPosts, PostsOne, CallRefused};
 ghost use Rattle.session_pass.specs.Refused.{TellsNothing, WhyCallRefused};
 ghost use Rattle.session_pass.specs.Waiting.{waiting, FitsBeside};
 
 use crate::error::CallError;
-use crate::run::run;
+use crate::run::{run, run_untold};
 use crate::session::Session;
 use command_exec::{ExecError, Shop};
 use command_parts::Command;
@@ -56,7 +56,67 @@ impl<N: BookName, P: PoolName + Send> Session<N, P> {
         }
     }
 
-    // The same where ring and stage have what is needed. The answer is the call's number.
+    /// The same where nobody asks for the segments.
+    pub fn call_untold<R: Wait>(
+        &mut self,
+        rt: &R,
+        shop: &Shop<'_, N, P>,
+        command: &Command,
+    ) -> Result<Posted, CallError>
+        requires few { length self.old.posted < 2 ^ 32 - 1 }
+        ensures posted { IfOk result (λ posted. PostsOne P.sizes N.sizes.shards command.now self.old self.new
+            posted.call posted.reaped) }
+        ensures refused { IfErr result (λ error.
+            WhyCallRefused P.sizes N.sizes.shards command.now self.old self.new error) }
+        ensures stopped { self.old.stopped ≡ true → (result ≡ Err CallError.Memory) × (self.new ≡ self.old) }
+    {
+        if self.stopped {
+            return Err(CallError::Memory);
+        }
+        let (reaped, _) = self.make_room(shop, command)?;
+        match self.post_untold(rt, shop, command) {
+            Ok(call) => Ok(Posted { call, reaped }),
+            Err(ExecError::Memory) => Err(CallError::Memory),
+        }
+    }
+
+    // A call where ring and stage have what is needed. The answer is its number.
+    fn post_untold<R: Wait>(
+        &mut self,
+        rt: &R,
+        shop: &Shop<'_, N, P>,
+        command: &Command,
+    ) -> Result<u32, ExecError>
+        requires few { length self.old.posted < 2 ^ 32 - 1 }
+        requires fits { FitsBeside self.old.ring self.old.pass.stage (waiting self.old 0) (need_of command.now) }
+        ensures posted { IfOk result
+            (λ call. PostsOne P.sizes N.sizes.shards command.now self.old self.new call 0) }
+        ensures refused { OnErr result (CallRefused P.sizes N.sizes.shards command.now self.old self.new) }
+    {
+        self.pass.is_pass();
+        let call = self.calls;
+        let at = Entry {
+            session: self.number,
+            call,
+            part: 0,
+        };
+        match run_untold(rt, shop, &mut self.pass, &mut self.ready, at, command) {
+            Ok(parcel) => {
+                parcel.is_parcel();
+                self.calls += 1;
+                match self.driver.post(parcel) {
+                    Ok(()) => Ok(call),
+                    Err(_) => unreachable!(),
+                }
+            }
+            Err(error) => {
+                self.stopped = true;
+                Err(error)
+            }
+        }
+    }
+
+    // The same, told.
     fn post<R: Wait>(
         &mut self,
         rt: &R,

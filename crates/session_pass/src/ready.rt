@@ -53,7 +53,6 @@ impl Ready {
         requires left { self.old.left ≤ list.spare + length list.items }
         ensures stored { stored.new.items ≡ list.items }
     {
-        let mut list = list;
         if list.is_empty() {
             stored.clear();
         } else if stored.capacity() < list.len() {
@@ -61,6 +60,16 @@ impl Ready {
             return;
         } else {
             copy(&list, stored);
+        }
+        self.keep(list);
+    }
+
+    /// Keeps such a list for the next call.
+    pub(crate) fn keep(&mut self, list: Segs)
+        requires left { self.old.left ≤ list.spare + length list.items }
+    {
+        let mut list = list;
+        if !list.is_empty() {
             self.left = self.left.saturating_sub(list.len());
             list.truncate(0);
         }

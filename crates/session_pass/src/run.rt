@@ -2,12 +2,12 @@
 ghost use Rattle.std.specs.Prelude.{◌≡◌, ◌+◌, ◌≤◌, [], length, vec_capacity, IfOk, OnErr};
 ghost use Rattle.reply_layout.specs.Need.{need_of};
 ghost use Rattle.command_exec.specs.Executed.{FallsShort};
-ghost use Rattle.session_pass.specs.Running.{RunsCommand};
+ghost use Rattle.session_pass.specs.Running.{RunsCommand, RunsUntold};
 
 use crate::ready::Ready;
 use command_exec::{ExecError, Pass, Shop, execute};
 use command_parts::Command;
-use flake_base::{Entry, Seg};
+use flake_base::{Entry, Seg, Segs};
 use order_book::BookName;
 use pinned_pool::PoolName;
 use reply_planner::{Need, Parcel};
@@ -38,13 +38,55 @@ pub(crate) fn run<R: Wait, N: BookName, P: PoolName>(
     if sent.reserve(need.descriptors as usize).is_err() {
         return Err(ExecError::Memory);
     }
+    let (parcel, fragments) = run_parts(rt, shop, pass, ready, at, command)?;
+    ready.hand_out(fragments, stored);
+    tell(&parcel, sent);
+    Ok(parcel)
+}
+
+/// The same where nobody asks for the segments. Memory is taken only where no list is ready.
+pub(crate) fn run_untold<R: Wait, N: BookName, P: PoolName>(
+    rt: &R,
+    shop: &Shop<'_, N, P>,
+    pass: &mut Pass<N, P>,
+    ready: &mut Ready,
+    at: Entry,
+    command: &Command,
+) -> Result<Parcel<P>, ExecError>
+    requires stage { (need_of command.now).stage ≤ length pass.old.free }
+    requires credits { (need_of command.now).descriptors + 5 ≤ pass.old.seat.credits }
+    requires session { at.session ≡ pass.old.list.number }
+    ensures reply { IfOk result (λ parcel.
+        RunsUntold P.sizes N.sizes.shards command.now at.call pass.old pass.new parcel) }
+    ensures memory { OnErr result (FallsShort P.sizes N.sizes.shards command.now at.call pass.old pass.new) }
+{
+    let (parcel, fragments) = run_parts(rt, shop, pass, ready, at, command)?;
+    ready.keep(fragments);
+    Ok(parcel)
+}
+
+// The parcel, and the fragments that were stored.
+fn run_parts<R: Wait, N: BookName, P: PoolName>(
+    rt: &R,
+    shop: &Shop<'_, N, P>,
+    pass: &mut Pass<N, P>,
+    ready: &mut Ready,
+    at: Entry,
+    command: &Command,
+) -> Result<(Parcel<P>, Segs), ExecError>
+    requires stage { (need_of command.now).stage ≤ length pass.old.free }
+    requires credits { (need_of command.now).descriptors + 5 ≤ pass.old.seat.credits }
+    requires session { at.session ≡ pass.old.list.number }
+    ensures reply { IfOk result (λ r. RunsCommand P.sizes N.sizes.shards command.now at.call pass.old pass.new r.0
+        r.0.segments r.1.items) }
+    ensures left { IfOk result (λ r. ready.new.left ≤ r.1.spare + length r.1.items) }
+    ensures memory { OnErr result (FallsShort P.sizes N.sizes.shards command.now at.call pass.old pass.new) }
+{
     let Ok(mut fragments) = ready.take() else {
         return Err(ExecError::Memory);
     };
     let parcel = execute(rt, shop, pass, at.session, at.call, command, &mut fragments)?;
-    ready.hand_out(fragments, stored);
-    tell(&parcel, sent);
-    Ok(parcel)
+    Ok((parcel, fragments))
 }
 
 // Puts a reply's segments into an empty list.

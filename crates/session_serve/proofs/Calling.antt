@@ -14,15 +14,16 @@ use Rattle.flake_model.specs.Session.{IsSession}
 use Rattle.command_pump.specs.Pump.{Origin, PumpState, IsPump, HasEnded, ended_at, session_at}
 use Rattle.command_pump.proofs.Meant.{meant, stopped_at, bounded}
 use Rattle.reply_planner.specs.Parcels.{Sent, texts_in}
-use Rattle.call_model.specs.Outcomes.{Outcomes, SessionDeeds}
-use Rattle.call_model.specs.Calls.{IsExecuted, IsCutShort}
+use Rattle.shard_core.specs.Outcomes.{Outcomes, SessionDeeds}
+use Rattle.shard_core.specs.Calls.{IsExecuted, IsCutShort}
 use Rattle.serve_model.specs.Going as model
 use Rattle.serve_model.proofs.Going.{going_starts, going_on, going_ends, going_breaks}
 use Rattle.session_pass.specs.Calls.{CallPosts, CallRefused}
 use Rattle.session_pass.specs.Kept.{holds_paid}
 use Rattle.session_pass.specs.Views.{SessionView}
 use Rattle.session_serve.specs.Forms.{AreNumberedByPlace}
-use Rattle.session_serve.specs.Working.{IsFresh, IsWorking, CallsMore, HasStopped, run_of}
+use Rattle.session_serve.specs.Working.{IsWorking, CallsMore, HasStopped, run_of}
+use Rattle.session_pass.specs.Fresh.{IsFresh}
 use Rattle.session_serve.proofs.Forms.{numbered-none, numbered-more}
 
 -- the command behind the first ones

@@ -12,7 +12,7 @@ use Rattle.flake_model.specs.Deed.{Deed}
 use Rattle.order_book.specs.Closed.{deeds_by, session_deeds_in}
 use Rattle.order_book.specs.Pages.{SessionList}
 use Rattle.reply_planner.specs.Parcels.{Sent}
-use Rattle.call_model.specs.Outcomes.{Outcomes, SessionDeeds, call_told}
+use Rattle.shard_core.specs.Outcomes.{Outcomes, SessionDeeds, call_told}
 use Rattle.dump_model.specs.Seen.{ShardSeen, HasSeen, list_seen, list_with}
 use Rattle.pin_dump.specs.Dumps.{DumpView, TookDump, HasTakenHolds, IsSameSeat}
 use Rattle.pin_dump.proofs.SeenTaken.{is_seen}
@@ -116,8 +116,8 @@ module _ {P : Type 0} (shards : ℕ) where
       → MayCall asked plan (length old.posted) → CallsAtLast z shards command old new
       → Stands shards asked plan taken first old.pass.list → Stands shards asked plan taken first new.pass.list
   stands-at_last z asked plan taken first command old new may c stands =
-      stands-posted z asked plan taken first command c.rested new c.call c.freed c.sent c.stored
-      (may-waited asked plan old c.rested c.waited may) c.posts
+      stands-posted z asked plan taken first command c.rested new c.call c.freed c.posts.0 c.posts.1
+      (may-waited asked plan old c.rested c.waited may) c.posts.2
       (stands-waited asked plan taken first old c.rested c.waited stands)
 
   pub stands-broken : (z : Sizes) (asked plan : Option (DumpPlan P)) (taken : Option (Result DumpView View))
@@ -148,8 +148,8 @@ module _ {P : Type 0} (shards : ℕ) where
       → MayCall asked plan (length old.posted) → CallsAtLast z shards command old new
       → IsInTime asked plan (length new.posted)
   in_time-at_last z asked plan command old new may c =
-      in_time-posted z asked plan command c.rested new c.call c.freed c.sent c.stored
-      (may-waited asked plan old c.rested c.waited may) c.posts
+      in_time-posted z asked plan command c.rested new c.call c.freed c.posts.0 c.posts.1
+      (may-waited asked plan old c.rested c.waited may) c.posts.2
 
   -- a dump that waits for its turn, at the last call before it or behind all
   pub came-taken : (asked : Option (DumpPlan P)) (plan : DumpPlan P) (taken : Option (Result DumpView View))

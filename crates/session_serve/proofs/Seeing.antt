@@ -12,7 +12,7 @@ use Rattle.order_book.specs.Pages.{SessionList}
 use Rattle.tx_descriptor.specs.declared.framed.Framed.{Ghosts}
 use Rattle.tx_ring.specs.declared.device.DeviceEnd.{DeviceEnd}
 use Rattle.reply_planner.specs.Parcels.{Sent, texts_in}
-use Rattle.call_model.specs.Outcomes.{Outcomes, SessionDeeds}
+use Rattle.shard_core.specs.Outcomes.{Outcomes, SessionDeeds}
 use Rattle.serve_model.specs.Going as model
 use Rattle.serve_model.specs.Runs.{Run, session_of}
 use Rattle.dump_model.specs.Seen.{ShardSeen}
@@ -21,7 +21,8 @@ use Rattle.session_pass.specs.Kept.{holds_paid}
 use Rattle.session_pass.specs.Views.{SessionView}
 use Rattle.session_serve.specs.Dumps.{IsSeeing, as_seeing}
 use Rattle.session_serve.specs.Forms.{AreNumberedByPlace}
-use Rattle.session_serve.specs.Working.{IsFresh, IsGathered, HasOneMore, IsWorking, CallsMore, HasStopped, run_of}
+use Rattle.session_serve.specs.Working.{IsGathered, HasOneMore, IsWorking, CallsMore, HasStopped, run_of}
+use Rattle.session_pass.specs.Fresh.{IsFresh}
 use Rattle.session_serve.proofs.Calling.{work-ends, work-breaks, work-goes-on}
 
 -- a session that has seen more works on

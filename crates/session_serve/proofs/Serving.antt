@@ -17,7 +17,7 @@ use Rattle.reply_planner.specs.Parcels.{Sent, texts_in}
 use Rattle.device_model.specs.Devices.{joined_as_sent, ForwardsAs}
 use Rattle.device_model.proofs.Forwarding.{joined-none}
 use Rattle.any_wire.specs.Texts.{joined}
-use Rattle.call_model.specs.Outcomes.{SessionDeeds}
+use Rattle.shard_core.specs.Outcomes.{SessionDeeds}
 use Rattle.serve_model.specs.Going.{CallsNoMore}
 use Rattle.serve_model.specs.Handed.{SessionHasRun}
 use Rattle.serve_model.proofs.Going.{session_ran}
@@ -28,7 +28,8 @@ use Rattle.session_serve.specs.Forms.{all_as_sent, each_as_sent}
 use Rattle.session_serve.specs.Served.{IsServed}
 use Rattle.session_serve.specs.Whole.{SentWhole}
 use Rattle.session_serve.specs.Wires.{SendsOut, WasFlushed}
-use Rattle.session_serve.specs.Working.{IsFresh, HasStopped, IsLeft, run_of}
+use Rattle.session_serve.specs.Working.{HasStopped, IsLeft, run_of}
+use Rattle.session_pass.specs.Fresh.{IsFresh}
 use Rattle.session_serve.proofs.Forms.{each-all, sent-joined}
 use Rattle.session_serve.proofs.Seeing.{fresh-as_seeing}
 

@@ -17,7 +17,7 @@ use Rattle.tx_ring.specs.declared.closed.ClosedDriver.{ClosedDriver}
 use Rattle.reply_planner.specs.Owned.{bare_all, fresh_all}
 use Rattle.reply_planner.specs.Parcels.{Sent, texts_in}
 use Rattle.device_model.specs.Devices.{ForwardsAs}
-use Rattle.call_model.specs.Outcomes.{Outcomes}
+use Rattle.shard_core.specs.Outcomes.{Outcomes}
 use Rattle.serve_model.specs.Going as model
 use Rattle.serve_model.proofs.Going.{going_rests}
 use Rattle.pin_dump.specs.Dumps.{DumpView}
@@ -26,7 +26,8 @@ use Rattle.session_pass.specs.Finished.{IsSessionDone}
 use Rattle.session_pass.specs.Kept.{holds_paid}
 use Rattle.session_pass.specs.Views.{SessionView}
 use Rattle.session_serve.specs.Forms.{AreNumberedByPlace, each_as_sent}
-use Rattle.session_serve.specs.Working.{IsFresh, IsWorking, CallsMore, HasStopped, IsLeft}
+use Rattle.session_serve.specs.Working.{IsWorking, CallsMore, HasStopped, IsLeft}
+use Rattle.session_pass.specs.Fresh.{IsFresh}
 use Rattle.session_serve.specs.Beside.{HasWaited, CallsAtLast, BreaksAtLast, RanToTheEnd, ForwardsOut}
 use Rattle.session_serve.specs.Dumps.{IsSeeing, as_seeing, DumpCame}
 use Rattle.session_serve.specs.declared.dump.DumpPlan.{DumpPlan}
@@ -121,11 +122,11 @@ pub calls-on : (z : Sizes) (shards : ℕ) (first : SessionView) (origin : Origin
     → CallsMore z shards (as_seeing new.pass.list first) origin before given calls new after
 calls-on z shards first origin before given calls command old seen new pump after sees w p c =
     more-as_seen z shards first origin before given calls seen.pass.list new after
-    (sym (c.posts.rest.looks ∙ c.waited.keeps.rest.looks))
+    (sym (c.posts.2.rest.looks ∙ c.waited.keeps.rest.looks))
     (work-goes-on z shards (as_seeing seen.pass.list first) origin before given calls command c.rested new pump after
-    c.call c.freed c.sent c.stored
+    c.call c.freed c.posts.0 c.posts.1
     (work-rests z shards (as_seeing seen.pass.list first) origin before given calls seen c.rested pump c.waited
-    (work-sees z shards first origin before given calls old seen pump sees w)) p c.posts)
+    (work-sees z shards first origin before given calls old seen pump sees w)) p c.posts.2)
 
 -- or memory was wanting in it
 pub breaks-off : (z : Sizes) (shards : ℕ) (first : SessionView) (origin : Origin) (before : ℕ)

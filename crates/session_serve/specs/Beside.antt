@@ -4,7 +4,6 @@ use Rattle.std.specs.Borrow.{Bor}
 use Rattle.pin_core.specs.declared.sizes.Sizes.{Sizes}
 use Rattle.pinned_pool.specs.declared.view.View.{View}
 use Rattle.order_book.specs.Pages.{SessionList}
-use Rattle.flake_base.specs.declared.segment.Seg.{Seg}
 use Rattle.flake_base.specs.declared.session.End.{End}
 use Rattle.flake_model.specs.Command.{Command}
 use Rattle.command_pump.specs.Pump.{PumpState}
@@ -13,7 +12,7 @@ use Rattle.tx_ring.specs.Shown.{closed_ring, closed_view}
 use Rattle.tx_ring.specs.declared.closed.ClosedDriver.{ClosedDriver}
 use Rattle.reply_planner.specs.Parcels.{Sent}
 use Rattle.device_model.specs.Devices.{ForwardsAs}
-use Rattle.session_pass.specs.Calls.{KeepsAll, CallPosts, CallRefused}
+use Rattle.session_pass.specs.Calls.{KeepsAll, PostsOne, CallRefused}
 use Rattle.session_pass.specs.Views.{SessionView}
 use Rattle.pin_dump.specs.Dumps.{DumpView}
 use Rattle.session_serve.specs.Whole.{KeepsWhole}
@@ -33,9 +32,7 @@ pub record CallsAtLast (z : Sizes) (shards : ℕ) (command : Command) (old new :
   pub waited : HasWaited old rested
   pub call : ℕ
   pub freed : ℕ
-  pub sent : List Seg
-  pub stored : List Seg
-  pub posts : CallPosts z shards command rested new call freed sent stored
+  pub posts : PostsOne z shards command rested new call freed
 
 -- it waited, and then memory was wanting in a call
 pub record BreaksAtLast (z : Sizes) (shards : ℕ) (command : Command) (old new : SessionView) : Type 0 where

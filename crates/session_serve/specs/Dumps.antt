@@ -1,5 +1,5 @@
 -- A dump of all shards that a session takes between two of its calls.
-use Rattle.std.specs.Prelude.{◌≡◌, ℕ, ◌+◌, ◌*◌, ◌<◌, ◌≤◌, List, [], Option, Some, None, Result, Ok, Err}
+use Rattle.std.specs.Prelude.{◌≡◌, ℕ, ◌+◌, ◌*◌, ◌<◌, ◌≤◌, [], Option, Some, None, Result, Ok, Err, ⊤}
 use Rattle.view_sums.specs.Total.{Each}
 use Rattle.pin_core.specs.Buffers.{buffers}
 use Rattle.pin_core.specs.declared.sizes.Sizes.{Sizes}
@@ -16,7 +16,7 @@ abbrev pub CanKeepAll : Sizes → ℕ → View → Type 0
 CanKeepAll z shards seat = (seat.holds ≡ []) × (shards * buffers z + 4 ≤ seat.credits)
 
 abbrev pub CanTake : {P : Type 0} → Sizes → ℕ → Option (DumpPlan P) → Type 0
-CanTake z shards None = Unit {0}
+CanTake z shards None = ⊤
 CanTake z shards (Some plan) = CanKeepAll z shards plan.seat
 
 -- only what the session has seen of the shards may have grown
@@ -55,11 +55,11 @@ Stands shards asked (Some plan) (Some taken) first list = ⊥
 -- so many calls don't pass the one that it waits for; once it was tried they have come to that
 abbrev pub IsInTime : {P : Type 0} → Option (DumpPlan P) → Option (DumpPlan P) → ℕ → Type 0
 IsInTime asked (Some plan) calls = calls ≤ plan.before
-IsInTime None None calls = Unit {0}
+IsInTime None None calls = ⊤
 IsInTime (Some plan) None calls = plan.before ≤ calls
 
 -- and one call more may be made
 abbrev pub MayCall : {P : Type 0} → Option (DumpPlan P) → Option (DumpPlan P) → ℕ → Type 0
 MayCall asked (Some plan) calls = calls < plan.before
-MayCall None None calls = Unit {0}
+MayCall None None calls = ⊤
 MayCall (Some plan) None calls = plan.before ≤ calls

@@ -5,3 +5,4 @@ pub mod Dumps
 pub mod Served
 pub mod Beside
 pub mod Forms
+pub mod Ran

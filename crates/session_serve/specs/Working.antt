@@ -3,8 +3,6 @@ use Rattle.std.specs.Prelude.{◌≡◌, ◌≢◌, ℕ, ◌+◌, ◌≤◌, Boo
 use Rattle.view_sums.specs.Total.{total}
 use Rattle.pin_core.specs.Holding.{Holding}
 use Rattle.pin_core.specs.declared.sizes.Sizes.{Sizes}
-use Rattle.pinned_pool.specs.Sought.{Sought}
-use Rattle.pinned_pool.specs.Views.{nobody}
 use Rattle.pinned_pool.specs.declared.view.View.{View}
 use Rattle.order_book.specs.Pages.{SessionList}
 use Rattle.flake_base.specs.declared.session.End.{End}
@@ -19,25 +17,12 @@ use Rattle.tx_ring.specs.Shown.{device_ring, completed}
 use Rattle.tx_ring.specs.declared.device.DeviceEnd.{DeviceEnd}
 use Rattle.reply_planner.specs.Owned.{bare_all, fresh_all}
 use Rattle.reply_planner.specs.Parcels.{Sent, texts_in}
-use Rattle.call_model.specs.Outcomes.{Outcomes}
-use Rattle.serve_model.specs.Demand.{stage_row}
+use Rattle.shard_core.specs.Outcomes.{Outcomes}
 use Rattle.serve_model.specs.Going as model
 use Rattle.serve_model.specs.Runs.{Run, session_of}
 use Rattle.session_pass.specs.Kept.{holds_paid}
 use Rattle.session_serve.specs.Forms.{AreNumberedByPlace}
 use Rattle.session_pass.specs.Views.{SessionView}
-
--- The session has made no call, its seat claimed and holds its stage alone, and its source gave nothing.
-pub record IsFresh (z : Sizes) (session : SessionView) (pump : PumpState) : Type 0 where
-  pub none_posted : session.posted ≡ []
-  pub none_told : session.pass.list.told ≡ []
-  pub opened : session.opened ≡ session.pass.seat
-  pub claimed : Sought z stage_row 0 nobody session.opened
-  pub stage : (weight : Holding → ℕ)
-      → total weight (bare_all session.opened.holds) ≡ total weight (fresh_all session.pass.stage)
-  pub unstopped : session.stopped ≡ false
-  pub none_given : pump.given ≡ []
-  pub unread : IsPump pump.origin pump.faults [] pump
 
 module _ {g : Ghosts Sent} where
   -- all replies that the session posted are gathered, which it knows

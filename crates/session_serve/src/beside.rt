@@ -6,12 +6,11 @@ ghost use Rattle.device_model.specs.Devices.{CanFrame};
 ghost use Rattle.session_serve.specs.Beside.{ForwardsOut, RanToTheEnd};
 ghost use Rattle.session_serve.specs.Dumps.{CanTake, DumpCame};
 ghost use Rattle.session_serve.specs.Served.{IsServed, HasServed};
-ghost use Rattle.session_serve.specs.Working.{IsFresh};
+ghost use Rattle.session_pass.specs.Fresh.{IsFresh};
 
 use crate::device_side::DeviceSide;
 use crate::lending::{DeviceSlot, Start};
 use crate::link::{Link, ServedAccount};
-use crate::room::Room;
 use crate::serve::serve_in_turns;
 use crate::session_side::{Ended, SessionSide};
 use crate::start_barrier::StartBarrier;
@@ -47,7 +46,6 @@ pub fn serve_beside<
     alloc: Global,
     shop: &Shop<'_, N, P>,
     link: Link<N, P, S>,
-    room: Room,
     gate: &G,
     wire: W,
     calls: &C,
@@ -80,7 +78,6 @@ pub fn serve_beside<
     let session_side = SessionSide {
         session,
         pump,
-        room,
         dump,
     };
     let device_side = DeviceSide {
@@ -301,7 +298,6 @@ fn take_turns<
     let SessionSide {
         session,
         pump,
-        room,
         dump,
     } = session_side;
     let DeviceSide {
@@ -317,7 +313,7 @@ fn take_turns<
         dump,
         mtu: wiring.mtu,
     };
-    serve_in_turns(rt, shop, link, room, gate, wire, wiring.calls)
+    serve_in_turns(rt, shop, link, gate, wire, wiring.calls)
 }
 
 // With both ends of the ring at hand.

@@ -5,11 +5,10 @@ ghost use Rattle.tx_ring.specs.Shown.{device_ring};
 ghost use Rattle.device_model.specs.Devices.{CanFrame};
 ghost use Rattle.session_serve.specs.Dumps.{CanTake, DumpCame};
 ghost use Rattle.session_serve.specs.Served.{IsServed};
-ghost use Rattle.session_serve.specs.Working.{IsFresh};
+ghost use Rattle.session_pass.specs.Fresh.{IsFresh};
 
 use crate::counting::counted;
 use crate::link::{Link, ServedAccount};
-use crate::room::Room;
 use any_wire::WireCalls;
 use command_exec::Shop;
 use flake_base::{End, Source};
@@ -34,7 +33,6 @@ pub(crate) fn serve_in_turns<
     rt: &R,
     shop: &Shop<'_, N, P>,
     link: Link<N, P, S>,
-    room: Room,
     gate: &G,
     wire: W,
     calls: &C,
@@ -56,12 +54,11 @@ pub(crate) fn serve_in_turns<
     ensures dump { DumpCame N.sizes.shards link.dump.plan result.1.dump link.session.pass.list result.1.mine }
 {
     let mut link = link;
-    let mut room = room;
     let mut wire = wire;
     let mut sent = 0;
     laws::both_ends(&mut link.session, &mut link.device);
     let end = 'turns: loop {
-        let (after, turned) = link.turn(rt, shop, gate, &mut room, wire, calls);
+        let (after, turned) = link.turn(rt, shop, gate, wire, calls);
         wire = after;
         match turned {
             Ok(bytes) => sent = counted(sent, bytes),

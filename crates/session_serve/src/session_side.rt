@@ -2,19 +2,19 @@
 ghost use Rattle.std.specs.Prelude.{◌≡◌, ◌+◌, ◌≤◌, ℕ, List, Option, None, length, OnOk, IfOk, IfErr};
 ghost use Rattle.flake_model.specs.Command.{Command as Meaning};
 ghost use Rattle.flake_model.specs.Resp.{judged_bytes};
-ghost use Rattle.call_model.specs.Outcomes.{Outcomes};
+ghost use Rattle.shard_core.specs.Outcomes.{Outcomes};
 ghost use Rattle.command_pump.specs.Pump.{Origin};
 ghost use Rattle.session_pass.specs.Views.{SessionView};
 ghost use Rattle.session_serve.specs.Beside.{RanToTheEnd};
 ghost use Rattle.order_book.specs.Pages.{SessionList};
 ghost use Rattle.session_serve.specs.Dumps.{CanTake, IsInTime, Stands, as_seeing};
-ghost use Rattle.session_serve.specs.Working.{IsFresh, IsWorking, CallsMore, HasStopped};
+ghost use Rattle.session_serve.specs.Working.{IsWorking, CallsMore, HasStopped};
+ghost use Rattle.session_pass.specs.Fresh.{IsFresh};
 ghost use Rattle.session_serve.specs.declared.dump.DumpPlan.{DumpPlan as Asked};
 ghost use Rattle.device_model.specs.Devices.{CanFrame};
 
 use crate::dump::{DumpTaken, DumpTurn};
 use crate::lending::DeviceSlot;
-use crate::room::Room;
 use crate::start_barrier::StartBarrier;
 use crate::waiting::{Remains, call, finish};
 use crate::wiring::Wiring;
@@ -37,7 +37,6 @@ where
 {
     pub session: Session<N, P>,
     pub pump: Pump<S>,
-    pub room: Room,
     pub dump: DumpTurn<P>,
 }
 
@@ -95,15 +94,7 @@ impl<N: BookName, P: PoolName + Send, S: Source> SessionSide<N, P, S> {
         };
         gate.before(rt, self.session.number(), self.session.calls());
         self.dump.take_before_call(rt, shop, &mut self.session);
-        let called = call(
-            rt,
-            shop,
-            &mut self.session,
-            &command,
-            &mut self.room,
-            place,
-            wiring,
-        );
+        let called = call(rt, shop, &mut self.session, &command, place, wiring);
         match called {
             Ok(()) => {}
             Err(Memory) => return Err(End::Memory),
@@ -139,7 +130,6 @@ impl<N: BookName, P: PoolName + Send, S: Source> SessionSide<N, P, S> {
         let SessionSide {
             mut session,
             pump,
-            room: _,
             mut dump,
         } = session_side;
         dump.take(rt, shop, &mut session);

@@ -2,7 +2,7 @@
 ghost use Rattle.std.specs.Prelude.{◌≡◌, ℕ, List, Option, length, IfOk, IfErr, OnOk, OnErr};
 ghost use Rattle.order_book.specs.Pages.{SessionList};
 ghost use Rattle.flake_model.specs.Command.{Command as Meaning};
-ghost use Rattle.call_model.specs.Outcomes.{Outcomes};
+ghost use Rattle.shard_core.specs.Outcomes.{Outcomes};
 ghost use Rattle.command_pump.specs.Pump.{Origin};
 ghost use Rattle.tx_ring.specs.Shown.{completed};
 ghost use Rattle.device_model.specs.Devices.{CanFrame, ForwardsAs};
@@ -15,7 +15,6 @@ ghost use Rattle.session_serve.specs.declared.dump.DumpPlan.{DumpPlan as Asked};
 use crate::counting::whole_bytes;
 use crate::gather::gather_next;
 use crate::link::Link;
-use crate::room::Room;
 use any_wire::WireCalls;
 use command_exec::Shop;
 use flake_base::{End, Source};
@@ -32,7 +31,6 @@ impl<N: BookName, P: PoolName + Send, S: Source> Link<N, P, S> {
         rt: &R,
         shop: &Shop<'_, N, P>,
         gate: &G,
-        room: &mut Room,
         wire: W,
         calls: &C,
     ) -> (W, Result<u64, End>)
@@ -79,10 +77,7 @@ impl<N: BookName, P: PoolName + Send, S: Source> Link<N, P, S> {
         };
         gate.before(rt, self.session.number(), self.session.calls());
         self.dump.take_before_call(rt, shop, &mut self.session);
-        match self
-            .session
-            .call(rt, shop, &command, &mut room.sent, &mut room.stored)
-        {
+        match self.session.call_untold(rt, shop, &command) {
             Ok(_) => {}
             Err(CallError::Memory) => return (wire, Err(End::Memory)),
             Err(_) => unreachable!(),

@@ -8,7 +8,6 @@ ghost use Rattle.device_model.specs.Devices.{CanFrame};
 
 use crate::backoff::Backoff;
 use crate::lending::{DeviceSlot, relieve};
-use crate::room::Room;
 use crate::wiring::Wiring;
 use any_wire::WireCalls;
 use command_exec::Shop;
@@ -57,7 +56,6 @@ pub(crate) fn call<R: Wait, N: BookName, P: PoolName + Send, W: Drop, C: WireCal
     shop: &Shop<'_, N, P>,
     session: &mut Session<N, P>,
     command: &Command,
-    room: &mut Room,
     place: &DeviceSlot<'_, P, W, C>,
     wiring: &Wiring<'_, C>,
 ) -> Result<(), Memory>
@@ -69,7 +67,7 @@ pub(crate) fn call<R: Wait, N: BookName, P: PoolName + Send, W: Drop, C: WireCal
 {
     let mut backoff = Backoff::new();
     for _ in rt.forever() {
-        match session.call(rt, shop, command, &mut room.sent, &mut room.stored) {
+        match session.call_untold(rt, shop, command) {
             Ok(_) => return Ok(()),
             Err(CallError::Memory) => return Err(Memory),
             Err(CallError::RingFull { .. }) => rest(rt, shop.pool, place, wiring, &mut backoff),

@@ -11,3 +11,8 @@ pub mod Appends
 pub mod Free
 pub mod Doing
 pub mod PinnedAll
+pub mod Growing
+pub mod CallDeeds
+pub mod Rows
+pub mod Needed
+pub mod Running

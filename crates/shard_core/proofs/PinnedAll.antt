@@ -21,8 +21,8 @@ use Rattle.flake_model.specs.Deed.{Places}
 use Rattle.frag_value.specs.Values.{Frags, HasValue, IsFilled, IsPlaced, IsValue, keys_of, uses, value_bytes}
 use Rattle.frag_value.proofs.Lists.{each-at, take-more, map-more}
 use Rattle.frag_value.proofs.Released.{asked-loose}
-use Rattle.value_pins.specs.Pins.{KeyFrags, all_frags, pairs_shown}
-use Rattle.value_pins.proofs.FewSteps.{are_few}
+use Rattle.frag_value.specs.Pins.{KeyFrags, all_frags, pairs_shown}
+use Rattle.frag_value.proofs.FewSteps.{are_few}
 use Rattle.key_order.specs.Ascending.{IsAscending, pairs_of}
 use Rattle.shard_core.specs.Kept.{Entries, value_at, AreHeld, Agrees}
 use Rattle.shard_core.specs.Rooms.{FitRooms, key_frags}

@@ -10,3 +10,10 @@ pub mod Paid
 pub mod Moved
 pub mod Done
 pub mod Rooms
+pub mod Outcomes
+pub mod CallDemand
+pub mod Needed
+pub mod Calls
+pub mod Parts
+pub mod Stock
+pub mod Steps

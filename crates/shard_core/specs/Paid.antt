@@ -1,5 +1,5 @@
 -- What a part costs the seat that pays.
-use Rattle.std.specs.Prelude.{◌≡◌, ℕ, ◌+◌, ◌*◌, ◌<◌, ◌≤◌, true, List, [], ◌++◌, length, drop, Option, Some}
+use Rattle.std.specs.Prelude.{◌≡◌, ℕ, ◌+◌, ◌*◌, ◌<◌, ◌≤◌, true, List, [], ◌++◌, length, drop, Option, Some, ⊤}
 use Rattle.std.specs.Prelude.{None, Result, is_ok}
 use Rattle.std.specs.FinMap as finite
 use Rattle.pin_core.specs.Buffers.{buffers}
@@ -47,7 +47,7 @@ pub record HasNone (z : Sizes) (operation : Operation) (none : NoBuffer) (old ne
 -- why a part is refused
 abbrev pub WhyPartRefused : Sizes → Operation → PlaceError → View → View → Type 0
 WhyPartRefused z operation (unplaced.NoBuffer none) old new = HasNone z operation none old new
-WhyPartRefused z operation unplaced.Memory old new = Unit {0}
+WhyPartRefused z operation unplaced.Memory old new = ⊤
 
 -- the part was answered, and nothing was claimed or looked at for it
 pub record IsFree (result : Result PartAnswer PlaceError) (old new : View) : Type 0 where
@@ -79,16 +79,16 @@ abbrev pub NeedsBuffers : Sizes → Operation → PlaceError → ShardState → 
 NeedsBuffers z operation (unplaced.NoBuffer none) old new =
     (store : Store) (places : Places) → Agrees z old.shard.entries old.shard.seat.holds store places
     → LacksBuffers z (finite.get store (key_of operation)) operation none old.payer new.payer
-NeedsBuffers z operation unplaced.Memory old new = Unit {0}
+NeedsBuffers z operation unplaced.Memory old new = ⊤
 
 -- where an append finds no buffer, fewer of the class were claimed than the bytes behind the full fragments need
 abbrev pub LacksBehind : Sizes → List ℕ → List ℕ → AppendError → View → View → Type 0
-LacksBehind z text bytes (unadded.TooLong n) old new = Unit {0}
+LacksBehind z text bytes (unadded.TooLong n) old new = ⊤
 LacksBehind z text bytes (unadded.NoBuffer none) old new =
     (0 < length bytes)
     × (buffers_in z none.class new.claims < buffers_in z none.class old.claims
     + fragments_in none.class (stored_fragments (drop (fragment_limit * full_fragments text) text ++ bytes)))
-LacksBehind z text bytes unadded.Memory old new = Unit {0}
+LacksBehind z text bytes unadded.Memory old new = ⊤
 
 -- Why bytes are not appended. For too many nothing is claimed or looked at, and only those that fit may find no buffer
 -- or no memory.

@@ -7,6 +7,7 @@ mod answer;
 mod carrying;
 mod giving;
 mod kept;
+pub mod laws;
 mod pinning;
 mod placing;
 mod reading;

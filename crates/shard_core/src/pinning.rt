@@ -6,17 +6,17 @@ ghost use Rattle.pin_core.specs.Buffers.{buffers};
 ghost use Rattle.flake_model.specs.Store.{Store};
 ghost use Rattle.flake_model.specs.Deed.{Places};
 ghost use Rattle.frag_value.specs.Values.{IsFilled, unmarked_view};
-ghost use Rattle.value_pins.specs.Pins.{all_frags, pairs_shown, pin_holds, pinning};
+ghost use Rattle.frag_value.specs.Pins.{all_frags, pairs_shown, pin_holds, pinning};
 ghost use Rattle.shard_core.specs.Kept.{IsKept, Agrees, value_at};
 ghost use Rattle.shard_core.specs.Rooms.{FitRooms, key_frags};
 
 use crate::kept::{Kept, Values, entry_at};
 use flake_base::Memory;
+use frag_value::{PairRoom, PinnedPair};
 use key_order::sort_entries;
 use pinned_pool::{Pool, PoolName, PoolSeat};
 use std::alloc::Global;
 use std::collections::VecDeque;
-use value_pins::{PairRoom, PinnedPair};
 
 // Room for each entry.
 fn rooms_for<P: PoolName>(

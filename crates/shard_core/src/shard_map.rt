@@ -7,7 +7,7 @@ ghost use Rattle.pin_core.specs.Buffers.{buffers};
 ghost use Rattle.flake_model.specs.Store.{Store};
 ghost use Rattle.flake_model.specs.Deed.{Places};
 ghost use Rattle.frag_value.specs.Values.{IsFilled, unmarked_view};
-ghost use Rattle.value_pins.specs.Pins.{all_frags, pairs_shown, pin_holds, pinning};
+ghost use Rattle.frag_value.specs.Pins.{all_frags, pairs_shown, pin_holds, pinning};
 ghost use Rattle.frag_value.specs.Fragments.{frags_limit};
 ghost use Rattle.flake_base.specs.Limits.{value_limit};
 ghost use Rattle.pinned_pool.specs.Named.{IsSeat};
@@ -25,14 +25,13 @@ use crate::pinning::pin_values;
 use crate::reading::{exists, get, get_range, size};
 use crate::setting::del;
 use flake_base::{Memory, Segs};
-use frag_value::{PlaceError, Taker};
+use frag_value::{PinnedPair, PlaceError, Taker};
 use indexmap::IndexMap;
 use pinned_pool::{ClaimStart, Pool, PoolName, PoolSeat};
 use shard_part::When::{Always, IfMissing, IfPresent};
 use shard_part::{Part, PartOp};
 use std::alloc::Global;
 use std::marker::Model;
-use value_pins::PinnedPair;
 
 /// A shard's values, and the seat that has exactly the holds of their fragments. Contracts see both.
 #[derive(Drop)]

@@ -1,5 +1,5 @@
 -- What a part of the code stands for.
-use Rattle.std.specs.Prelude.{◌≡◌, List, [], ℕ, Bool, true, false, is_some}
+use Rattle.std.specs.Prelude.{◌≡◌, List, [], ℕ, Bool, true, false, is_some, ⊤}
 use Rattle.flake_model.specs.Store as store
 use Rattle.flake_model.specs.Store.{Operation}
 use Rattle.shard_part.specs.declared.part.Part.{Part}
@@ -42,11 +42,11 @@ takes_value part = is_some (setting_of part)
 
 -- a part that takes no value has none
 abbrev pub HasOwnValue : PartOp → List ℕ → Type 0
-HasOwnValue Set value = Unit {0}
-HasOwnValue SetNx value = Unit {0}
-HasOwnValue SetXx value = Unit {0}
-HasOwnValue SetGet value = Unit {0}
-HasOwnValue SetNxGet value = Unit {0}
-HasOwnValue SetXxGet value = Unit {0}
-HasOwnValue Append value = Unit {0}
+HasOwnValue Set value = ⊤
+HasOwnValue SetNx value = ⊤
+HasOwnValue SetXx value = ⊤
+HasOwnValue SetGet value = ⊤
+HasOwnValue SetNxGet value = ⊤
+HasOwnValue SetXxGet value = ⊤
+HasOwnValue Append value = ⊤
 HasOwnValue part value = value ≡ []

@@ -1,6 +1,6 @@
 -- A shard's history with one deed more.
-use Rattle.std.proofs.Common.{OnErr, Ok, Err, Result, ◌≡◌, ℕ, ◌-◌, List, [], ◌∷◌, ◌++◌, length, take, drop, refl, sym}
-use Rattle.std.proofs.Common.{Option, ap, ◌∙◌, subst, arith}
+use Rattle.std.proofs.Common.{OnErr, Ok, Err, Result, ◌≡◌, ℕ, ◌+◌, ◌-◌, ◌<◌, List, [], ◌∷◌, ◌++◌, length, take, drop}
+use Rattle.std.proofs.Common.{Option, refl, sym, ap, ◌∙◌, subst, arith}
 use Rattle.std.proofs.lemmas.List.{map-append, drop_at, take_all, length-drop}
 use Rattle.std.specs.Ordering.{nat_cmp}
 use Rattle.std.specs.Cmp.Lexicographic.{slice_cmp}
@@ -35,10 +35,10 @@ use Rattle.shard_core.proofs.Holds.{are_apart}
 use Rattle.shard_part.specs.Parts.{operation_by}
 use Rattle.shard_part.specs.declared.part.PartOp.{PartOp}
 use Rattle.shard_part.specs.declared.part.PartOp.TheVariants as part
-use Rattle.call_model.specs.Needed.{may_need, SoughtFor}
-use Rattle.call_model.specs.Outcomes.{PartOutcome, answer_told, missed_in}
-use Rattle.call_model.specs.Parts.{KeepsSeat}
-use Rattle.call_model.proofs.Needed.{needs_one}
+use Rattle.shard_core.specs.Needed.{may_need, SoughtFor}
+use Rattle.shard_core.specs.Outcomes.{PartOutcome, MayMiss, answer_told, missed_in}
+use Rattle.shard_core.specs.Parts.{KeepsSeat}
+use Rattle.shard_core.proofs.Needed.{needs_one}
 use Rattle.shard_store.specs.Shards.{IsShard, answer_after, found_after, first_after, segment_addresses}
 
 store-snoc : (s : Store) (ds : List Deed) (d : Deed) → store_left s (ds ++ d ∷ []) ≡ after (store_left s ds) d.operation
@@ -156,22 +156,28 @@ stays z rows v = record {
   looks = λ b near. omega arith;
 }
 
--- only a write has a row, and may find no buffer
-none_sought : (z : Sizes) (u w : View) → IsPaid z (λ class. 0) 1 u w → ⊥
-none_sought z u w paid =
+-- a part that finds no buffer has a row
+some_row : (z : Sizes) (rows : Class → ℕ) (u w : View) → IsPaid z rows 1 u w → 0 < rows Small + rows Large
+some_row z rows u w paid =
     let grew = λ (class : Class). ap (buffers_in z class) paid.claims.1
     ∙ buffers-append z class u.claims paid.claims.0 in
     omega (arith, paid.sought.missed_are, paid.sought.claims Small, paid.sought.claims Large, grew Small, grew Large)
 
-pub only_writes : (z : Sizes) (operation : Operation) (u w : View)
-    → IsPaid z (λ (class : Class). part_row class operation) 1 u w → IsWrite operation
-only_writes z (get key) u w paid = absurd (none_sought z u w paid)
-only_writes z (set when asks key bytes) u w paid = tt
-only_writes z (append key bytes) u w paid = tt
-only_writes z (del key) u w paid = absurd (none_sought z u w paid)
-only_writes z (exists key) u w paid = absurd (none_sought z u w paid)
-only_writes z (str_len key) u w paid = absurd (none_sought z u w paid)
-only_writes z (get_range key first last) u w paid = absurd (none_sought z u w paid)
+-- and only a write has one
+only_writes : (operation : Operation) → 0 < part_row Small operation + part_row Large operation → IsWrite operation
+only_writes (get key) some = absurd (omega (arith, some))
+only_writes (set when asks key bytes) some = tt
+only_writes (append key bytes) some = tt
+only_writes (del key) some = absurd (omega (arith, some))
+only_writes (exists key) some = absurd (omega (arith, some))
+only_writes (str_len key) some = absurd (omega (arith, some))
+only_writes (get_range key first last) some = absurd (omega (arith, some))
+
+pub may_miss : (z : Sizes) (operation : Operation) (u w : View)
+    → IsPaid z (λ (class : Class). part_row class operation) 1 u w → MayMiss operation
+may_miss z operation u w paid =
+    let some = some_row z (λ (class : Class). part_row class operation) u w paid in
+    (only_writes operation some, some)
 
 pub key-part : (op : PartOp) (key bytes : List ℕ) → key_of (operation_by op key bytes) ≡ key
 key-part part.Get key bytes = refl

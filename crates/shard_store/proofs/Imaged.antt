@@ -21,7 +21,7 @@ use Rattle.frag_value.specs.Values.{Frags, IsFilled, uses, value_bytes, unmarked
 use Rattle.frag_value.proofs.Framed.{each_there}
 use Rattle.frag_value.proofs.Sames.{same-no}
 use Rattle.frag_value.proofs.Unmarked.{same_front}
-use Rattle.value_pins.specs.Pins.{KeyFrags, all_frags, pairs_shown, pin_holds, pin_key, pin_keys, pinning}
+use Rattle.frag_value.specs.Pins.{KeyFrags, all_frags, pairs_shown, pin_holds, pin_key, pin_keys, pinning}
 use Rattle.shard_core.specs.Kept.{Entries, Agrees, value_at, value_addresses}
 use Rattle.shard_store.specs.Images.{HasPinned}
 

@@ -19,7 +19,7 @@ use Rattle.shard_core.specs.Kept.{Entries, value_at, IsKept, Agrees, value_addre
 use Rattle.frag_value.specs.Values.{Frags}
 use Rattle.shard_core.proofs.Entries.{every-found}
 use Rattle.shard_core.proofs.Holds.{has_found}
-use Rattle.call_model.specs.Parts.{Reach}
+use Rattle.shard_core.specs.Parts.{Reach}
 
 whole_value : (o : Option (List ℕ)) (were : List ℕ) → length (bytes_of o) ≤ 4096 * length were
     → Reach (found o) 0 (found_at were (found o))

@@ -25,7 +25,7 @@ use Rattle.shard_core.specs.Kept.{Entries, value_at, frags_of, entries_weight, v
 use Rattle.frag_value.specs.Values.{Frags}
 use Rattle.shard_core.proofs.Entries.{every-found}
 use Rattle.shard_core.proofs.Holds.{places_of}
-use Rattle.call_model.specs.Stock.{fragments_by, fragments_left, LiesIn, LieIn, AreParts}
+use Rattle.shard_core.specs.Stock.{fragments_by, fragments_left, LiesIn, LieIn, AreParts}
 use Rattle.shard_store.specs.Gathered.{IsShardMap, AreInShardMaps, weighed_in, AreGathered}
 use Rattle.shard_store.proofs.Counted.{same_entries}
 

@@ -21,7 +21,7 @@ use Rattle.shard_core.specs.Pieces.{segs_at, size_stored, length_told}
 use Rattle.shard_core.proofs.Entries.{every-found}
 use Rattle.shard_core.proofs.Holds.{has_found}
 use Rattle.shard_core.proofs.Runs.{segs-cut}
-use Rattle.call_model.specs.Parts.{IsInBuffer}
+use Rattle.shard_core.specs.Parts.{IsInBuffer}
 
 -- bytes are put, as many as the segments have, or nothing is stored
 abbrev PutsOrNone : Change → ℕ → Type 0

@@ -6,7 +6,7 @@ use Rattle.flake_model.specs.Store.{Answer, value, missing, done, length_is, did
 use Rattle.flake_model.specs.Store.{Store, Operation, Change, keeps, puts, removes, bytes_put, key_of, stored_value}
 use Rattle.shard_core.specs.Answers.{answer_shown}
 use Rattle.shard_core.specs.declared.answer.PartAnswer.{PartAnswer}
-use Rattle.call_model.specs.Outcomes.{WouldPut}
+use Rattle.shard_core.specs.Outcomes.{WouldPut}
 use Rattle.shard_store.specs.Shards.{HasAnswer}
 
 pub unstored : (change : Change) (kept : ℕ) (were stored : List ℕ) → AreStored change kept were stored

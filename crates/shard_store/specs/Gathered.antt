@@ -1,5 +1,5 @@
 -- Shards that came out from behind their locks, the first ones of a store.
-use Rattle.std.specs.Prelude.{◌≡◌, ℕ, ◌+◌, ◌≤◌, min, List, [], ◌∷◌, map}
+use Rattle.std.specs.Prelude.{◌≡◌, ℕ, ◌+◌, ◌≤◌, min, List, [], ◌∷◌, map, ⊤}
 use Rattle.std.specs.Global.{Vec}
 use Rattle.std.specs.List.{range_with_len, IsDistinct}
 use Rattle.view_sums.specs.Total.{total, Each}
@@ -17,7 +17,7 @@ use Rattle.shard_core.specs.Keys.{key_eq}
 use Rattle.shard_core.specs.Kept.{Entries, entries_weight, Agrees}
 use Rattle.frag_value.specs.Values.{Frags}
 use Rattle.shard_core.specs.ShardMaps.{keys_on}
-use Rattle.call_model.specs.Stock.{IsIdle}
+use Rattle.shard_core.specs.Stock.{IsIdle}
 use Rattle.flake_base.specs.Histories.{histories}
 
 -- at each key of what a shard's deeds leave lie its value's fragments, at the deeds' places, filled with its bytes
@@ -29,7 +29,7 @@ pub record IsShardMap (z : Sizes) (holds : List Holding) (list : ShardList) (ent
 
 -- a shard map for each list
 abbrev pub AreInShardMaps : Sizes → List Holding → List ShardList → List Entries → Type 0
-AreInShardMaps z holds [] [] = Unit {0}
+AreInShardMaps z holds [] [] = ⊤
 AreInShardMaps z holds [] (entries ∷ shard_maps) = ⊥
 AreInShardMaps z holds (list ∷ lists) [] = ⊥
 AreInShardMaps z holds (list ∷ lists) (entries ∷ shard_maps) =

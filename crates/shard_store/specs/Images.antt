@@ -9,7 +9,7 @@ use Rattle.pinned_pool.specs.declared.view.View.{View}
 use Rattle.flake_model.specs.Deed.{final_store}
 use Rattle.order_book.specs.Closed.{IsShared}
 use Rattle.order_book.specs.Pages.{ShardList, SessionList, session_seeing}
-use Rattle.value_pins.specs.Pins.{KeyFrags, IsPinned, all_frags, pairs_shown, pin_keys, pinning}
+use Rattle.frag_value.specs.Pins.{KeyFrags, IsPinned, all_frags, pairs_shown, pin_keys, pinning}
 
 -- The seat has a pinned hold more for each fragment, in order, paid with a credit, and is else as before; all
 -- fragments lie in its holds.

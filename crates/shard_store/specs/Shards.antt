@@ -1,5 +1,5 @@
 -- What stands behind a shard's lock.
-use Rattle.std.specs.Prelude.{◌≡◌, ℕ, List, map, None, Result, IfOk}
+use Rattle.std.specs.Prelude.{◌≡◌, ℕ, List, map, None, Result, IfOk, ⊤}
 use Rattle.pin_core.specs.declared.sizes.Sizes.{Sizes}
 use Rattle.flake_base.specs.declared.journal.Entry.{Entry}
 use Rattle.flake_base.specs.declared.segment.Seg.{Seg}
@@ -25,12 +25,12 @@ pub record IsShard (z : Sizes) (number : ℕ) (shard_map : ShardMapView) (list :
 
 -- the part was answered
 abbrev pub HasAnswer : PartAnswer → Type 0
-HasAnswer say.Bulk = Unit {0}
-HasAnswer say.Null = Unit {0}
-HasAnswer say.Done = Unit {0}
-HasAnswer (say.Length n) = Unit {0}
-HasAnswer (say.Did happened) = Unit {0}
-HasAnswer say.TooLong = Unit {0}
+HasAnswer say.Bulk = ⊤
+HasAnswer say.Null = ⊤
+HasAnswer say.Done = ⊤
+HasAnswer (say.Length n) = ⊤
+HasAnswer (say.Did happened) = ⊤
+HasAnswer say.TooLong = ⊤
 HasAnswer (say.NoBuffer none) = ⊥
 
 -- A part that puts nothing on what these deeds leave finds its buffers, and nothing is claimed or looked at for it.

@@ -1,5 +1,5 @@
+use frag_value::PinnedPair;
 use pinned_pool::PoolName;
-use value_pins::PinnedPair;
 
 /// What a shard had at a place of its history: so many deeds were done, and they leave these keys with their values, in
 /// ascending byte order of the keys.

@@ -1,6 +1,6 @@
 //! What the shards come to, when they come out from behind their locks one by one.
 ghost use Rattle.std.specs.Prelude.{◌≡◌, ◌+◌, ◌<◌, ◌≤◌, nat_lt, is_some, []};
-ghost use Rattle.call_model.specs.Stock.{AreParts, HasValuesLeft};
+ghost use Rattle.shard_core.specs.Stock.{AreParts, HasValuesLeft};
 ghost use Rattle.shard_store.specs.Gathered.{AreTaken};
 ghost use Rattle.flake_base.specs.Histories.{histories};
 

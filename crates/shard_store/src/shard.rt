@@ -8,7 +8,7 @@ ghost use Rattle.shard_core.specs.Done.{is_taking, is_ranged};
 ghost use Rattle.shard_core.specs.ShardMaps.{IsBare};
 ghost use Rattle.shard_core.specs.Takers.{MayTake, KeepsTaker, taking};
 ghost use Rattle.shard_part.specs.Parts.{operation_of};
-ghost use Rattle.call_model.specs.Parts.{PartEnds};
+ghost use Rattle.shard_core.specs.Parts.{PartEnds};
 ghost use Rattle.pin_core.specs.Buffers.{buffers};
 ghost use Rattle.shard_store.specs.Shards.{IsFreeAfter};
 ghost use Rattle.shard_store.specs.Images.{IsImage};

@@ -1,4 +1,5 @@
 //! What words ask to serve in frames.
+use crate::checks::holds;
 use crate::tasks::USUAL;
 use crate::typing::{are_words, typed};
 use command_line::{FramesTask, SizeOptions, frames_task};
@@ -135,9 +136,9 @@ fn check_accepted(
 ) -> Result<(), Fail> {
     let words = typed(alloc, line)?;
     let task = asked(alloc, words.as_slice())?.ok_or("refused")?;
-    assert!(rt; (task.mtu, task.workers) == numbers, "{line}");
-    assert!(rt; are_words(task.files.as_slice(), files), "{line}");
-    assert!(rt; task.sizes == sizes, "{line}");
+    holds(rt, line, (task.mtu, task.workers) == numbers);
+    holds(rt, line, are_words(task.files.as_slice(), files));
+    holds(rt, line, task.sizes == sizes);
     Ok(())
 }
 
@@ -151,11 +152,11 @@ fn words_that_ask_for_frames(rt: HostRuntime) -> Result<(), Fail> {
 
 #[test]
 fn bad_words_of_frames(rt: HostRuntime) -> Result<(), Fail> {
-    assert!(rt; asked(rt.alloc(), &[])?.is_none());
+    holds(&rt, "no words", asked(rt.alloc(), &[])?.is_none());
     for line in REFUSED.split('\n') {
         let words = typed(rt.alloc(), line)?;
         let task = asked(rt.alloc(), words.as_slice())?;
-        assert!(rt; task.is_none(), "{line}");
+        holds(&rt, line, task.is_none());
     }
     Ok(())
 }

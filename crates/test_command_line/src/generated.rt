@@ -1,4 +1,5 @@
 //! What words ask `gen` for.
+use crate::checks::holds;
 use crate::typing::typed;
 use command_line::{GenTask, gen_task};
 use flake_base::Memory;
@@ -107,18 +108,18 @@ fn words_that_ask_for_a_task(rt: HostRuntime) -> Result<(), Fail> {
     for (line, wanted) in &ACCEPTED {
         let words = typed(rt.alloc(), line)?;
         let task = asked(rt.alloc(), words.as_slice())?;
-        assert!(rt; task == Some(*wanted), "{line}");
+        holds(&rt, line, task == Some(*wanted));
     }
     Ok(())
 }
 
 #[test]
 fn bad_words(rt: HostRuntime) -> Result<(), Fail> {
-    assert!(rt; asked(rt.alloc(), &[])?.is_none());
+    holds(&rt, "no words", asked(rt.alloc(), &[])?.is_none());
     for line in REFUSED.split('\n') {
         let words = typed(rt.alloc(), line)?;
         let task = asked(rt.alloc(), words.as_slice())?;
-        assert!(rt; task.is_none(), "{line}");
+        holds(&rt, line, task.is_none());
     }
     Ok(())
 }

@@ -1,4 +1,5 @@
 //! What words ask to join.
+use crate::checks::holds;
 use crate::typing::typed;
 use command_line::{JoinTask, join_task};
 use flake_base::Memory;
@@ -58,8 +59,8 @@ fn check_accepted(
 ) -> Result<(), Fail> {
     let words = typed(alloc, line)?;
     let task = asked(alloc, words.as_slice())?.ok_or("refused")?;
-    assert!(rt; (task.mtu, task.calls) == numbers, "{line}");
-    assert!(rt; task.file == file, "{line}");
+    holds(rt, line, (task.mtu, task.calls) == numbers);
+    holds(rt, line, task.file == file);
     Ok(())
 }
 
@@ -76,7 +77,7 @@ fn bad_words_of_a_join(rt: HostRuntime) -> Result<(), Fail> {
     for line in REFUSED.split('\n') {
         let words = typed(rt.alloc(), line)?;
         let task = asked(rt.alloc(), words.as_slice())?;
-        assert!(rt; task.is_none(), "{line}");
+        holds(&rt, line, task.is_none());
     }
     Ok(())
 }

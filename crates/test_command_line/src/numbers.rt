@@ -1,4 +1,5 @@
 //! Requests that are generated from a number.
+use crate::checks::{equal, holds};
 use flake_base::{Bytes, Memory};
 use request_gen::{DrawnRequest, Draws, Key, next_request, session_input};
 use std::alloc::Global;
@@ -27,7 +28,7 @@ fn hash(bytes: &[u8]) -> u64 {
 fn first_draws(rt: HostRuntime) {
     let mut draws = Draws::new(0, 0);
     for want in [15_470, 18_256, 53_708, 43_769, 25_170] {
-        assert_eq!(rt; draws.draw(), want);
+        equal(&rt, "a draw", draws.draw(), want);
     }
 }
 
@@ -43,7 +44,7 @@ fn requests_by_number(rt: HostRuntime) {
         (33, DrawnRequest::Set(Key::Own(9), 7168)),
     ];
     for (r, want) in table {
-        assert_eq!(rt; asked(&mut draws, r), want);
+        equal(&rt, "a request", asked(&mut draws, r), want);
     }
 }
 
@@ -52,10 +53,14 @@ fn first_text(rt: HostRuntime) -> Result<(), Fail> {
     let text = input(rt.alloc(), 0, 2, 1)?;
     let head = b"*3\r\n$3\r\nSET\r\n$2\r\ns0\r\n$100\r\n";
     let (front, value) = text.as_slice().split_at_checked(head.len()).ok_or("short")?;
-    assert_eq!(rt; front, head.as_slice());
-    assert_eq!(rt; value.len(), 102);
-    assert!(rt; value.iter().take(100).all(|byte| *byte == b'C'));
-    assert!(rt; value.ends_with(b"\r\n"));
+    equal(&rt, "the head", front, head.as_slice());
+    equal(&rt, "the value's length", value.len(), 102);
+    holds(
+        &rt,
+        "the value",
+        value.iter().take(100).all(|byte| *byte == b'C'),
+    );
+    holds(&rt, "the end", value.ends_with(b"\r\n"));
     Ok(())
 }
 
@@ -71,8 +76,8 @@ fn whole_texts(rt: HostRuntime) -> Result<(), Fail> {
     ];
     for (number, session, count, length, want) in table {
         let text = input(rt.alloc(), number, session, count)?;
-        assert_eq!(rt; text.len(), length);
-        assert_eq!(rt; hash(text.as_slice()), want);
+        equal(&rt, "bytes", text.len(), length);
+        equal(&rt, "the hash", hash(text.as_slice()), want);
     }
     Ok(())
 }

@@ -1,4 +1,5 @@
 //! What words ask to serve, and to check.
+use crate::checks::holds;
 use crate::typing::{are_words, typed};
 use command_line::{
     CheckTask, CommandName, DriveTask, ServeTask, SizeOptions, check_task, command_name,
@@ -192,19 +193,20 @@ fn check_accepted(
     let mut columns = line.split('>');
     let words = typed(alloc, columns.next().unwrap_or(""))?;
     let task = asked(alloc, words.as_slice())?.ok_or("refused")?;
-    assert!(rt; task.sizes == sizes, "{line}");
-    assert!(rt; task.journal == journal, "{line}");
-    assert!(rt;
+    holds(rt, line, task.sizes == sizes);
+    holds(rt, line, task.journal == journal);
+    holds(
+        rt,
+        line,
         are_words(task.files.as_slice(), columns.next().unwrap_or("")),
-        "{line}"
     );
     let workers = columns.next().unwrap_or("").parse::<u16>()?;
-    assert!(rt; task.workers == workers, "{line}");
+    holds(rt, line, task.workers == workers);
     let dump = match columns.next() {
         Some(call) => Some(call.parse::<u32>()?),
         None => None,
     };
-    assert!(rt; task.dump == dump, "{line}");
+    holds(rt, line, task.dump == dump);
     Ok(())
 }
 
@@ -220,11 +222,11 @@ fn words_that_ask_for_a_task(rt: HostRuntime) -> Result<(), Fail> {
 
 #[test]
 fn bad_words(rt: HostRuntime) -> Result<(), Fail> {
-    assert!(rt; asked(rt.alloc(), &[])?.is_none());
+    holds(&rt, "no words", asked(rt.alloc(), &[])?.is_none());
     for line in REFUSED.split('\n') {
         let words = typed(rt.alloc(), line)?;
         let task = asked(rt.alloc(), words.as_slice())?;
-        assert!(rt; task.is_none(), "{line}");
+        holds(&rt, line, task.is_none());
     }
     Ok(())
 }
@@ -261,7 +263,7 @@ fn check_files(rt: &impl Abort, alloc: Global, line: &str) -> Result<(), Fail> {
     for file in task.files.iter() {
         found.push(file.unwrap_or("~"))?;
     }
-    assert!(rt; are_words(found.as_slice(), files), "{line}");
+    holds(rt, line, are_words(found.as_slice(), files));
     Ok(())
 }
 
@@ -278,7 +280,7 @@ fn bad_words_of_a_check(rt: HostRuntime) -> Result<(), Fail> {
     for line in NO_CHECKS.split('\n') {
         let words = typed(rt.alloc(), line)?;
         let task = asked_check(rt.alloc(), words.as_slice())?;
-        assert!(rt; task.is_none(), "{line}");
+        holds(&rt, line, task.is_none());
     }
     Ok(())
 }
@@ -301,7 +303,7 @@ fn bad_words_of_a_drive(rt: HostRuntime) -> Result<(), Fail> {
     for line in NO_DRIVES.split('\n') {
         let words = typed(rt.alloc(), line)?;
         let task = asked_drive(rt.alloc(), words.as_slice())?;
-        assert!(rt; task.is_none(), "{line}");
+        holds(&rt, line, task.is_none());
     }
     Ok(())
 }
@@ -323,10 +325,10 @@ static NAMES: [(&str, CommandName); 11] = [
 
 #[test]
 fn names_of_commands(rt: HostRuntime) -> Result<(), Fail> {
-    assert!(rt; command_name(&[]) == CommandName::Serve);
+    holds(&rt, "no words", command_name(&[]) == CommandName::Serve);
     for (line, name) in &NAMES {
         let words = typed(rt.alloc(), line)?;
-        assert!(rt; command_name(words.as_slice()) == *name, "{line}");
+        holds(&rt, line, command_name(words.as_slice()) == *name);
     }
     Ok(())
 }

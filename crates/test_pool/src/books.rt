@@ -138,8 +138,10 @@ fn work<N: BookName, R: Wait>(
     let mut notes = Vec::new(alloc);
     let mut sights = Vec::new(alloc);
     for call in 0..calls {
-        let turn = (call as usize).checked_rem(shard_maps.len());
-        let Some(shard_map) = turn.and_then(|turn| shard_maps.get(turn)) else {
+        let Some(turn) = (call as usize).checked_rem(shard_maps.len()) else {
+            return Err(Memory);
+        };
+        let Some(shard_map) = shard_maps.get(turn) else {
             return Err(Memory);
         };
         let mut guard = shard_map.lock(rt);
@@ -265,43 +267,91 @@ fn run<R: Threads + Wait + Sync>(
 
 // Whether the history of the note's shard has its entry at its place.
 fn stands(outcome: &Outcome, noted: &Noted) -> bool {
-    outcome.histories.iter().any(|(shard, history)| *shard == noted.shard
-        && history.get(noted.place as usize) == Some(&noted.at))
+    for (shard, history) in &outcome.histories {
+        if *shard == noted.shard && history.get(noted.place as usize) == Some(&noted.at) {
+            return true;
+        }
+    }
+    false
+}
+
+fn all_stand(outcome: &Outcome, notes: &[Noted]) -> bool {
+    for noted in notes {
+        if !stands(outcome, noted) {
+            return false;
+        }
+    }
+    true
 }
 
 // Whether the look's answer is the length of what it saw, and the shard's history begins with that.
 fn begins(outcome: &Outcome, seen: &Seen) -> bool {
-    seen.history.len() as u64 == seen.place
-        && outcome.histories.iter().any(|(shard, history)| *shard == seen.shard
-            && history.starts_with(seen.history.as_slice()))
+    for (shard, history) in &outcome.histories {
+        if *shard == seen.shard && history.starts_with(seen.history.as_slice()) {
+            return seen.history.len() as u64 == seen.place;
+        }
+    }
+    false
+}
+
+fn all_begin(outcome: &Outcome, sights: &[Seen]) -> bool {
+    for seen in sights {
+        if !begins(outcome, seen) {
+            return false;
+        }
+    }
+    true
 }
 
 // The places that the notes have in a shard rise.
 fn rise(notes: &[Noted], shard: u16) -> bool {
-    notes
-        .iter()
-        .filter(|noted| noted.shard == shard)
-        .map(|noted| noted.place)
-        .is_sorted()
+    let mut least = 0;
+    for noted in notes {
+        if noted.shard == shard {
+            if noted.place < least {
+                return false;
+            }
+            least = noted.place;
+        }
+    }
+    true
+}
+
+fn all_rise(notes: &[Noted], shards: u16) -> bool {
+    for shard in 0..shards {
+        if !rise(notes, shard) {
+            return false;
+        }
+    }
+    true
+}
+
+// How many entries all histories have.
+fn entered(outcome: &Outcome) -> usize {
+    let mut count: usize = 0;
+    for (_, history) in &outcome.histories {
+        count = count.saturating_add(history.len());
+    }
+    count
+}
+
+// What a session of 100 calls was told and saw is what the histories have.
+fn check_told(rt: &impl Abort, outcome: &Outcome, told: &Told, shards: u16) {
+    let notes = told.notes.as_slice();
+    let sights = told.sights.as_slice();
+    assert!(rt; notes.len() == 100 && sights.len() == 100);
+    assert!(rt; all_stand(outcome, notes));
+    assert!(rt; all_rise(notes, shards));
+    assert!(rt; all_begin(outcome, sights));
 }
 
 fn check<R: Threads + Wait + Sync + Abort>(rt: &R, alloc: Global, shards: u16) -> Result<(), Fail>
     requires { (0 < shards) × (shards ≤ 16) }
 {
     let outcome = run(rt, alloc, shards, 100)?;
-    let entered = outcome.histories.iter().fold(
-        0,
-        |n: usize, (_, history)| n.saturating_add(history.len()),
-    );
-    assert_eq!(rt; outcome.histories.len(), shards as usize);
-    assert_eq!(rt; entered, 200);
-    for told in [&outcome.first, &outcome.second] {
-        assert_eq!(rt; told.notes.len(), 100);
-        assert!(rt; told.notes.iter().all(|noted| stands(&outcome, noted)));
-        assert!(rt; (0..shards).all(|shard| rise(told.notes.as_slice(), shard)));
-        assert_eq!(rt; told.sights.len(), 100);
-        assert!(rt; told.sights.iter().all(|seen| begins(&outcome, seen)));
-    }
+    assert!(rt; outcome.histories.len() == shards as usize && entered(&outcome) == 200);
+    check_told(rt, &outcome, &outcome.first, shards);
+    check_told(rt, &outcome, &outcome.second, shards);
     Ok(())
 }
 

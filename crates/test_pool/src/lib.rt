@@ -5,13 +5,13 @@
 #[cfg(test)]
 mod books;
 #[cfg(test)]
+mod claims;
+#[cfg(test)]
 mod places;
 #[cfg(test)]
 mod pool;
 #[cfg(test)]
 mod rings;
-#[cfg(test)]
-mod starts;
 #[cfg(test)]
 mod values;
 #[cfg(test)]

@@ -4,176 +4,83 @@ ghost use Rattle.pin_core.specs.Holding.{sole_at};
 ghost use Rattle.pinned_pool.specs.Moves.{meant_count, front_of};
 ghost use Rattle.pin_core.specs.Buffers.{buffer_words};
 
+use super::claims::claim_number;
 use pinned_pool::{
-    Class, Held, Hold, Memory, NoBuffer, Pool, PoolBlank, PoolName, PoolSeat, PoolSeats, Unpinned,
+    Class, Held, Hold, Memory, Pool, PoolBlank, PoolName, PoolSeat, PoolSeats, Unpinned,
 };
 use std::alloc::Global;
 use std::marker::Brand;
 use std::test::Fail;
 use std::thread::{Threads, join};
 
-// The buffer that was won.
-fn claim_number<N: PoolName>(
-    pool: &Pool<N>,
-    seat: &mut PoolSeat<N>,
-    class: Class,
-) -> Result<u32, NoBuffer>
-    ensures { seat.new.credits ≡ seat.old.credits }
+// The only calls of these two. They have no clauses.
+fn address<N: PoolName>(pool: &Pool<N>, buffer: u32) -> u64 {
+    pool.address(buffer)
+}
+
+fn buffer_at<N: PoolName>(pool: &Pool<N>, address: u64) -> Option<(u32, u32)> {
+    pool.buffer_at(address)
+}
+
+#[derive(Clone, Copy, PartialEq)]
+struct Places {
+    addresses: [u64; 3],
+    found: [Option<(u32, u32)>; 4],
+    held: Held,
+}
+
+// The addresses of three buffers, what is found at four addresses, and what is held.
+fn places_of<N: PoolName>(blank: PoolBlank, buffers: [u32; 3], addresses: [u64; 4]) -> Places
+    requires { (blank.table ≡ N.table) × (blank.sizes ≡ N.sizes) }
 {
-    match pool.claim(seat, class) {
-        Ok(hold) => Ok(hold.buffer()),
-        Err(none) => Err(none),
+    let (pool, seat) = blank.name::<N>();
+    let [first, second, third] = buffers;
+    let [one, two, three, four] = addresses;
+    Places {
+        addresses: [
+            address(&pool, first),
+            address(&pool, second),
+            address(&pool, third),
+        ],
+        found: [
+            buffer_at(&pool, one),
+            buffer_at(&pool, two),
+            buffer_at(&pool, three),
+            buffer_at(&pool, four),
+        ],
+        held: pool.close(seat).held(),
     }
-}
-
-// Claims the two large buffers, one more, and the small one.
-fn claim_four<N: PoolName>(blank: PoolBlank) -> ([Result<u32, NoBuffer>; 4], Held)
-    requires { (blank.table ≡ N.table) × (blank.sizes ≡ N.sizes) }
-{
-    let (pool, mut seat) = blank.name::<N>();
-    let first = claim_number(&pool, &mut seat, Class::Large);
-    let second = claim_number(&pool, &mut seat, Class::Large);
-    let third = claim_number(&pool, &mut seat, Class::Large);
-    let fourth = claim_number(&pool, &mut seat, Class::Small);
-    ([first, second, third, fourth], pool.close(seat).held())
-}
-
-fn claim_all(blank: PoolBlank) -> ([Result<u32, NoBuffer>; 4], Held) {
-    claim_four::<Brand>(blank)
-}
-
-#[test]
-fn claims_go_in_ascending_order(rt: HostRuntime) -> Result<(), Fail> {
-    let blank = PoolBlank::open(rt.alloc(), 1, 2, 4)?;
-    let (claims, held) = claim_all(blank);
-    let none = NoBuffer {
-        class: Class::Large,
-        looked: 2,
-    };
-    assert!(rt; claims == [Ok(1), Ok(2), Err(none), Ok(0)]);
-    assert_eq!(rt; held, Held { small: 1, large: 2 });
-    Ok(())
-}
-
-// What came of claims of small buffers: how many of the first 63 won, what the next two gave, and what was held then.
-fn claim_to_the_last<N: PoolName>(
-    blank: PoolBlank,
-) -> (u32, Result<u32, NoBuffer>, Result<u32, NoBuffer>, Held)
-    requires { (blank.table ≡ N.table) × (blank.sizes ≡ N.sizes) }
-{
-    let (pool, mut seat) = blank.name::<N>();
-    let mut won: u32 = 0;
-    for _ in 0..63 {
-        if claim_number(&pool, &mut seat, Class::Small).is_ok() {
-            won = won.saturating_add(1);
-        }
-    }
-    let last = claim_number(&pool, &mut seat, Class::Small);
-    let behind = claim_number(&pool, &mut seat, Class::Small);
-    (won, last, behind, pool.close(seat).held())
-}
-
-fn claims_to_the_last(
-    blank: PoolBlank,
-) -> (u32, Result<u32, NoBuffer>, Result<u32, NoBuffer>, Held) {
-    claim_to_the_last::<Brand>(blank)
-}
-
-#[test]
-fn the_last_free_buffer_is_found(rt: HostRuntime) -> Result<(), Fail> {
-    let (won, last, behind, held) = claims_to_the_last(PoolBlank::open(rt.alloc(), 64, 1, 1)?);
-    let none = NoBuffer {
-        class: Class::Small,
-        looked: 64,
-    };
-    assert_eq!(rt; won, 63);
-    assert!(rt; last == Ok(63) && behind == Err(none));
-    assert_eq!(rt;
-        held,
-        Held {
-            small: 64,
-            large: 0
-        }
-    );
-    Ok(())
-}
-
-// The addresses of the first, second and third buffer.
-fn three_addresses<N: PoolName>(blank: PoolBlank) -> [u64; 3]
-    requires { (blank.table ≡ N.table) × (blank.sizes ≡ N.sizes) }
-{
-    let (pool, _seat) = blank.name::<N>();
-    [pool.address(0), pool.address(1), pool.address(2)]
-}
-
-fn addresses_of(blank: PoolBlank) -> [u64; 3] {
-    three_addresses::<Brand>(blank)
-}
-
-// The buffers at the first, the second and so on of these addresses.
-fn found_at<N: PoolName>(blank: PoolBlank, addresses: [u64; 4]) -> [Option<(u32, u32)>; 4]
-    requires { (blank.table ≡ N.table) × (blank.sizes ≡ N.sizes) }
-{
-    let (pool, _seat) = blank.name::<N>();
-    let [first, second, third, fourth] = addresses;
-    [
-        pool.buffer_at(first),
-        pool.buffer_at(second),
-        pool.buffer_at(third),
-        pool.buffer_at(fourth),
-    ]
-}
-
-fn buffers_at(blank: PoolBlank, addresses: [u64; 4]) -> [Option<(u32, u32)>; 4] {
-    found_at::<Brand>(blank, addresses)
 }
 
 #[test]
 fn addresses_are_those_of_the_classes(rt: HostRuntime) -> Result<(), Fail> {
     let blank = PoolBlank::open(rt.alloc(), 1, 2, 4)?;
-    assert!(rt; addresses_of(blank) == [1_048_576, 1_049_088, 1_053_184]);
-    let blank = PoolBlank::open(rt.alloc(), 1, 2, 4)?;
-    let found = buffers_at(blank, [1_049_090, 1_057_280, 1_048_575, 1_057_279]);
-    assert!(rt; found == [Some((1, 2)), None, None, Some((2, 4095))]);
+    let at = [1_049_090, 1_057_280, 1_048_575, 1_057_279];
+    let wanted = Places {
+        addresses: [1_048_576, 1_049_088, 1_053_184],
+        found: [Some((1, 2)), None, None, Some((2, 4095))],
+        held: Held { small: 0, large: 0 },
+    };
+    assert!(rt; places_of::<Brand>(blank, [0, 1, 2], at) == wanted);
     Ok(())
 }
 
-// The last byte of the last buffer, and the address behind it.
-fn last_byte<N: PoolName>(blank: PoolBlank) -> (Option<(u32, u32)>, Option<(u32, u32)>, Held)
-    requires { (blank.table ≡ N.table) × (blank.sizes ≡ N.sizes) }
-{
-    let (pool, seat) = blank.name::<N>();
-    let end = pool.address(81_919) + 4096;
-    let found = (pool.buffer_at(end - 1), pool.buffer_at(end));
-    (found.0, found.1, pool.close(seat).held())
-}
-
-fn largest(blank: PoolBlank) -> (Option<(u32, u32)>, Option<(u32, u32)>, Held) {
-    last_byte::<Brand>(blank)
-}
-
+// The last small buffer, the first large one and the last one; its last byte, and what lies behind it.
 #[test]
 fn opens_at_the_limits(rt: HostRuntime) -> Result<(), Fail> {
     let blank = PoolBlank::open(rt.alloc(), 65_536, 16_384, 2_147_483_648)?;
-    let (last, behind, held) = largest(blank);
-    assert!(rt; last == Some((81_919, 4095)));
-    assert!(rt; behind.is_none());
-    assert_eq!(rt; held, Held { small: 0, large: 0 });
-    Ok(())
-}
-
-#[test]
-fn opens_with_one_buffer(rt: HostRuntime) -> Result<(), Fail> {
-    let none = |class| NoBuffer { class, looked: 0 };
-    let one = |class| NoBuffer { class, looked: 1 };
-    let (claims, held) = claim_all(PoolBlank::open(rt.alloc(), 1, 0, 1)?);
-    let large = none(Class::Large);
-    assert!(rt; claims == [Err(large), Err(large), Err(large), Ok(0)]);
-    assert_eq!(rt; held, Held { small: 1, large: 0 });
-    let (claims, held) = claim_all(PoolBlank::open(rt.alloc(), 0, 1, 1)?);
-    let large = one(Class::Large);
-    assert!(rt; claims == [Ok(0), Err(large), Err(large), Err(none(Class::Small))]);
-    assert_eq!(rt; held, Held { small: 0, large: 1 });
+    let at = [101_711_871, 101_711_872, 101_707_776, 101_707_775];
+    let wanted = Places {
+        addresses: [34_602_496, 34_603_008, 101_707_776],
+        found: [
+            Some((81_919, 4095)),
+            None,
+            Some((81_919, 0)),
+            Some((81_918, 4095)),
+        ],
+        held: Held { small: 0, large: 0 },
+    };
+    assert!(rt; places_of::<Brand>(blank, [65_535, 65_536, 81_919], at) == wanted);
     Ok(())
 }
 
@@ -217,19 +124,10 @@ fn claim_halves<N: PoolName + Send + Sync, R: Threads + Sync>(
     (first, second, close_joined(pool, seat, other))
 }
 
-fn claim_sixteen<R: Threads + Sync>(
-    rt: &R,
-    blank: PoolBlank,
-) -> ([Option<u32>; 8], [Option<u32>; 8], Held)
-    requires { 1 < blank.sizes.credits }
-{
-    claim_halves::<Brand, R>(rt, blank)
-}
-
 #[test]
 fn two_threads_win_sixteen_buffers(rt: HostRuntime) -> Result<(), Fail> {
     let blank = PoolBlank::open(rt.alloc(), 16, 1, 2)?;
-    let (first, second, held) = claim_sixteen(&rt, blank);
+    let (first, second, held) = claim_halves::<Brand, HostRuntime>(&rt, blank);
     let mut seen = [false; 16];
     for won in first.iter().chain(&second) {
         let buffer = won.unwrap_or(u32::MAX) as usize;
@@ -237,9 +135,8 @@ fn two_threads_win_sixteen_buffers(rt: HostRuntime) -> Result<(), Fail> {
         assert!(rt; !seen[buffer]);
         seen[buffer] = true;
     }
-    assert_eq!(rt;
-        held,
-        Held {
+    assert!(rt;
+        held == Held {
             small: 16,
             large: 0
         }
@@ -347,21 +244,11 @@ fn pin_by_two<N: PoolName + Send + Sync, R: Threads + Sync>(
     Some(close_all(pool, first, second, others, hold, pinned))
 }
 
-fn pin_in_threads<R: Threads + Sync>(
-    rt: &R,
-    blank: PoolBlank,
-    count: u32,
-) -> Option<(Unpinned, Unpinned, Held)>
-    requires { 10 < blank.sizes.credits }
-{
-    pin_by_two::<Brand, R>(rt, blank, count)
-}
-
 // Each thread has a hold of the one buffer, under which it pins and unpins. After that only these two holds are left.
 #[test]
 fn two_threads_pin_one_buffer(rt: HostRuntime) -> Result<(), Fail> {
     let blank = PoolBlank::open(rt.alloc(), 1, 1, 16)?;
-    let ended = pin_in_threads(&rt, blank, 10_000);
+    let ended = pin_by_two::<Brand, HostRuntime>(&rt, blank, 10_000);
     let none_held = Held { small: 0, large: 0 };
     assert!(rt; ended == Some((Unpinned::NotLast, Unpinned::Last, none_held)));
     Ok(())
@@ -384,13 +271,10 @@ fn write_and_read<N: PoolName>(blank: PoolBlank) -> Option<[u64; 4]>
     Some([first, second, third, again])
 }
 
-fn words_of(blank: PoolBlank) -> Option<[u64; 4]> {
-    write_and_read::<Brand>(blank)
-}
-
 #[test]
 fn reads_what_was_written(rt: HostRuntime) -> Result<(), Fail> {
-    let words = words_of(PoolBlank::open(rt.alloc(), 2, 0, 1)?);
+    let blank = PoolBlank::open(rt.alloc(), 2, 0, 1)?;
+    let words = write_and_read::<Brand>(blank);
     assert!(rt; words == Some([11, 44, 33, 44]));
     Ok(())
 }
@@ -403,9 +287,13 @@ fn list_seats<N: PoolName>(alloc: Global, blank: PoolBlank) -> Result<[usize; 4]
     let mut seats = PoolSeats::<N>::with_room(alloc, 2)?;
     let empty = seats.len();
     let second = pool.split(&mut seat, (), 1);
-    seats.push(second).map_err(|(memory, _seat)| memory)?;
+    let Ok(()) = seats.push(second) else {
+        return Err(Memory);
+    };
     let third = pool.split(&mut seat, (), 1);
-    seats.push(third).map_err(|(memory, _seat)| memory)?;
+    let Ok(()) = seats.push(third) else {
+        return Err(Memory);
+    };
     let full = seats.len();
     let mut taken = 0;
     if let Some(last) = seats.pop() {
@@ -421,16 +309,10 @@ fn list_seats<N: PoolName>(alloc: Global, blank: PoolBlank) -> Result<[usize; 4]
     Ok([empty, full, taken, none_left])
 }
 
-fn seats_of(alloc: Global, blank: PoolBlank) -> Result<[usize; 4], Memory>
-    requires { 2 < blank.sizes.credits }
-{
-    list_seats::<Brand>(alloc, blank)
-}
-
 #[test]
 fn seats_go_into_a_list(rt: HostRuntime) -> Result<(), Fail> {
     let blank = PoolBlank::open(rt.alloc(), 1, 0, 3)?;
-    assert!(rt; seats_of(rt.alloc(), blank)? == [0, 2, 2, 1]);
+    assert!(rt; list_seats::<Brand>(rt.alloc(), blank)? == [0, 2, 2, 1]);
     Ok(())
 }
 
@@ -463,13 +345,10 @@ fn fill_both<N: PoolName>(blank: PoolBlank) -> Option<[u64; 2]>
     Some([last, pool.load_word(&mut seat, &large, 511)])
 }
 
-fn last_words(blank: PoolBlank) -> Option<[u64; 2]> {
-    fill_both::<Brand>(blank)
-}
-
 #[test]
 fn fills_whole_buffers(rt: HostRuntime) -> Result<(), Fail> {
-    let words = last_words(PoolBlank::open(rt.alloc(), 3, 2, 1)?);
+    let blank = PoolBlank::open(rt.alloc(), 3, 2, 1)?;
+    let words = fill_both::<Brand>(blank);
     assert!(rt; words == Some([126, 1022]));
     Ok(())
 }
@@ -643,17 +522,6 @@ fn load_by_three<N: PoolName + Send + Sync, R: Threads + Sync>(
     Some((seen, unpinned, held))
 }
 
-fn load_in_threads<R: Threads + Sync>(
-    rt: &R,
-    blank: PoolBlank,
-    bytes: &[u8; 512],
-    count: u32,
-) -> Option<Loaded>
-    requires { (0 < blank.sizes.small) × (9 < blank.sizes.credits) }
-{
-    load_by_three::<Brand, R>(rt, blank, bytes, count)
-}
-
 // Two threads load the whole buffer while a third one pins and unpins it.
 #[test]
 fn two_threads_load_what_a_third_pins(rt: HostRuntime) -> Result<(), Fail> {
@@ -662,7 +530,7 @@ fn two_threads_load_what_a_third_pins(rt: HostRuntime) -> Result<(), Fail> {
         bytes[8 * k] = 2 * k as u8;
     }
     let blank = PoolBlank::open(rt.alloc(), 1, 1, 16)?;
-    let loaded = load_in_threads(&rt, blank, &bytes, 10_000);
+    let loaded = load_by_three::<Brand, HostRuntime>(&rt, blank, &bytes, 10_000);
     let unpinned = [Unpinned::NotLast, Unpinned::NotLast, Unpinned::Last];
     assert!(rt; loaded == Some(([10_000, 10_000], unpinned, Held { small: 0, large: 0 })));
     Ok(())

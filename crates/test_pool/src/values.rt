@@ -73,41 +73,48 @@ fn keep<N: PoolName>(
     })
 }
 
-fn keep_both(alloc: Global, blank: PoolBlank, first: &[u8], more: &[u8]) -> Result<Kept, Memory>
-    requires { length first.now ≤ value_limit }
-{
+// The only call of `keep`. It has no clauses.
+fn write_and_append(alloc: Global, first: &[u8], more: &[u8]) -> Result<Kept, Memory> {
+    if first.len() > VALUE_LIMIT {
+        return Err(Memory);
+    }
+    let Ok(blank) = PoolBlank::open(alloc, 3, 33, 2) else {
+        return Err(Memory);
+    };
     keep::<Brand>(alloc, blank, first, more)
+}
+
+// What has to come of it: the bytes are joined, if they are not too long together.
+fn joined(first: Vec<u8>, more: &[u8]) -> Result<Kept, Memory> {
+    let mut bytes = first;
+    let length = (bytes.len() as u64).saturating_add(more.len() as u64);
+    let mut refused = None;
+    if length > VALUE_LIMIT as u64 {
+        refused = Some(AppendError::TooLong { length });
+    } else {
+        bytes.extend_from_slice(more)?;
+    }
+    Ok(Kept {
+        refused,
+        lasts: bytes.len().div_ceil(4096) as u64,
+        bytes,
+        held: Held { small: 0, large: 0 },
+    })
+}
+
+fn is_same(kept: &Kept, wanted: &Kept) -> bool {
+    kept.refused == wanted.refused
+        && kept.bytes.as_slice() == wanted.bytes.as_slice()
+        && kept.lasts == wanted.lasts
+        && kept.held == wanted.held
 }
 
 // Writes so many bytes, and appends so many others.
 fn check_lengths(rt: &impl Abort, alloc: Global, first: usize, more: usize) -> Result<(), Fail> {
     let old = sample(alloc, first.min(VALUE_LIMIT), 1)?;
     let new = sample(alloc, more.min(VALUE_LIMIT), 100)?;
-    let blank = PoolBlank::open(alloc, 3, 33, 2)?;
-    let kept = keep_both(alloc, blank, &old, &new)?;
-    let sum = old.len() + new.len();
-    let refused = if sum > VALUE_LIMIT {
-        Some(AppendError::TooLong { length: sum as u64 })
-    } else {
-        None
-    };
-    assert!(rt; kept.refused == refused, "{first} and {more}");
-    let mut want = old;
-    if refused.is_none() {
-        want.extend_from_slice(&new)?;
-    }
-    assert!(rt;
-        kept.bytes.as_slice() == want.as_slice(),
-        "{first} and {more}"
-    );
-    assert!(rt;
-        kept.lasts == want.len().div_ceil(4096) as u64,
-        "{first} and {more}"
-    );
-    assert!(rt;
-        kept.held == Held { small: 0, large: 0 },
-        "{first} and {more}"
-    );
+    let kept = write_and_append(alloc, &old, &new)?;
+    assert!(rt; is_same(&kept, &joined(old, &new)?), "{first} and {more}");
     Ok(())
 }
 
@@ -122,7 +129,7 @@ fn lengths_are_written_and_appended(rt: HostRuntime) -> Result<(), Fail> {
 }
 
 // What a value is made of: how many fragments it has, and the buffer and length of the first two.
-#[derive(Clone, Copy, PartialEq, Eq, Debug)]
+#[derive(Clone, Copy, PartialEq)]
 struct Shape {
     count: usize,
     first: (u32, u32),
@@ -169,25 +176,12 @@ fn fill_large<N: PoolName>(
     Ok((shape_of(&value), room))
 }
 
-fn filled(alloc: Global, blank: PoolBlank, bytes: &[u8]) -> Result<(Shape, Vec<u8>), Memory>
-    requires { (512 < length bytes.now) × (length bytes.now ≤ 4096) }
-{
-    fill_large::<Brand>(alloc, blank, bytes)
-}
-
 #[test]
 fn fills_one_buffer(rt: HostRuntime) -> Result<(), Fail> {
     let bytes = sample(rt.alloc(), 513, 5)?;
     let blank = PoolBlank::open(rt.alloc(), 1, 2, 4)?;
-    let (shape, room) = filled(rt.alloc(), blank, &bytes)?;
-    assert!(rt;
-        shape
-            == Shape {
-                count: 1,
-                first: (1, 513),
-                second: (0, 0)
-            }
-    );
+    let (shape, room) = fill_large::<Brand>(rt.alloc(), blank, &bytes)?;
+    assert!(rt; shape == one(1, 513));
     assert!(rt; room.as_slice() == bytes.as_slice());
     Ok(())
 }
@@ -247,46 +241,41 @@ fn share<N: PoolName>(
     })
 }
 
-fn share_between(
-    alloc: Global,
-    blank: PoolBlank,
-    bytes: &[u8],
-    more: &[u8],
-    other: &[u8],
-) -> Result<Shared, Memory>
-    requires name { 8 < blank.sizes.credits }
-    requires few { (length bytes.now ≤ 4096) × (length more.now ≤ 4096) × (length other.now ≤ 4096) }
-{
-    share::<Brand>(alloc, blank, bytes, more, other)
+// The shape of a value of one fragment.
+const fn one(buffer: u32, len: u32) -> Shape {
+    Shape {
+        count: 1,
+        first: (buffer, len),
+        second: (0, 0),
+    }
+}
+
+const BYTES: [u8; 4090] = [b'A'; 4090];
+
+// The only call of `share`. It has no clauses.
+fn share_four(alloc: Global) -> Result<Shared, Memory> {
+    let Ok(blank) = PoolBlank::open(alloc, 4, 2, 16) else {
+        return Err(Memory);
+    };
+    share::<Brand>(alloc, blank, &BYTES, &[b'B'; 10], &[b'C'; 4096])
 }
 
 #[test]
 fn a_pinned_fragment_is_not_written_again(rt: HostRuntime) -> Result<(), Fail> {
-    let blank = PoolBlank::open(rt.alloc(), 4, 2, 16)?;
-    let old = [b'A'; 4090];
-    let shared = share_between(rt.alloc(), blank, &old, &[b'B'; 10], &[b'C'; 4096])?;
-    let one = |buffer, len| Shape {
-        count: 1,
-        first: (buffer, len),
-        second: (0, 0),
+    let shared = share_four(rt.alloc())?;
+    let two = Shape {
+        count: 2,
+        first: (5, 4096),
+        second: (0, 4),
     };
     let none = NoBuffer {
         class: Class::Large,
         looked: 2,
     };
-    assert_eq!(rt; shared.written, one(4, 4090));
-    assert_eq!(rt;
-        shared.appended,
-        Shape {
-            count: 2,
-            first: (5, 4096),
-            second: (0, 4)
-        }
-    );
+    assert!(rt; shared.written == one(4, 4090) && shared.appended == two);
     assert!(rt; shared.refused == Some(PlaceError::NoBuffer(none)));
-    assert!(rt; shared.seen.as_slice() == old.as_slice());
-    assert!(rt; shared.unpinned == Unpinned::Last);
-    assert_eq!(rt; shared.again, one(4, 4096));
+    assert!(rt; shared.seen.as_slice() == BYTES.as_slice() && shared.unpinned == Unpinned::Last);
+    assert!(rt; shared.again == one(4, 4096));
     Ok(())
 }
 
@@ -313,39 +302,68 @@ fn hand_to_copier<N: PoolName>(
     Ok((copier, pool.close(seat).held()))
 }
 
-fn handed(
-    alloc: Global,
-    blank: PoolBlank,
-    bytes: &[u8],
-    over: bool,
-) -> Result<(Copier, Held), Memory>
-    requires { length bytes.now ≤ value_limit }
-{
-    hand_to_copier::<Brand>(alloc, blank, bytes, over)
+/// What a taker was handed: its size, and of each run where it lies, from which byte on and how long it is; how many
+/// holds came with them, and the bytes.
+#[derive(Drop)]
+struct Taken {
+    taking: bool,
+    whole: bool,
+    size: u64,
+    runs: Vec<(u64, u32, usize)>,
+    over: u64,
+    bytes: Vec<u8>,
 }
+
+fn taken_by(alloc: Global, copier: &Copier) -> Result<Taken, Memory> {
+    let mut bytes = Vec::new(alloc);
+    let mut runs = Vec::new(alloc);
+    let mut over: u64 = 0;
+    for copy in &copier.copies {
+        bytes.extend_from_slice(&copy.bytes[..copy.len])?;
+        runs.push((copy.address, copy.offset, copy.len))?;
+        if copy.over {
+            over = over.saturating_add(1);
+        }
+    }
+    Ok(Taken {
+        taking: copier.taking,
+        whole: copier.whole,
+        size: copier.size,
+        runs,
+        over,
+        bytes,
+    })
+}
+
+// The only call of `hand_to_copier`, over a pool of so many large buffers. It has no clauses.
+fn handed(alloc: Global, bytes: &[u8], large: u32, over: bool) -> Result<(Taken, Held), Memory> {
+    if bytes.len() > VALUE_LIMIT || large > 17 {
+        return Err(Memory);
+    }
+    let Ok(blank) = PoolBlank::open(alloc, 2, large, 1) else {
+        return Err(Memory);
+    };
+    let (copier, held) = hand_to_copier::<Brand>(alloc, blank, bytes, over)?;
+    Ok((taken_by(alloc, &copier)?, held))
+}
+
+const FIVE: [(u64, u32, usize); 5] = [
+    (1_049_600, 0, 4_096),
+    (1_053_696, 0, 4_096),
+    (1_057_792, 0, 4_096),
+    (1_061_888, 0, 4_096),
+    (1_048_576, 0, 1),
+];
 
 // The address and length of each fragment, and whether its hold came with it, of a value of five fragments.
 fn check_handed(rt: &impl Abort, alloc: Global, over: bool, held: Held) -> Result<(), Fail> {
     let bytes = sample(alloc, 16_385, 3)?;
-    let blank = PoolBlank::open(alloc, 2, 4, 1)?;
-    let (copier, left) = handed(alloc, blank, &bytes, over)?;
-    assert!(rt; !copier.taking && copier.whole && copier.size == 16_385);
-    let mut taken_bytes = Vec::new(alloc);
-    let mut places = Vec::new(alloc);
-    for copy in &copier.copies {
-        taken_bytes.extend_from_slice(&copy.bytes[..copy.len])?;
-        places.push((copy.address, copy.offset, copy.len, copy.over))?;
-    }
-    assert!(rt; taken_bytes.as_slice() == bytes.as_slice());
-    let want = [
-        (1_049_600, 0, 4096, over),
-        (1_053_696, 0, 4096, over),
-        (1_057_792, 0, 4096, over),
-        (1_061_888, 0, 4096, over),
-        (1_048_576, 0, 1, over),
-    ];
-    assert!(rt; places.as_slice() == want.as_slice());
-    assert_eq!(rt; left, held);
+    let (taken, left) = handed(alloc, &bytes, 4, over)?;
+    assert!(rt; !taken.taking && taken.whole && taken.size == 16_385 && left == held);
+    assert!(rt; taken.over == if over { 5 } else { 0 });
+    assert!(rt;
+        taken.bytes.as_slice() == bytes.as_slice() && taken.runs.as_slice() == FIVE.as_slice()
+    );
     Ok(())
 }
 
@@ -376,19 +394,6 @@ fn hand_range_to_copier<N: PoolName>(
         hand_range(&pool, &mut seat, &value, from, len, &mut copier);
     }
     Ok(copier)
-}
-
-fn range_handed(
-    alloc: Global,
-    blank: PoolBlank,
-    bytes: &[u8],
-    from: u64,
-    len: u64,
-) -> Result<Copier, Memory>
-    requires few { length bytes.now ≤ value_limit }
-    requires within { from + len ≤ length bytes.now }
-{
-    hand_range_to_copier::<Brand>(alloc, blank, bytes, from, len)
 }
 
 /// A range of a value of 16,385 bytes: its first place, its length, and the address, offset and length of each run.
@@ -424,24 +429,26 @@ static RANGES: [Row; 9] = [
     ),
 ];
 
+// The only call of `hand_range_to_copier`, of a value of 16,385 bytes. It has no clauses.
+fn range_handed(alloc: Global, bytes: &[u8], from: u64, len: u64) -> Result<Taken, Memory> {
+    if bytes.len() != 16_385 || from > 16_385 || len > 16_385 - from {
+        return Err(Memory);
+    }
+    let Ok(blank) = PoolBlank::open(alloc, 2, 4, 1) else {
+        return Err(Memory);
+    };
+    let copier = hand_range_to_copier::<Brand>(alloc, blank, bytes, from, len)?;
+    taken_by(alloc, &copier)
+}
+
 fn check_range(rt: &impl Abort, alloc: Global, bytes: &[u8], row: Row) -> Result<(), Fail> {
     let (from, len, want) = row;
-    assert!(rt; bytes.len() == 16_385);
-    assert!(rt; from <= 16_385);
-    assert!(rt; len <= 16_385 - from);
-    let blank = PoolBlank::open(alloc, 2, 4, 1)?;
-    let copier = range_handed(alloc, blank, bytes, from, len)?;
-    assert!(rt; !copier.taking && !copier.whole && copier.size == len);
-    let mut run_bytes = Vec::new(alloc);
-    let mut places = Vec::new(alloc);
-    for copy in &copier.copies {
-        run_bytes.extend_from_slice(&copy.bytes[..copy.len])?;
-        places.push((copy.address, copy.offset, copy.len))?;
-        assert!(rt; !copy.over);
-    }
-    assert!(rt; places.as_slice() == want, "{from} and {len}");
+    let taken = range_handed(alloc, bytes, from, len)?;
+    assert!(rt; !taken.taking && !taken.whole && taken.size == len && taken.over == 0);
+    assert!(rt; taken.runs.as_slice() == want, "{from} and {len}");
+    let end = from.saturating_add(len) as usize;
     assert!(rt;
-        run_bytes.as_slice() == &bytes[from as usize..(from + len) as usize],
+        Some(taken.bytes.as_slice()) == bytes.get(from as usize..end),
         "{from} and {len}"
     );
     Ok(())
@@ -450,22 +457,17 @@ fn check_range(rt: &impl Abort, alloc: Global, bytes: &[u8], row: Row) -> Result
 // The bytes in fragments of 4,096: 16 of them, each in a large buffer.
 fn check_longest(rt: &impl Abort, alloc: Global) -> Result<(), Fail> {
     let bytes = sample(alloc, 65_536, 3)?;
-    let blank = PoolBlank::open(alloc, 2, 17, 1)?;
-    let (copier, left) = handed(alloc, blank, &bytes, false)?;
-    assert!(rt; copier.size == 65_536 && copier.copies.len() == 16);
-    let mut taken_bytes = Vec::new(alloc);
-    for copy in &copier.copies {
-        assert_eq!(rt; copy.len, 4096);
-        taken_bytes.extend_from_slice(&copy.bytes[..copy.len])?;
+    let (taken, left) = handed(alloc, &bytes, 17, false)?;
+    let held = Held {
+        small: 0,
+        large: 16,
+    };
+    assert!(rt; taken.size == 65_536 && taken.bytes.as_slice() == bytes.as_slice() && left == held);
+    let mut runs = Vec::new(alloc);
+    for buffer in 0..16u64 {
+        runs.push((1_049_600 + 4_096 * buffer, 0, 4_096))?;
     }
-    assert!(rt; taken_bytes.as_slice() == bytes.as_slice());
-    assert_eq!(rt;
-        left,
-        Held {
-            small: 0,
-            large: 16
-        }
-    );
+    assert!(rt; taken.runs.as_slice() == runs.as_slice());
     Ok(())
 }
 
@@ -509,21 +511,11 @@ fn keep_and_release<N: PoolName>(
     Ok((len, longer, release(&pool, &mut owner, third)))
 }
 
-fn kept_and_released(
-    alloc: Global,
-    blank: PoolBlank,
-    bytes: &[u8],
-) -> Result<(u64, u64, u64), Memory>
-    requires { (2 < blank.sizes.credits) × (0 < length bytes.now) × (length bytes.now ≤ value_limit) }
-{
-    keep_and_release::<Brand>(alloc, blank, bytes)
-}
-
 #[test]
 fn values_go_to_the_seat_that_keeps_them(rt: HostRuntime) -> Result<(), Fail> {
     let bytes = [b'k'; 5_000];
     let blank = PoolBlank::open(rt.alloc(), 2, 5, 4)?;
-    let kept = kept_and_released(rt.alloc(), blank, &bytes)?;
+    let kept = keep_and_release::<Brand>(rt.alloc(), blank, &bytes)?;
     assert!(rt; kept == (5_000, 10_000, 3));
     Ok(())
 }

@@ -1,7 +1,10 @@
 //! What no clause says: each job is done once, by workers at the same time, and want of memory comes before the first.
+ghost use Rattle.std.specs.Prelude.{◌<◌, ◌≤◌};
+
 use std::alloc::{AllocError, Global};
+use std::sync::Wait;
 use std::sync::atomic::{AtomicU64, Ordering};
-use std::thread;
+use std::thread::{Threads, yield_now};
 use work_queue::in_workers;
 
 fn numbers(alloc: Global, n: u64) -> Result<Vec<u64>, AllocError> {
@@ -12,35 +15,60 @@ fn numbers(alloc: Global, n: u64) -> Result<Vec<u64>, AllocError> {
     Ok(jobs)
 }
 
-// Each job is called once: its own count is 1 in the sum of counts, in which each has 3 bits.
+// So many jobs are called: the sum of their counts, of which each has 3 bits, and what they answered.
+fn worked<R: Threads + Wait + Sync>(
+    rt: &R,
+    alloc: Global,
+    workers: u16,
+    n: u64,
+) -> Result<(u64, Vec<u64>), AllocError>
+    requires { (0 < workers) × (workers ≤ 16) }
+{
+    let calls = AtomicU64::new(0);
+    let Ok(results) = in_workers(
+        rt,
+        alloc,
+        numbers(alloc, n)?,
+        workers,
+        &|job: u64| {
+            calls.fetch_add(1u64.wrapping_shl((job % 20 * 3) as u32), Ordering::SeqCst);
+            job ^ 85
+        },
+    ) else {
+        return Err(AllocError);
+    };
+    Ok((calls.load(Ordering::SeqCst), results))
+}
+
+// So many counts of 1.
+fn all_once(n: u64) -> u64 {
+    let mut once = 0u64;
+    for _ in 0..n {
+        once = once.wrapping_mul(8).wrapping_add(1);
+    }
+    once
+}
+
+// Whether there are so many results, each that of its job.
+fn are_done(results: &[u64], n: u64) -> bool {
+    for i in 0..results.len() {
+        if results[i] != i as u64 ^ 85 {
+            return false;
+        }
+    }
+    results.len() as u64 == n
+}
+
+// Each job is called once: its own count is 1 in the sum of counts.
 #[test]
 fn each_job_is_done_once(rt: HostRuntime) -> Result<(), AllocError> {
-    let alloc = rt.alloc();
     for workers in 1u16..17 {
         for n in 0u64..20 {
-            let calls = AtomicU64::new(0);
-            let jobs = numbers(alloc, n)?;
-            let Ok(results) = in_workers(
-                &rt,
-                alloc,
-                jobs,
-                workers,
-                &|job: u64| {
-                    calls.fetch_add(1u64.wrapping_shl((job % 20 * 3) as u32), Ordering::SeqCst);
-                    job ^ 85
-                },
-            ) else {
-                return Err(AllocError);
-            };
-            let mut once = 0u64;
-            for _ in 0..n {
-                once = once.wrapping_mul(8).wrapping_add(1);
-            }
-            assert_eq!(rt; calls.load(Ordering::SeqCst), once);
-            assert_eq!(rt; results.len() as u64, n);
-            for i in 0..results.len() {
-                assert_eq!(rt; results[i], i as u64 ^ 85);
-            }
+            let (calls, results) = worked(&rt, rt.alloc(), workers, n)?;
+            assert!(rt;
+                calls == all_once(n) && are_done(&results, n),
+                "{workers} and {n}"
+            );
         }
     }
     Ok(())
@@ -51,7 +79,7 @@ struct Letter {
     words: Vec<u64>,
 }
 
-#[derive(Debug, Clone, Copy, PartialEq, Eq, Drop)]
+#[derive(Clone, Copy, PartialEq, Eq, Drop)]
 enum Weight {
     Empty,
     Words(usize),
@@ -74,19 +102,16 @@ fn letters_are_weighed(rt: HostRuntime) -> Result<(), AllocError> {
     let Ok(weights) = in_workers(&rt, alloc, letters, 3, &weigh) else {
         return Err(AllocError);
     };
-    assert_eq!(rt;
-        weights.as_slice(),
-        [
-            Weight::Empty,
-            Weight::Words(1),
-            Weight::Words(2),
-            Weight::Empty,
-            Weight::Words(1),
-            Weight::Words(2),
-            Weight::Empty,
-        ]
-        .as_slice()
-    );
+    let wanted = [
+        Weight::Empty,
+        Weight::Words(1),
+        Weight::Words(2),
+        Weight::Empty,
+        Weight::Words(1),
+        Weight::Words(2),
+        Weight::Empty,
+    ];
+    assert!(rt; weights.as_slice() == wanted.as_slice());
     Ok(())
 }
 
@@ -96,33 +121,51 @@ fn are_there(arrived: &AtomicU64, wanted: u64) -> bool {
         if arrived.load(Ordering::SeqCst) >= wanted {
             return true;
         }
-        thread::yield_now();
+        yield_now();
     }
     false
 }
 
-// Jobs that wait for each other.
+// As many jobs as workers, which wait for each other: whether each met all.
+fn met<R: Threads + Wait + Sync>(
+    rt: &R,
+    alloc: Global,
+    workers: u16,
+) -> Result<Vec<bool>, AllocError>
+    requires { (0 < workers) × (workers ≤ 16) }
+{
+    let arrived = AtomicU64::new(0);
+    let jobs = numbers(alloc, workers as u64)?;
+    let answers = in_workers(
+        rt,
+        alloc,
+        jobs,
+        workers,
+        &|_job: u64| {
+            arrived.fetch_add(1, Ordering::SeqCst);
+            are_there(&arrived, workers as u64)
+        },
+    );
+    match answers {
+        Ok(met) => Ok(met),
+        Err(_) => Err(AllocError),
+    }
+}
+
+fn are_all(together: &[bool], count: usize) -> bool {
+    for met in together {
+        if !*met {
+            return false;
+        }
+    }
+    together.len() == count
+}
+
 #[test]
 fn workers_work_at_the_same_time(rt: HostRuntime) -> Result<(), AllocError> {
-    let alloc = rt.alloc();
     for workers in 2u16..5 {
-        let arrived = AtomicU64::new(0);
-        let jobs = numbers(alloc, workers as u64)?;
-        let Ok(met) = in_workers(
-            &rt,
-            alloc,
-            jobs,
-            workers,
-            &|_job: u64| {
-                arrived.fetch_add(1, Ordering::SeqCst);
-                are_there(&arrived, workers as u64)
-            },
-        ) else {
-            return Err(AllocError);
-        };
-        for together in met {
-            assert!(rt; together);
-        }
+        let together = met(&rt, rt.alloc(), workers)?;
+        assert!(rt; are_all(&together, workers as usize), "{workers}");
     }
     Ok(())
 }

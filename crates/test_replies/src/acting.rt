@@ -1,12 +1,13 @@
 //! Acts of a session and its device, each told as a line.
-ghost use Rattle.std.specs.Prelude.{◌≡◌, ◌+◌, ◌<◌, ◌≤◌, IfOk};
+ghost use Rattle.std.specs.Prelude.{◌≡◌, ◌+◌, ◌<◌, ◌≤◌};
 
+use super::putting::{Counted, flush, put};
 use super::resources::{RunResources, close, open_resources};
 use any_wire::Calls;
 use command_exec::Shop;
 use command_parts::Command;
 use device_model::{Device, Gathered};
-use flake_base::{Memory, MemoryWire, Seg, Wire};
+use flake_base::{Memory, Seg};
 use order_book::{BookBlank, BookName};
 use pinned_pool::{Pool, PoolBlank, PoolName};
 use reply_planner::Parcel;
@@ -23,21 +24,6 @@ pub enum Act {
     Call,
     Gather,
     Reap,
-}
-
-fn put(wire: MemoryWire, piece: &[u8]) -> (MemoryWire, bool) {
-    let mut wire = wire;
-    if piece.is_empty() {
-        return (wire, false);
-    }
-    let failed = wire.put(piece).is_err();
-    (wire, failed)
-}
-
-fn flush(wire: MemoryWire) -> (MemoryWire, bool) {
-    let mut wire = wire;
-    let failed = wire.flush().is_err();
-    (wire, failed)
 }
 
 // Lists that a call tells of.
@@ -138,90 +124,132 @@ fn tell_reap(text: &mut String, reaped: Option<Reaped>) -> Result<(), Memory> {
     Ok(())
 }
 
-// A session with its device and its wire, and what was told of it.
+/// A session, and what was told of it.
 #[derive(Drop)]
-struct Stand<N: BookName, P: PoolName + Send>
+struct Near<N: BookName, P: PoolName + Send>
 where
     Parcel<P>: Framed,
 {
     session: Session<N, P>,
-    device: Device<P>,
-    wire: MemoryWire,
     lists: Lists,
     text: String,
 }
 
-// Does one thing. A call is that of the next command, if there is one.
+/// A session's device, and its wire.
+#[derive(Drop)]
+struct Far<P: PoolName + Send>
+where
+    Parcel<P>: Framed,
+{
+    device: Device<P>,
+    wire: Counted,
+}
+
+// Calls the next command, if there is one.
+fn call_next<R: Wait, N: BookName, P: PoolName + Send>(
+    rt: &R,
+    shop: &Shop<'_, N, P>,
+    near: &mut Near<N, P>,
+    commands: &[Command],
+) -> Result<(), Memory>
+    ensures { near.new.session.opened ≡ near.old.session.opened }
+{
+    let Some(command) = commands.get(near.session.calls() as usize) else {
+        return Ok(());
+    };
+    let called = call_once(rt, shop, &mut near.session, command, &mut near.lists);
+    tell_call(&mut near.text, called, &near.lists)
+}
+
+fn reap_next<N: BookName, P: PoolName + Send>(
+    shop: &Shop<'_, N, P>,
+    near: &mut Near<N, P>,
+) -> Result<(), Memory>
+    ensures { near.new.session.opened ≡ near.old.session.opened }
+{
+    let reaped = reap_once(shop, &mut near.session);
+    tell_reap(&mut near.text, reaped)
+}
+
+// The only gather. It has no clauses.
+fn gather_next<P: PoolName + Send>(pool: &Pool<P>, far: Far<P>) -> (Far<P>, Gathered) {
+    let Far { mut device, wire } = far;
+    let (wire, gathered) = device.gather(pool, wire, &Calls { put, flush });
+    (Far { device, wire }, gathered)
+}
+
+// Does one thing.
 fn act_once<R: Wait, N: BookName, P: PoolName + Send>(
     rt: &R,
     shop: &Shop<'_, N, P>,
-    stand: Stand<N, P>,
+    near: &mut Near<N, P>,
+    far: Far<P>,
     commands: &[Command],
     next: Act,
-) -> Result<Stand<N, P>, Memory>
-    ensures { IfOk result (λ s. s.session.opened ≡ stand.session.opened) }
+) -> Result<Far<P>, Memory>
+    ensures { near.new.session.opened ≡ near.old.session.opened }
 {
-    let Stand {
-        mut session,
-        mut device,
-        mut wire,
-        mut lists,
-        mut text,
-    } = stand;
     match next {
         Act::Call => {
-            if let Some(command) = commands.get(session.calls() as usize) {
-                let called = call_once(rt, shop, &mut session, command, &mut lists);
-                tell_call(&mut text, called, &lists)?;
-            }
+            call_next(rt, shop, near, commands)?;
+            Ok(far)
         }
         Act::Gather => {
-            let (after, gathered) = device.gather(shop.pool, wire, &Calls { put, flush });
-            wire = after;
-            tell_gather(&mut text, gathered)?;
+            let (far, gathered) = gather_next(shop.pool, far);
+            tell_gather(&mut near.text, gathered)?;
+            Ok(far)
         }
-        Act::Reap => tell_reap(&mut text, reap_once(shop, &mut session))?,
+        Act::Reap => {
+            reap_next(shop, near)?;
+            Ok(far)
+        }
     }
-    Ok(Stand {
-        session,
-        device,
-        wire,
-        lists,
-        text,
-    })
 }
 
 // Does the same thing so often.
 fn act_often<R: Wait, N: BookName, P: PoolName + Send>(
     rt: &R,
     shop: &Shop<'_, N, P>,
-    stand: Stand<N, P>,
+    near: &mut Near<N, P>,
+    far: Far<P>,
     commands: &[Command],
-    next: Act,
-    times: usize,
-) -> Result<Stand<N, P>, Memory>
-    ensures { IfOk result (λ s. s.session.opened ≡ stand.session.opened) }
+    act: (Act, usize),
+) -> Result<Far<P>, Memory>
+    ensures { near.new.session.opened ≡ near.old.session.opened }
 {
-    let mut stand = stand;
+    let (next, times) = act;
+    let mut far = far;
     for _ in 0..times {
-        stand = act_once(rt, shop, stand, commands, next)?;
+        far = act_once(rt, shop, near, far, commands, next)?;
     }
-    Ok(stand)
+    Ok(far)
+}
+
+fn act_all<R: Wait, N: BookName, P: PoolName + Send>(
+    rt: &R,
+    shop: &Shop<'_, N, P>,
+    near: &mut Near<N, P>,
+    far: Far<P>,
+    commands: &[Command],
+    acts: &[(Act, usize)],
+) -> Result<Far<P>, Memory>
+    ensures { near.new.session.opened ≡ near.old.session.opened }
+{
+    let mut far = far;
+    for act in acts {
+        far = act_often(rt, shop, near, far, commands, *act)?;
+    }
+    Ok(far)
 }
 
 // Gathers so often.
-fn gather_often<P: PoolName + Send>(
-    pool: &Pool<P>,
-    device: &mut Device<P>,
-    wire: MemoryWire,
-    times: usize,
-) -> MemoryWire {
-    let mut wire = wire;
+fn gather_often<P: PoolName + Send>(pool: &Pool<P>, far: Far<P>, times: usize) -> Counted {
+    let mut far = far;
     for _ in 0..times {
-        let (after, _) = device.gather(pool, wire, &Calls { put, flush });
-        wire = after;
+        let (after, _) = gather_next(pool, far);
+        far = after;
     }
-    wire
+    far.wire
 }
 
 // Acts, and then whatever waits is gathered and given back, and all is closed. The last line tells what is held.
@@ -233,8 +261,8 @@ fn tell_named<R: Wait, N: BookName, P: PoolName + Send>(
     threshold: u32,
     commands: &[Command],
     acts: &[(Act, usize)],
-    wire: MemoryWire,
-) -> Result<(String, MemoryWire), Memory>
+    wire: Counted,
+) -> Result<(String, Counted), Memory>
     requires pool { (pool.table ≡ P.table) × (pool.sizes ≡ P.sizes) }
     requires book { (book.table ≡ N.table) × (book.sizes ≡ N.sizes) }
     requires shards { (0 < N.sizes.shards) × (N.sizes.shards ≤ 16) }
@@ -253,24 +281,18 @@ fn tell_named<R: Wait, N: BookName, P: PoolName + Send>(
         book: &book,
         store: &store,
     };
-    let mut stand = Stand {
+    let mut near = Near {
         session,
-        device,
-        wire,
         lists: Lists::new(alloc),
         text: String::new(alloc),
     };
-    for (next, times) in acts {
-        stand = act_often(rt, &shop, stand, commands, *next, *times)?;
-    }
-    let Stand {
+    let far = act_all(rt, &shop, &mut near, Far { device, wire }, commands, acts)?;
+    let wire = gather_often(&pool, far, 128);
+    let Near {
         session,
-        mut device,
-        wire,
         lists: _,
         mut text,
-    } = stand;
-    let wire = gather_often(&pool, &mut device, wire, 128);
+    } = near;
     let Some(held) = close(pool, book, store, session) else {
         return Err(Memory);
     };
@@ -287,8 +309,8 @@ pub fn tell<R: Wait>(
     threshold: u32,
     commands: &[Command],
     acts: &[(Act, usize)],
-    wire: MemoryWire,
-) -> Result<(String, MemoryWire), Memory>
+    wire: Counted,
+) -> Result<(String, Counted), Memory>
     requires shards { (0 < book.sizes.shards) × (book.sizes.shards ≤ 16) }
     requires credits { 8192 + book.sizes.shards ≤ pool.sizes.credits }
     requires threshold { (0 < threshold) × (threshold ≤ 512) }

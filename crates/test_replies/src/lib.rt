@@ -18,7 +18,6 @@ mod resources;
 #[cfg(test)]
 mod rows;
 #[cfg(test)]
-#[cfg(test)]
 mod staging;
 #[cfg(test)]
 mod threads;

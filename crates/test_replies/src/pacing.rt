@@ -1,7 +1,8 @@
 //! Many calls, with gathers between them in several rhythms.
 use super::acting::{Act, tell};
+use super::putting::Counted;
 use command_parts::Command;
-use flake_base::{Fails, Memory, MemoryWire};
+use flake_base::Memory;
 use order_book::BookBlank;
 use pinned_pool::PoolBlank;
 use std::alloc::Global;
@@ -40,6 +41,17 @@ fn turns(alloc: Global, rhythm: usize) -> Result<Vec<(Act, usize)>, Memory> {
     Ok(acts)
 }
 
+// How many lines tell of calls.
+fn calls_in(told: &str) -> usize {
+    let mut calls: usize = 0;
+    for line in told.lines() {
+        if line.starts_with("call ") {
+            calls = calls.saturating_add(1);
+        }
+    }
+    calls
+}
+
 #[test]
 fn three_hundred_calls_in_several_rhythms(rt: HostRuntime) -> Result<(), Fail> {
     let alloc = rt.alloc();
@@ -48,15 +60,11 @@ fn three_hundred_calls_in_several_rhythms(rt: HostRuntime) -> Result<(), Fail> {
         let acts = turns(alloc, rhythm)?;
         let pool = PoolBlank::open(alloc, 128, 400, 8201)?;
         let book = BookBlank::open(alloc, 8, 1)?;
-        let wire = MemoryWire::new(alloc, text.len(), Fails::with_room(alloc, 0)?)?;
+        let wire = Counted::new(alloc, text.len(), None, false)?;
         let (told, wire) = tell(&rt, alloc, pool, book, 512, &commands, &acts, wire)?;
-        let calls = told
-            .lines()
-            .filter(|line| line.starts_with("call "))
-            .count();
-        assert_eq!(rt; calls, 300);
+        assert_eq!(rt; calls_in(told.as_str()), 300);
         assert!(rt; told.ends_with("held 0 2\n"), "{rhythm}");
-        assert!(rt; wire.sent() == text.as_slice(), "{rhythm}");
+        assert!(rt; wire.wire.sent() == text.as_slice(), "{rhythm}");
     }
     Ok(())
 }

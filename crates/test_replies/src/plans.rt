@@ -8,6 +8,7 @@ ghost use Rattle.reply_planner.specs.Owned.{AreOwn};
 ghost use Rattle.reply_planner.specs.Planned.{room_of};
 ghost use Rattle.reply_planner.specs.Stages.{stage_size};
 
+use super::putting::sample;
 use flake_base::Memory;
 use frag_value::{Taker, VALUE_LIMIT, Value, hand, hand_over, hand_range, release, write};
 use pinned_pool::{Pool, PoolBlank, PoolName, PoolSeat};
@@ -322,31 +323,6 @@ fn reply_to<N: PoolName>(
     }
 }
 
-fn replied(
-    alloc: Global,
-    blank: PoolBlank,
-    bytes: &[u8],
-    ask: Ask<'_>,
-    way: Way,
-) -> Result<Reply, Memory>
-    requires rich { 1400 ≤ blank.sizes.credits }
-    requires few { length bytes.now ≤ value_limit }
-    requires threshold { (0 < ask.threshold) × (ask.threshold ≤ 512) }
-    requires times { (0 < ask.times) × (ask.times + ask.nulls ≤ 64) }
-    requires head { length ask.head.now ≤ 23 }
-{
-    reply_to::<Brand>(alloc, blank, bytes, ask, way)
-}
-
-// So many bytes, which repeat after 251.
-fn sample(alloc: Global, len: usize) -> Result<Vec<u8>, Memory> {
-    let mut bytes = Vec::new(alloc);
-    for k in 0..len {
-        bytes.push((k % 251) as u8)?;
-    }
-    Ok(bytes)
-}
-
 fn add_bulk(alloc: Global, text: &mut Vec<u8>, bytes: &[u8]) -> Result<(), Memory> {
     text.extend_from_slice(format!(in alloc; "${}\r\n", bytes.len())?.as_bytes())?;
     text.extend_from_slice(bytes)?;
@@ -389,35 +365,35 @@ struct Row<'a> {
     lasts: u64,
 }
 
-// The only call of `replied`. It has no clauses.
-fn make_reply(rt: &impl Abort, alloc: Global, bytes: &[u8], row: Row<'_>) -> Result<Reply, Fail> {
-    let ask = row.ask;
-    assert!(rt; bytes.len() <= VALUE_LIMIT);
-    assert!(rt; 0 < ask.threshold && ask.threshold <= 512);
-    assert!(rt; 0 < ask.times && ask.times <= 64 && ask.nulls <= 64 - ask.times);
-    assert!(rt; ask.head.len() <= 23);
-    let blank = PoolBlank::open(alloc, 4096, 1024, 2000)?;
-    Ok(replied(alloc, blank, bytes, ask, row.way)?)
+// The only call of `reply_to`. It has no clauses.
+fn make_reply(alloc: Global, bytes: &[u8], ask: Ask<'_>, way: Way) -> Result<Reply, Memory> {
+    if bytes.len() > VALUE_LIMIT || ask.threshold == 0 || ask.threshold > 512 {
+        return Err(Memory);
+    }
+    if ask.times == 0 || ask.times > 64 || ask.nulls > 64 - ask.times || ask.head.len() > 23 {
+        return Err(Memory);
+    }
+    let Ok(blank) = PoolBlank::open(alloc, 4096, 1024, 2000) else {
+        return Err(Memory);
+    };
+    reply_to::<Brand>(alloc, blank, bytes, ask, way)
+}
+
+// Whether the reply has the row's segments, with these bytes.
+fn is_right(reply: &Reply, row: &Row<'_>, text: &[u8]) -> bool {
+    reply.gathered.segments.as_slice() == row.segments
+        && reply.gathered.text.as_slice() == text
+        && reply.len == text.len() as u64
+        && reply.call == 7
+        && reply.lasts == row.lasts
 }
 
 // The reply has these segments, with the bytes that it has to have.
-fn check(rt: &impl Abort, alloc: Global, row: Row<'_>) -> Result<(), Fail> {
+fn check(rt: &impl Abort, alloc: Global, row: &Row<'_>) -> Result<(), Fail> {
     let bytes = sample(alloc, row.len)?;
     let text = text_for(alloc, &bytes, row.ask, row.way)?;
-    let reply = make_reply(rt, alloc, &bytes, row)?;
-    assert!(rt;
-        reply.gathered.segments.as_slice() == row.segments,
-        "{}",
-        row.len
-    );
-    assert!(rt;
-        reply.gathered.text.as_slice() == text.as_slice(),
-        "{}",
-        row.len
-    );
-    assert_eq!(rt; reply.len, text.len() as u64);
-    assert_eq!(rt; reply.call, 7);
-    assert_eq!(rt; reply.lasts, row.lasts);
+    let reply = make_reply(alloc, &bytes, row.ask, row.way)?;
+    assert!(rt; is_right(&reply, row, &text), "{}", row.len);
     Ok(())
 }
 
@@ -607,7 +583,7 @@ static ROWS: [Row<'static>; 17] = [
 #[test]
 fn segments_of_replies(rt: HostRuntime) -> Result<(), Fail> {
     for row in &ROWS {
-        check(&rt, rt.alloc(), *row)?;
+        check(&rt, rt.alloc(), row)?;
     }
     Ok(())
 }
@@ -631,5 +607,5 @@ fn sixty_four_short_values(rt: HostRuntime) -> Result<(), Fail> {
         segments: &segments,
         lasts: 0,
     };
-    check(&rt, rt.alloc(), row)
+    check(&rt, rt.alloc(), &row)
 }

@@ -1,4 +1,4 @@
-//! A wire in memory that counts its flushes.
+//! A wire in memory that counts its flushes, and bytes for it.
 use flake_base::{Fails, Memory, MemoryWire, Wire};
 use std::alloc::Global;
 
@@ -44,6 +44,15 @@ pub fn put(counted: Counted, piece: &[u8]) -> (Counted, bool) {
 pub fn flush(counted: Counted) -> (Counted, bool) {
     let mut counted = counted;
     counted.flushes = counted.flushes.saturating_add(1);
-    let failed = counted.holds_back;
+    let failed = counted.wire.flush().is_err() || counted.holds_back;
     (counted, failed)
+}
+
+/// So many bytes, which repeat after 251.
+pub fn sample(alloc: Global, len: usize) -> Result<Vec<u8>, Memory> {
+    let mut bytes = Vec::new(alloc);
+    for k in 0..len {
+        bytes.push((k % 251) as u8)?;
+    }
+    Ok(bytes)
 }

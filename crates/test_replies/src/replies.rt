@@ -3,7 +3,7 @@ ghost use Rattle.std.specs.Prelude.{◌≡◌, ◌<◌, ◌≤◌, IfOk};
 ghost use Rattle.frag_value.specs.Values.{HasValue};
 
 use super::making::{Made, SessionSlot, make_line, make_range, open_session_slot};
-use super::putting::{Counted, flush, put};
+use super::putting::{Counted, flush, put, sample};
 use any_wire::Calls;
 use device_model::{Device, Gathered};
 use flake_base::Memory;
@@ -191,20 +191,15 @@ fn see_named<N: PoolName + Send>(
     })
 }
 
-fn see(alloc: Global, blank: PoolBlank, ask: Ask<'_>, wire: Counted) -> Result<Seen, Memory>
-    requires credits { 1000 ≤ blank.sizes.credits }
-    requires threshold { (0 < ask.threshold) × (ask.threshold ≤ 512) }
-{
-    see_named::<Brand>(alloc, blank, ask, wire)
-}
-
-// So many bytes, which repeat after 251.
-fn sample(alloc: Global, len: usize) -> Result<Vec<u8>, Memory> {
-    let mut bytes = Vec::new(alloc);
-    for k in 0..len {
-        bytes.push((k % 251) as u8)?;
+// The only call of `see_named`. It has no clauses.
+fn see(alloc: Global, ask: Ask<'_>, wire: Counted) -> Result<Seen, Memory> {
+    if ask.threshold == 0 || ask.threshold > 512 {
+        return Err(Memory);
     }
-    Ok(bytes)
+    let Ok(blank) = PoolBlank::open(alloc, 260, 8, 1000) else {
+        return Err(Memory);
+    };
+    see_named::<Brand>(alloc, blank, ask, wire)
 }
 
 // The first staging buffer, the first small one behind both stages, and the first large one.
@@ -232,28 +227,34 @@ struct Wanted<'a> {
     flushes: u32,
 }
 
-// The reply to the range of a value of the sample. Its holds of so many buffers are the last ones.
+// Whether all was seen that is wanted, and the reply had these segments, and so many holds that were the last ones.
+fn is_right(seen: &Seen, wanted: &Wanted<'_>, segments: &[(u64, u32)], lasts: u64) -> bool {
+    let found = [
+        wanted.first,
+        wanted.second,
+        Gathered::Empty,
+        Gathered::Closed,
+    ];
+    seen.segments.as_slice() == segments
+        && seen.found == found
+        && seen.wire.wire.sent() == wanted.wire
+        && seen.wire.flushes == wanted.flushes
+        && seen.failed == (wanted.flushes == 0)
+        && seen.lasts == lasts
+}
+
+// The reply to the range of a value of the sample.
 fn check(
     rt: &impl Abort,
     alloc: Global,
     ask: Ask<'_>,
-    wanted: Wanted<'_>,
+    wanted: &Wanted<'_>,
     segments: &[(u64, u32)],
     lasts: u64,
 ) -> Result<(), Fail> {
-    assert!(rt; 0 < ask.threshold && ask.threshold <= 512);
     let wire = Counted::new(alloc, 70_000, wanted.fails, false)?;
-    let blank = PoolBlank::open(alloc, 260, 8, 1000)?;
-    let seen = see(alloc, blank, ask, wire)?;
-    assert_eq!(rt; seen.segments.as_slice(), segments);
-    assert_eq!(rt; seen.found[0], wanted.first);
-    assert_eq!(rt; seen.found[1], wanted.second);
-    assert_eq!(rt; seen.found[2], Gathered::Empty);
-    assert_eq!(rt; seen.found[3], Gathered::Closed);
-    assert!(rt; seen.wire.wire.sent() == wanted.wire);
-    assert_eq!(rt; seen.wire.flushes, wanted.flushes);
-    assert_eq!(rt; seen.failed, wanted.flushes == 0);
-    assert_eq!(rt; seen.lasts, lasts);
+    let seen = see(alloc, ask, wire)?;
+    assert!(rt; is_right(&seen, wanted, segments, lasts));
     Ok(())
 }
 
@@ -305,7 +306,7 @@ fn each_put_fails_in_turn(rt: HostRuntime) -> Result<(), Fail> {
         wire: &text,
         flushes: 2,
     };
-    check(&rt, alloc, ask, whole, &SIX, 4)?;
+    check(&rt, alloc, ask, &whole, &SIX, 4)?;
     let mut before = 0usize;
     let mut number = 0u64;
     for piece in &pieces(alloc)? {
@@ -322,7 +323,7 @@ fn each_put_fails_in_turn(rt: HostRuntime) -> Result<(), Fail> {
             wire: &text[..kept],
             flushes: 0,
         };
-        check(&rt, alloc, ask, wanted, &SIX, 4)?;
+        check(&rt, alloc, ask, &wanted, &SIX, 4)?;
         before = before.wrapping_add(*piece);
         number = number.wrapping_add(1);
     }
@@ -350,7 +351,7 @@ fn segments_begin_at_each_byte_of_a_word(rt: HostRuntime) -> Result<(), Fail> {
             len: 20,
         };
         let segments = [(STAGE, 5), (SMALL + from, 20), (STAGE + 5, 2)];
-        check(&rt, alloc, ask, wanted, &segments, 1)?;
+        check(&rt, alloc, ask, &wanted, &segments, 1)?;
     }
     Ok(())
 }
@@ -375,7 +376,7 @@ fn half_of_a_piece(rt: HostRuntime) -> Result<(), Fail> {
         flushes: 0,
     };
     let segments = [(STAGE, 6), (LARGE, 600), (STAGE + 6, 2)];
-    check(&rt, alloc, ask, wanted, &segments, 1)
+    check(&rt, alloc, ask, &wanted, &segments, 1)
 }
 
 #[test]
@@ -387,12 +388,8 @@ fn a_flush_fails(rt: HostRuntime) -> Result<(), Fail> {
         from: 0,
         len: 3,
     };
-    let wire = Counted::new(alloc, 100, None, true)?;
-    let blank = PoolBlank::open(alloc, 260, 8, 1000)?;
-    let seen = see(alloc, blank, ask, wire)?;
-    assert!(rt; seen.failed);
-    assert_eq!(rt; seen.wire.flushes, 1);
-    assert_eq!(rt; seen.found[1], sent(8, 7));
+    let seen = see(alloc, ask, Counted::new(alloc, 100, None, true)?)?;
+    assert!(rt; seen.failed && seen.wire.flushes == 1 && seen.found[1] == sent(8, 7));
     assert!(rt; seen.wire.wire.sent() == b"$3\r\nabc\r\n+PONG\r\n".as_slice());
     Ok(())
 }

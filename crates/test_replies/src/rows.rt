@@ -1,7 +1,8 @@
 //! What calls, gathers and reaps tell.
 use super::acting::{Act, tell};
+use super::putting::Counted;
 use command_parts::Command;
-use flake_base::{Fails, Memory, MemoryWire};
+use flake_base::Memory;
 use order_book::BookBlank;
 use pinned_pool::PoolBlank;
 use std::alloc::Global;
@@ -10,17 +11,6 @@ use std::process::Abort;
 use std::sync::Wait;
 use std::test::Fail;
 use test_support::asking::{command, commands_of};
-
-// The first puts, so many, are done, and the next one fails; or all are done.
-fn wire_with(alloc: Global, fails: Option<u64>) -> Result<MemoryWire, Memory> {
-    let mut numbers = Fails::with_room(alloc, 1)?;
-    if let Some(number) = fails {
-        if numbers.push(number).is_err() {
-            return Err(Memory);
-        }
-    }
-    MemoryWire::new(alloc, 400_000, numbers)
-}
 
 // Acts on these commands tell this. The answer is the wire.
 fn check<R: Wait + Abort>(
@@ -31,11 +21,11 @@ fn check<R: Wait + Abort>(
     acts: &[(Act, usize)],
     fails: Option<u64>,
     wanted: &str,
-) -> Result<MemoryWire, Fail> {
+) -> Result<Counted, Fail> {
     assert!(rt; 0 < threshold && threshold <= 512);
     let pool = PoolBlank::open(alloc, 4096, 1024, 8201)?;
     let book = BookBlank::open(alloc, 8, 1)?;
-    let wire = wire_with(alloc, fails)?;
+    let wire = Counted::new(alloc, 400_000, fails, false)?;
     let (told, wire) = tell(rt, alloc, pool, book, threshold, commands, acts, wire)?;
     assert!(rt; told.as_str() == wanted, "{told}");
     Ok(wire)
@@ -295,7 +285,7 @@ fn calls_gathers_and_reaps(rt: HostRuntime) -> Result<(), Fail> {
         let commands = commands_of(alloc, case.lines)?;
         let wire = check(&rt, alloc, 512, &commands, case.acts, case.fails, case.told)?;
         let bytes = repeated(alloc, case.wire)?;
-        assert!(rt; wire.sent() == bytes.as_slice());
+        assert!(rt; wire.wire.sent() == bytes.as_slice());
     }
     Ok(())
 }

@@ -102,17 +102,12 @@ fn work_named<N: PoolName + Send + Sync, R: Threads>(
     Ok((back, wire))
 }
 
-fn work<R: Threads>(
-    rt: &R,
-    alloc: Global,
-    blank: PoolBlank,
-    count: u32,
-    wire: Counted,
-) -> Result<(u32, Counted), Memory>
-    requires credits { 1000 ≤ blank.sizes.credits }
-    requires count { count ≤ 128 }
-{
-    work_named::<Brand, R>(rt, alloc, blank, count, wire)
+// The only call of `work_named`. It has no clauses.
+fn work<R: Threads>(rt: &R, alloc: Global, wire: Counted) -> Result<(u32, Counted), Memory> {
+    let Ok(blank) = PoolBlank::open(alloc, 128, 0, 1000) else {
+        return Err(Memory);
+    };
+    work_named::<Brand, R>(rt, alloc, blank, 128, wire)
 }
 
 #[test]
@@ -122,10 +117,7 @@ fn replies_go_between_threads(rt: HostRuntime) -> Result<(), Fail> {
     for number in 0..128 {
         text.extend_from_slice(format!(in alloc; ":{number}\r\n")?.as_bytes())?;
     }
-    let wire = Counted::new(alloc, 1000, None, false)?;
-    let blank = PoolBlank::open(alloc, 128, 0, 1000)?;
-    let (back, wire) = work(&rt, alloc, blank, 128, wire)?;
-    assert_eq!(rt; back, 128);
-    assert!(rt; wire.wire.sent() == text.as_slice());
+    let (back, wire) = work(&rt, alloc, Counted::new(alloc, 1000, None, false)?)?;
+    assert!(rt; back == 128 && wire.wire.sent() == text.as_slice());
     Ok(())
 }

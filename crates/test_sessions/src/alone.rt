@@ -3,6 +3,7 @@ ghost use Rattle.std.specs.Prelude.{◌≡◌, ◌+◌, []};
 ghost use Rattle.run_resources.specs.Opened.{HasRunSizes, IsPool, IsBook};
 
 use super::common::{Watched, flush, put, source, tell, wires_of};
+use crate::checks::equal;
 use any_wire::Calls;
 use command_exec::Shop;
 use command_pump::Pump;
@@ -11,7 +12,7 @@ use order_book::{Book, BookBlank, BookName, SessionSeats};
 use pinned_pool::{Pool, PoolBlank, PoolName, PoolSeat};
 use run_resources::{RunResources, RunSizes, SESSION_CREDITS, close_all, open_resources};
 use session_pass::NoGate;
-use session_serve::{DumpTurn, Link, Room, ServedAccount, serve_beside};
+use session_serve::{DumpTurn, Link, ServedAccount, serve_beside};
 use shard_store::Store;
 use std::alloc::Global;
 use std::marker::Brand;
@@ -89,13 +90,11 @@ fn serve_named<R: Threads + Wait + Sync, N: BookName, P: PoolName + Send + Sync>
         dump: DumpTurn::new(alloc, None),
         mtu: None,
     };
-    let room = Room::new(alloc)?;
     let (wire, account) = serve_beside(
         rt,
         alloc,
         &shop,
         link,
-        room,
         &NoGate,
         wire,
         &Calls { put, flush },
@@ -137,8 +136,8 @@ fn more_replies_than_a_stage_has(rt: HostRuntime) -> Result<(), Fail> {
         "clean taken 14000 replies 1000 whole flushed {pongs}\n\
         1 wires 2 shards 0 entries held 0 0"
     )?;
-    assert_eq!(rt; told.as_str(), said.as_str());
-    assert_eq!(rt; sent, 7000);
+    equal(&rt, "what is left", told.as_str(), said.as_str());
+    equal(&rt, "bytes sent", sent, 7000);
     Ok(())
 }
 
@@ -146,8 +145,8 @@ fn more_replies_than_a_stage_has(rt: HostRuntime) -> Result<(), Fail> {
 fn nothing_is_asked(rt: HostRuntime) -> Result<(), Fail> {
     let (told, sent) = served(&rt, rt.alloc(), "", None)?;
     let said = "clean taken 0 replies 0 whole flushed \n1 wires 2 shards 0 entries held 0 0";
-    assert_eq!(rt; told.as_str(), said);
-    assert_eq!(rt; sent, 0);
+    equal(&rt, "what is left", told.as_str(), said);
+    equal(&rt, "bytes sent", sent, 0);
     Ok(())
 }
 
@@ -156,7 +155,7 @@ fn nothing_is_asked(rt: HostRuntime) -> Result<(), Fail> {
 fn a_put_fails(rt: HostRuntime) -> Result<(), Fail> {
     let (told, sent) = served(&rt, rt.alloc(), "PING\nSET a x\nGET a\n", Some(0))?;
     let said = "clean taken 61 replies 3 failed unflushed +PO\n1 wires 2 shards 2 entries held 1 0";
-    assert_eq!(rt; told.as_str(), said);
-    assert_eq!(rt; sent, 0);
+    equal(&rt, "what is left", told.as_str(), said);
+    equal(&rt, "bytes sent", sent, 0);
     Ok(())
 }

@@ -1,4 +1,5 @@
 // What generated requests may claim.
+use crate::checks::equal;
 use serve_generated::{Demand, generated_demand};
 
 // The only call of `generated_demand`. It has no clauses, so that no assertion carries those of `generated_demand`.
@@ -23,6 +24,11 @@ fn demands(rt: HostRuntime) {
         (0, 16, 4000, 14_655, 45_523),
     ];
     for (number, sessions, count, small, large) in table {
-        assert_eq!(rt; demand(number, sessions, count), Demand { small, large });
+        equal(
+            &rt,
+            "the demand",
+            demand(number, sessions, count),
+            Demand { small, large },
+        );
     }
 }

@@ -2,6 +2,7 @@
 ghost use Rattle.std.specs.Prelude.{◌≡◌, []};
 
 use super::common::{Watched, flush, put, source, tell, wires_of};
+use crate::checks::{equal, holds};
 use any_wire::Calls;
 use drive_inputs::{drive_inputs, held_line};
 use drive_script::LineRoom;
@@ -87,9 +88,9 @@ fn two_sources_by_a_schedule(rt: HostRuntime) -> Result<(), Fail> {
     let second = source(alloc, "GET a\n", b"", 4096)?;
     let wires = wires_of(alloc, 3, None)?;
     let (told, failed) = driven(&rt, alloc, SCHEDULE, first, second, wires, &mut host)?;
-    assert_eq!(rt; str::from_utf8(host.said())?, LINES);
-    assert_eq!(rt; told.as_str(), LEFT);
-    assert!(rt; !failed);
+    equal(&rt, "the transcript", str::from_utf8(host.said())?, LINES);
+    equal(&rt, "what is left", told.as_str(), LEFT);
+    holds(&rt, "no failure", !failed);
     Ok(())
 }
 
@@ -102,7 +103,7 @@ fn lines_of_what_is_held(rt: HostRuntime) -> Result<(), Fail> {
     ] {
         let mut room = LineRoom::new(rt.alloc())?;
         held_line(&mut room.text, Held { small, large });
-        assert_eq!(rt; str::from_utf8(room.text.as_slice())?, line);
+        equal(&rt, "the line", str::from_utf8(room.text.as_slice())?, line);
     }
     Ok(())
 }

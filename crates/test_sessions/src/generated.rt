@@ -1,5 +1,6 @@
 //! Requests that are generated from a number.
 use super::common::{flush, put, wires_of};
+use crate::checks::equal;
 use any_wire::Calls;
 use command_line::GenTask;
 use flake_base::{Bytes, Source};
@@ -62,7 +63,7 @@ fn generated_requests(rt: HostRuntime) -> Result<(), Fail> {
             workers: 2,
         };
         let told = generated(&rt, rt.alloc(), &task)?;
-        assert_eq!(rt; told.as_str(), said);
+        equal(&rt, "what is left", told.as_str(), said);
     }
     Ok(())
 }
@@ -74,7 +75,7 @@ fn an_input_is_read_in_pieces(rt: HostRuntime) -> Result<(), Fail> {
     let mut room = [0u8; 4];
     for piece in ["hell", "o wo", "rld", "", ""] {
         let given = source.read(&mut room)?;
-        assert_eq!(rt; str::from_utf8(&room[..given])?, piece);
+        equal(&rt, "a piece", str::from_utf8(&room[..given])?, piece);
     }
     Ok(())
 }

@@ -2,6 +2,7 @@
 ghost use Rattle.std.specs.Prelude.{◌≡◌, []};
 
 use super::common::{Watched, flush, put, source, tell, wires_of};
+use crate::checks::equal;
 use any_wire::Calls;
 use flake_base::MemorySource;
 use serve_inputs::{RunSizes, serve_inputs};
@@ -73,8 +74,13 @@ fn two_sources_of_which_one_is_cut(rt: HostRuntime) -> Result<(), Fail> {
         let second = source(alloc, SECOND, b"*2\r\n$3\r\nGE", step)?;
         let wires = wires_of(alloc, 3, None)?;
         let (told, sent) = served(&rt, alloc, workers, first, second, wires)?;
-        assert_eq!(rt; told.as_str(), BOTH, "{workers}");
-        assert_eq!(rt; sent.as_slice(), [42, 28].as_slice());
+        equal(
+            &rt,
+            "what is left",
+            (workers, told.as_str()),
+            (workers, BOTH),
+        );
+        equal(&rt, "bytes sent", sent.as_slice(), [42, 28].as_slice());
     }
     Ok(())
 }

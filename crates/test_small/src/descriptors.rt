@@ -1,48 +1,70 @@
 //! Descriptors of the datasheet's form, written out by hand.
 use tx_descriptor::{Legacy, Unsupported};
 
-// Two segments of which neither ends its frame, one that does, and the same after the device is done.
-const SAMPLES: [([u8; 16], Legacy); 4] = [
-    (
-        [0, 2, 0x10, 0, 0, 0, 0, 0, 6, 0, 0, 0, 0, 0, 0, 0],
-        Legacy {
+/// A descriptor's bytes and fields.
+struct Sample {
+    name: &'static str,
+    bytes: [u8; 16],
+    fields: Legacy,
+}
+
+// Two segments of which neither ends its frame, one that does, and the same after the device is done; and single bits.
+static SAMPLES: [Sample; 5] = [
+    Sample {
+        name: "descriptors_have_their_bytes, 0",
+        bytes: [0, 2, 0x10, 0, 0, 0, 0, 0, 6, 0, 0, 0, 0, 0, 0, 0],
+        fields: Legacy {
             address: 1_049_088,
             len: 6,
             eop: false,
             rs: false,
             dd: false,
         },
-    ),
-    (
-        [0, 0, 0x30, 0, 0, 0, 0, 0, 0x58, 2, 0, 0, 0, 0, 0, 0],
-        Legacy {
+    },
+    Sample {
+        name: "descriptors_have_their_bytes, 1",
+        bytes: [0, 0, 0x30, 0, 0, 0, 0, 0, 0x58, 2, 0, 0, 0, 0, 0, 0],
+        fields: Legacy {
             address: 3_145_728,
             len: 600,
             eop: false,
             rs: false,
             dd: false,
         },
-    ),
-    (
-        [6, 2, 0x10, 0, 0, 0, 0, 0, 2, 0, 0, 9, 0, 0, 0, 0],
-        Legacy {
+    },
+    Sample {
+        name: "descriptors_have_their_bytes, 2",
+        bytes: [6, 2, 0x10, 0, 0, 0, 0, 0, 2, 0, 0, 9, 0, 0, 0, 0],
+        fields: Legacy {
             address: 1_049_094,
             len: 2,
             eop: true,
             rs: true,
             dd: false,
         },
-    ),
-    (
-        [6, 2, 0x10, 0, 0, 0, 0, 0, 2, 0, 0, 9, 1, 0, 0, 0],
-        Legacy {
+    },
+    Sample {
+        name: "descriptors_have_their_bytes, 3",
+        bytes: [6, 2, 0x10, 0, 0, 0, 0, 0, 2, 0, 0, 9, 1, 0, 0, 0],
+        fields: Legacy {
             address: 1_049_094,
             len: 2,
             eop: true,
             rs: true,
             dd: true,
         },
-    ),
+    },
+    Sample {
+        name: "single_bits_keep_their_fields",
+        bytes: [0, 0, 0, 0, 0, 0, 0, 0x80, 0, 0x80, 0, 8, 1, 0, 0, 0],
+        fields: Legacy {
+            address: 1 << 63,
+            len: 1 << 15,
+            eop: false,
+            rs: true,
+            dd: true,
+        },
+    },
 ];
 
 // The only calls of these two. They have no clauses, so that no assertion carries those of the calls.
@@ -56,24 +78,10 @@ fn read(bytes: [u8; 16]) -> Result<Legacy, Unsupported> {
 
 #[test]
 fn descriptors_have_their_bytes(rt: HostRuntime) {
-    for (bytes, fields) in &SAMPLES {
-        assert_eq!(rt; bytes_of(*fields), *bytes);
-        assert_eq!(rt; read(*bytes), Ok(*fields));
+    for sample in &SAMPLES {
+        assert!(rt; bytes_of(sample.fields) == sample.bytes, "{}", sample.name);
+        assert!(rt; read(sample.bytes) == Ok(sample.fields), "{}", sample.name);
     }
-}
-
-#[test]
-fn single_bits_keep_their_fields(rt: HostRuntime) {
-    let lone = Legacy {
-        address: 1 << 63,
-        len: 1 << 15,
-        eop: false,
-        rs: true,
-        dd: true,
-    };
-    let bytes = [0, 0, 0, 0, 0, 0, 0, 0x80, 0, 0x80, 0, 8, 1, 0, 0, 0];
-    assert_eq!(rt; bytes_of(lone), bytes);
-    assert_eq!(rt; read(bytes), Ok(lone));
 }
 
 // All but CSO, CSS, the special field, the command bits but EOP and RS, and the status bits but DD.
@@ -112,5 +120,5 @@ fn each_bit_outside_the_profile_is_refused(rt: HostRuntime) {
 #[test]
 fn the_first_of_two_bytes_is_named(rt: HostRuntime) {
     let bytes = [0, 0, 0, 0, 0, 0, 0, 0, 0, 0, 0, 0x20, 0, 1, 0, 0];
-    assert_eq!(rt; read(bytes), Err(Unsupported { byte: 11 }));
+    assert!(rt; read(bytes) == Err(Unsupported { byte: 11 }));
 }

@@ -2,7 +2,7 @@
 use any_wire::{Calls, flush_unless_failed, put_unless_failed};
 
 // How many bytes were put, and how often the wire was flushed.
-#[derive(Clone, Copy, Debug, PartialEq, Eq, Drop)]
+#[derive(Clone, Copy, Drop)]
 struct Count {
     bytes: usize,
     flushes: u32,

@@ -4,6 +4,7 @@
 #[cfg(test)]
 mod calls;
 #[cfg(test)]
+mod checks;
 #[cfg(test)]
 mod shard_maps;
 #[cfg(test)]

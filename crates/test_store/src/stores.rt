@@ -2,9 +2,10 @@ ghost use Rattle.std.specs.Prelude.{◌≡◌, ◌+◌, ◌<◌, ◌≤◌};
 
 mod world;
 
+use crate::checks::{equal, holds};
 use flake_base::{Entry, Journal, Memory, Sequence};
 use order_book::BookBlank;
-use pinned_pool::{ClaimStart, Class, Held, NoBuffer, PoolBlank};
+use pinned_pool::{ClaimStart, Class, NoBuffer, PoolBlank};
 use shard_store::{ClaimSpread, PartAnswer, PartOp};
 use std::alloc::Global;
 use std::marker::Brand;
@@ -12,7 +13,7 @@ use std::process::Abort;
 use std::sync::Wait;
 use std::test::Fail;
 use std::thread::Threads;
-use world::{Ask, Outcome, run_named};
+use world::{Ask, Outcome, Seen, run_named};
 
 fn run<R: Threads + Wait + Sync>(
     rt: &R,
@@ -28,8 +29,25 @@ fn run<R: Threads + Wait + Sync>(
     run_named::<Brand, Brand, R>(rt, alloc, pool, book, spread, first, second)
 }
 
-// Over so many shards, in a pool of 8 small buffers and so many large ones.
-fn run_over<R: Threads + Wait + Sync + Abort>(
+// Over so many shards, in a pool of 8 small buffers and so many large ones, at most 64.
+fn run_spread<R: Threads + Wait + Sync>(
+    rt: &R,
+    alloc: Global,
+    shards: u16,
+    large: u32,
+    spread: ClaimSpread,
+    first: &[Ask<'_>],
+    second: &[Ask<'_>],
+) -> Result<Outcome, Fail> {
+    if shards == 0 || shards > 16 || large > 64 {
+        return Err("no such numbers of shards and buffers".into());
+    }
+    let pool = PoolBlank::open(alloc, 8, large, 20)?;
+    let book = BookBlank::open(alloc, shards, 2)?;
+    Ok(run(rt, alloc, pool, book, spread, first, second)?)
+}
+
+fn run_over<R: Threads + Wait + Sync>(
     rt: &R,
     alloc: Global,
     shards: u16,
@@ -37,11 +55,15 @@ fn run_over<R: Threads + Wait + Sync + Abort>(
     first: &[Ask<'_>],
     second: &[Ask<'_>],
 ) -> Result<Outcome, Fail> {
-    assert!(rt; 0 < shards && shards <= 16 && large <= 64);
-    let pool = PoolBlank::open(alloc, 8, large, 20)?;
-    let book = BookBlank::open(alloc, shards, 2)?;
-    let spread = ClaimSpread::TOGETHER;
-    Ok(run(rt, alloc, pool, book, spread, first, second)?)
+    run_spread(
+        rt,
+        alloc,
+        shards,
+        large,
+        ClaimSpread::TOGETHER,
+        first,
+        second,
+    )
 }
 
 fn asking<'a>(call: u32, part: u16, op: PartOp, key: &'a [u8], value: &'a [u8]) -> Ask<'a> {
@@ -72,75 +94,62 @@ fn lines_of(alloc: Global, journal: &Journal) -> Result<Vec<Line>, Memory> {
     Ok(lines)
 }
 
-// What one session is answered, with the bytes that it gets, and what is left.
-#[derive(Clone, Copy, Drop)]
-struct Wanted<'a> {
-    answers: &'a [(PartAnswer, &'a [u8])],
-    lines: &'a [Line],
-    held: Held,
-}
+/// A part that is asked for, by its call's number and its own, with the key and the value, and what it is answered,
+/// with the bytes that the session gets.
+type Row = (
+    (u32, u16),
+    PartOp,
+    &'static [u8],
+    &'static [u8],
+    PartAnswer,
+    &'static [u8],
+);
 
-// One session asks over eight shards.
-fn check<R: Threads + Wait + Sync + Abort>(
-    rt: &R,
-    alloc: Global,
+/// What one session asks over eight shards and so many large buffers, the entries, and how many buffers are held.
+struct Case {
+    test: &'static str,
     large: u32,
-    asks: &[Ask<'_>],
-    wanted: &Wanted<'_>,
-) -> Result<(), Fail> {
-    let outcome = run_over(rt, alloc, 8, large, asks, &[])?;
-    assert_eq!(rt; outcome.first.len(), wanted.answers.len());
-    for (seen, (answer, bytes)) in outcome.first.iter().zip(wanted.answers) {
-        assert!(rt; seen.answer == *answer, "{:?}", seen.answer);
-        assert!(rt; seen.bytes.as_slice() == *bytes);
-    }
-    let lines = lines_of(alloc, &outcome.journal)?;
-    assert!(rt; lines.as_slice() == wanted.lines, "{:?}", lines);
-    assert!(rt; outcome.held == wanted.held, "{:?}", outcome.held);
-    Ok(())
+    rows: &'static [Row],
+    lines: &'static [Line],
+    held: (u32, u32),
 }
 
-fn held(small: u32, large: u32) -> Held {
-    Held { small, large }
-}
-
-#[test]
-fn empty_and_missing_values(rt: HostRuntime) -> Result<(), Fail> {
-    let asks = [
-        asking(0, 0, PartOp::Set, b"e", b""),
-        asking(1, 0, PartOp::Get, b"e", b""),
-        asking(2, 0, PartOp::Get, b"x", b""),
-    ];
-    let wanted = Wanted {
-        answers: &[
-            (PartAnswer::Done, b""),
-            (PartAnswer::Bulk, b""),
-            (PartAnswer::Null, b""),
+static CASES: [Case; 7] = [
+    Case {
+        test: "empty_and_missing_values",
+        large: 1,
+        rows: &[
+            ((0, 0), PartOp::Set, b"e", b"", PartAnswer::Done, b""),
+            ((1, 0), PartOp::Get, b"e", b"", PartAnswer::Bulk, b""),
+            ((2, 0), PartOp::Get, b"x", b"", PartAnswer::Null, b""),
         ],
         lines: &[(0, 0, 0, 0), (0, 0, 1, 0), (7, 0, 2, 0)],
-        held: held(0, 0),
-    };
-    check(&rt, rt.alloc(), 1, &asks, &wanted)
-}
-
-#[test]
-fn keys_of_two_shards(rt: HostRuntime) -> Result<(), Fail> {
-    let asks = [
-        asking(0, 0, PartOp::Set, b"a", b"1"),
-        asking(1, 0, PartOp::Del, b"a", b""),
-        asking(1, 1, PartOp::Del, b"a", b""),
-        asking(2, 0, PartOp::Set, b"b", b"1"),
-        asking(3, 0, PartOp::Exists, b"b", b""),
-        asking(3, 1, PartOp::Exists, b"b", b""),
-    ];
-    let wanted = Wanted {
-        answers: &[
-            (PartAnswer::Done, b""),
-            (PartAnswer::Did(true), b""),
-            (PartAnswer::Did(false), b""),
-            (PartAnswer::Done, b""),
-            (PartAnswer::Did(true), b""),
-            (PartAnswer::Did(true), b""),
+        held: (0, 0),
+    },
+    Case {
+        test: "keys_of_two_shards",
+        large: 1,
+        rows: &[
+            ((0, 0), PartOp::Set, b"a", b"1", PartAnswer::Done, b""),
+            ((1, 0), PartOp::Del, b"a", b"", PartAnswer::Did(true), b""),
+            ((1, 1), PartOp::Del, b"a", b"", PartAnswer::Did(false), b""),
+            ((2, 0), PartOp::Set, b"b", b"1", PartAnswer::Done, b""),
+            (
+                (3, 0),
+                PartOp::Exists,
+                b"b",
+                b"",
+                PartAnswer::Did(true),
+                b"",
+            ),
+            (
+                (3, 1),
+                PartOp::Exists,
+                b"b",
+                b"",
+                PartAnswer::Did(true),
+                b"",
+            ),
         ],
         lines: &[
             (4, 0, 0, 0),
@@ -150,29 +159,18 @@ fn keys_of_two_shards(rt: HostRuntime) -> Result<(), Fail> {
             (5, 0, 3, 0),
             (5, 0, 3, 1),
         ],
-        held: held(1, 0),
-    };
-    check(&rt, rt.alloc(), 1, &asks, &wanted)
-}
-
-#[test]
-fn sets_by_their_options(rt: HostRuntime) -> Result<(), Fail> {
-    let asks = [
-        asking(0, 0, PartOp::SetNx, b"a", b"1"),
-        asking(1, 0, PartOp::SetNx, b"a", b"2"),
-        asking(2, 0, PartOp::SetXxGet, b"a", b"3"),
-        asking(3, 0, PartOp::SetXx, b"b", b"4"),
-        asking(4, 0, PartOp::SetGet, b"b", b"5"),
-        asking(5, 0, PartOp::SetNxGet, b"a", b"6"),
-    ];
-    let wanted = Wanted {
-        answers: &[
-            (PartAnswer::Done, b""),
-            (PartAnswer::Null, b""),
-            (PartAnswer::Bulk, b"1"),
-            (PartAnswer::Null, b""),
-            (PartAnswer::Null, b""),
-            (PartAnswer::Bulk, b"3"),
+        held: (1, 0),
+    },
+    Case {
+        test: "sets_by_their_options",
+        large: 1,
+        rows: &[
+            ((0, 0), PartOp::SetNx, b"a", b"1", PartAnswer::Done, b""),
+            ((1, 0), PartOp::SetNx, b"a", b"2", PartAnswer::Null, b""),
+            ((2, 0), PartOp::SetXxGet, b"a", b"3", PartAnswer::Bulk, b"1"),
+            ((3, 0), PartOp::SetXx, b"b", b"4", PartAnswer::Null, b""),
+            ((4, 0), PartOp::SetGet, b"b", b"5", PartAnswer::Null, b""),
+            ((5, 0), PartOp::SetNxGet, b"a", b"6", PartAnswer::Bulk, b"3"),
         ],
         lines: &[
             (4, 0, 0, 0),
@@ -182,34 +180,69 @@ fn sets_by_their_options(rt: HostRuntime) -> Result<(), Fail> {
             (5, 0, 3, 0),
             (5, 0, 4, 0),
         ],
-        held: held(2, 0),
-    };
-    check(&rt, rt.alloc(), 1, &asks, &wanted)
-}
-
-#[test]
-fn ranges(rt: HostRuntime) -> Result<(), Fail> {
-    let range = |start, end| PartOp::GetRange { start, end };
-    let asks = [
-        asking(0, 0, PartOp::Set, b"k", b"abcdef"),
-        asking(1, 0, range(1, 3), b"k", b""),
-        asking(2, 0, range(-3, -1), b"k", b""),
-        asking(3, 0, range(4, 99), b"k", b""),
-        asking(4, 0, range(3, 1), b"k", b""),
-        asking(5, 0, range(0, -1), b"x", b""),
-        asking(6, 0, PartOp::StrLen, b"k", b""),
-        asking(7, 0, PartOp::StrLen, b"x", b""),
-    ];
-    let wanted = Wanted {
-        answers: &[
-            (PartAnswer::Done, b""),
-            (PartAnswer::Bulk, b"bcd"),
-            (PartAnswer::Bulk, b"def"),
-            (PartAnswer::Bulk, b"ef"),
-            (PartAnswer::Bulk, b""),
-            (PartAnswer::Bulk, b""),
-            (PartAnswer::Length(6), b""),
-            (PartAnswer::Length(0), b""),
+        held: (2, 0),
+    },
+    Case {
+        test: "ranges",
+        large: 1,
+        rows: &[
+            ((0, 0), PartOp::Set, b"k", b"abcdef", PartAnswer::Done, b""),
+            (
+                (1, 0),
+                PartOp::GetRange { start: 1, end: 3 },
+                b"k",
+                b"",
+                PartAnswer::Bulk,
+                b"bcd",
+            ),
+            (
+                (2, 0),
+                PartOp::GetRange { start: -3, end: -1 },
+                b"k",
+                b"",
+                PartAnswer::Bulk,
+                b"def",
+            ),
+            (
+                (3, 0),
+                PartOp::GetRange { start: 4, end: 99 },
+                b"k",
+                b"",
+                PartAnswer::Bulk,
+                b"ef",
+            ),
+            (
+                (4, 0),
+                PartOp::GetRange { start: 3, end: 1 },
+                b"k",
+                b"",
+                PartAnswer::Bulk,
+                b"",
+            ),
+            (
+                (5, 0),
+                PartOp::GetRange { start: 0, end: -1 },
+                b"x",
+                b"",
+                PartAnswer::Bulk,
+                b"",
+            ),
+            (
+                (6, 0),
+                PartOp::StrLen,
+                b"k",
+                b"",
+                PartAnswer::Length(6),
+                b"",
+            ),
+            (
+                (7, 0),
+                PartOp::StrLen,
+                b"x",
+                b"",
+                PartAnswer::Length(0),
+                b"",
+            ),
         ],
         lines: &[
             (2, 0, 0, 0),
@@ -221,68 +254,159 @@ fn ranges(rt: HostRuntime) -> Result<(), Fail> {
             (7, 0, 5, 0),
             (7, 0, 7, 0),
         ],
-        held: held(1, 0),
-    };
-    check(&rt, rt.alloc(), 1, &asks, &wanted)
+        held: (1, 0),
+    },
+    Case {
+        test: "long_values",
+        large: 17,
+        rows: &[
+            (
+                (0, 0),
+                PartOp::Set,
+                b"k",
+                &[b'A'; 16_384],
+                PartAnswer::Done,
+                b"",
+            ),
+            (
+                (1, 0),
+                PartOp::Append,
+                b"k",
+                b"B",
+                PartAnswer::Length(16_385),
+                b"",
+            ),
+        ],
+        lines: &[(2, 0, 0, 0), (2, 0, 1, 0)],
+        held: (1, 4),
+    },
+    Case {
+        test: "long_values",
+        large: 17,
+        rows: &[
+            (
+                (0, 0),
+                PartOp::Set,
+                b"k",
+                &[b'A'; 65_536],
+                PartAnswer::Done,
+                b"",
+            ),
+            ((1, 0), PartOp::Append, b"k", b"B", PartAnswer::TooLong, b""),
+        ],
+        lines: &[(2, 0, 0, 0), (2, 0, 1, 0)],
+        held: (0, 16),
+    },
+    Case {
+        test: "no_buffer_makes_no_entry",
+        large: 2,
+        rows: &[
+            (
+                (0, 0),
+                PartOp::Set,
+                b"a",
+                &[b'A'; 4_096],
+                PartAnswer::Done,
+                b"",
+            ),
+            (
+                (1, 0),
+                PartOp::Set,
+                b"b",
+                &[b'A'; 4_096],
+                PartAnswer::Done,
+                b"",
+            ),
+            (
+                (2, 0),
+                PartOp::Set,
+                b"c",
+                &[b'A'; 4_096],
+                PartAnswer::NoBuffer(NoBuffer {
+                    class: Class::Large,
+                    looked: 2,
+                }),
+                b"",
+            ),
+        ],
+        lines: &[(4, 0, 0, 0), (5, 0, 1, 0)],
+        held: (0, 2),
+    },
+];
+
+fn asks_of(alloc: Global, rows: &[Row]) -> Result<Vec<Ask<'static>>, Memory> {
+    let mut asks = Vec::new(alloc);
+    for ((call, part), op, key, value, _, _) in rows {
+        asks.push(asking(*call, *part, *op, *key, *value))?;
+    }
+    Ok(asks)
+}
+
+fn check_row(rt: &impl Abort, test: &str, seen: &Seen, row: &Row) {
+    let (_, _, _, _, answer, bytes) = row;
+    equal(rt, test, seen.answer, *answer);
+    holds(rt, test, seen.bytes.as_slice() == *bytes);
+}
+
+fn check_outcome(
+    rt: &impl Abort,
+    alloc: Global,
+    outcome: &Outcome,
+    case: &Case,
+) -> Result<(), Fail> {
+    let test = case.test;
+    equal(rt, test, outcome.first.len(), case.rows.len());
+    for (seen, row) in outcome.first.iter().zip(case.rows) {
+        check_row(rt, test, seen, row);
+    }
+    let lines = lines_of(alloc, &outcome.journal)?;
+    equal(rt, test, lines.as_slice(), case.lines);
+    equal(
+        rt,
+        test,
+        (outcome.held.small, outcome.held.large),
+        case.held,
+    );
+    Ok(())
+}
+
+fn check<R: Threads + Wait + Sync + Abort>(rt: &R, alloc: Global, case: &Case) -> Result<(), Fail> {
+    let asks = asks_of(alloc, case.rows)?;
+    let outcome = run_over(rt, alloc, 8, case.large, &asks, &[])?;
+    check_outcome(rt, alloc, &outcome, case)
 }
 
 #[test]
-fn long_values(rt: HostRuntime) -> Result<(), Fail> {
-    let longest = vec![in rt.alloc(); b'A'; 65_536]?;
-    let lines = [(2, 0, 0, 0), (2, 0, 1, 0)];
-    for (size, answer, held) in [
-        (16_384, PartAnswer::Length(16_385), held(1, 4)),
-        (65_536, PartAnswer::TooLong, held(0, 16)),
-    ] {
-        assert!(rt; size <= longest.len());
-        let asks = [
-            asking(0, 0, PartOp::Set, b"k", &longest.as_slice()[..size]),
-            asking(1, 0, PartOp::Append, b"k", b"B"),
-        ];
-        let wanted = Wanted {
-            answers: &[(PartAnswer::Done, b""), (answer, b"")],
-            lines: &lines,
-            held,
-        };
-        check(&rt, rt.alloc(), 17, &asks, &wanted)?;
+fn parts_of_a_session(rt: HostRuntime) -> Result<(), Fail> {
+    for case in &CASES {
+        check(&rt, rt.alloc(), case)?;
     }
     Ok(())
 }
 
-#[test]
-fn no_buffer_makes_no_entry(rt: HostRuntime) -> Result<(), Fail> {
-    let value = [b'A'; 4096];
-    let asks = [
-        asking(0, 0, PartOp::Set, b"a", &value),
-        asking(1, 0, PartOp::Set, b"b", &value),
-        asking(2, 0, PartOp::Set, b"c", &value),
-    ];
-    let none = NoBuffer {
-        class: Class::Large,
-        looked: 2,
-    };
-    let wanted = Wanted {
-        answers: &[
-            (PartAnswer::Done, b""),
-            (PartAnswer::Done, b""),
-            (PartAnswer::NoBuffer(none), b""),
-        ],
-        lines: &[(4, 0, 0, 0), (5, 0, 1, 0)],
-        held: held(0, 2),
-    };
-    check(&rt, rt.alloc(), 2, &asks, &wanted)
-}
+/// Where the first small buffer begins.
+const SMALL: u64 = 1_048_576;
 
-// Where a small buffer begins.
-fn small(number: u32) -> u64 {
-    1_048_576 + 512 * u64::from(number)
+/// Four keys' shards are 4, 5, 0 and 4 of eight: where the values lie.
+static PLACES: [Option<u64>; 4] = [
+    Some(SMALL + 6 * 512),
+    Some(SMALL + 7 * 512),
+    Some(SMALL + 2 * 512),
+    Some(SMALL),
+];
+
+// Where the only segment that was stored begins.
+fn place(seen: &Seen) -> Option<u64> {
+    match seen.stored.as_slice() {
+        [seg] => Some(seg.address),
+        _ => None,
+    }
 }
 
 // Shard 0 claims from the third small buffer on, and each other from the next one. The value that comes last finds the
 // two behind its shard's start held, and the first one free.
 #[test]
 fn claims_begin_where_the_spread_says(rt: HostRuntime) -> Result<(), Fail> {
-    let alloc = rt.alloc();
     let asks = [
         asking(0, 0, PartOp::Set, b"a", b"1"),
         asking(1, 0, PartOp::Set, b"b", b"2"),
@@ -293,16 +417,17 @@ fn claims_begin_where_the_spread_says(rt: HostRuntime) -> Result<(), Fail> {
         first: ClaimStart { small: 2, large: 0 },
         step: ClaimStart { small: 1, large: 0 },
     };
-    let pool = PoolBlank::open(alloc, 8, 1, 20)?;
-    let book = BookBlank::open(alloc, 8, 2)?;
-    let outcome = run(&rt, alloc, pool, book, spread, &asks, &[])?;
-    let buffers = [6, 7, 2, 0];
-    assert_eq!(rt; outcome.first.len(), buffers.len());
-    for (seen, buffer) in outcome.first.iter().zip(&buffers) {
-        assert_eq!(rt; seen.stored.len(), 1);
-        assert_eq!(rt; seen.stored[0].address, small(*buffer));
+    let outcome = run_spread(&rt, rt.alloc(), 8, 1, spread, &asks, &[])?;
+    equal(&rt, "answers", outcome.first.len(), PLACES.len());
+    for (seen, wanted) in outcome.first.iter().zip(&PLACES) {
+        equal(&rt, "where it lies", place(seen), *wanted);
     }
-    assert!(rt; outcome.held == held(3, 0), "{:?}", outcome.held);
+    equal(
+        &rt,
+        "what is held",
+        (outcome.held.small, outcome.held.large),
+        (3, 0),
+    );
     Ok(())
 }
 
@@ -321,7 +446,21 @@ fn asks_on<'a>(alloc: Global, key: &'a [u8], value: &'a [u8]) -> Result<Vec<Ask<
     Ok(asks)
 }
 
-// Two sessions ask at once on one key, which is in this shard. Its history has all parts, each session's in order.
+// The history of the one shard with parts has those of both sessions, each session's in order.
+fn check_history(rt: &impl Abort, lines: &[Line], shard: usize) {
+    equal(rt, "entries", lines.len(), 200);
+    holds(rt, "the shard", lines.iter().all(|line| line.0 == shard));
+    for session in 0..2 {
+        let calls = lines.iter().filter(|line| line.1 == session);
+        holds(
+            rt,
+            "the order of calls",
+            calls.map(|line| line.2).eq(0..100),
+        );
+    }
+}
+
+// Two sessions ask at once on one key, which is in this shard.
 fn check_shared<R: Threads + Wait + Sync + Abort>(
     rt: &R,
     alloc: Global,
@@ -331,16 +470,20 @@ fn check_shared<R: Threads + Wait + Sync + Abort>(
     let value = [b'v'; 700];
     let asks = asks_on(alloc, b"k", &value)?;
     let outcome = run_over(rt, alloc, shards, 8, asks.as_slice(), asks.as_slice())?;
-    assert!(rt; outcome.first.len() == 100 && outcome.second.len() == 100);
-    assert_eq!(rt; outcome.journal.len(), shards as usize);
-    let lines = lines_of(alloc, &outcome.journal)?;
-    assert_eq!(rt; lines.len(), 200);
-    assert!(rt; lines.iter().all(|line| line.0 == shard));
-    for session in 0..2 {
-        let calls = lines.iter().filter(|line| line.1 == session);
-        assert!(rt; calls.map(|line| line.2).eq(0..100));
-    }
-    assert!(rt; outcome.held == held(0, 0), "{:?}", outcome.held);
+    equal(
+        rt,
+        "answers",
+        (outcome.first.len(), outcome.second.len()),
+        (100, 100),
+    );
+    equal(rt, "shards", outcome.journal.len(), shards as usize);
+    check_history(rt, &lines_of(alloc, &outcome.journal)?, shard);
+    equal(
+        rt,
+        "what is held",
+        (outcome.held.small, outcome.held.large),
+        (0, 0),
+    );
     Ok(())
 }
 

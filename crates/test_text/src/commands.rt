@@ -1,6 +1,7 @@
 //! Commands of requests, which stand as lines of words: `|` is between two words, `k*512` is 512 bytes `k`, and
 //! `{crlf}` is CR LF. Behind the words stand, each after `>`, the keys of the command's parts, their value, and the
 //! command's argument.
+use crate::checks::{equal, holds};
 use command_parts::{Command, Op};
 use flake_base::ErrorKind;
 use resp_reader::{Reader, Request};
@@ -80,9 +81,9 @@ fn answers_of(alloc: Global, command: &Command) -> Result<Answers, Fail> {
 }
 
 fn check_deed(rt: &impl Abort, deed: &Deed, op: PartOp, key: &[u8], value: &[u8]) {
-    assert!(rt; deed.op == op);
-    assert!(rt; deed.key.as_slice() == key);
-    assert!(rt; deed.value.as_slice() == value);
+    holds(rt, "the operation", deed.op == op);
+    holds(rt, "the key", deed.key.as_slice() == key);
+    holds(rt, "the value", deed.value.as_slice() == value);
 }
 
 // This is done to each of the keys, of which there is at least one.
@@ -94,7 +95,7 @@ fn check_deeds(
     keys: &str,
     value: &[u8],
 ) -> Result<(), Fail> {
-    assert_eq!(rt; deeds.len(), keys.split('|').count());
+    equal(rt, "keys", deeds.len(), keys.split('|').count());
     for (deed, key) in deeds.iter().zip(keys.split('|')) {
         check_deed(rt, deed, op, &bytes_of(alloc, key)?, value);
     }
@@ -114,15 +115,12 @@ fn check_line(
     let keys = columns.next().unwrap_or("");
     let value = bytes_of(alloc, columns.next().unwrap_or(""))?;
     let argument = bytes_of(alloc, columns.next().unwrap_or(""))?;
-    assert!(rt; answers.op == op, "{line}");
-    assert!(rt;
-        answers.argument.as_slice() == argument.as_slice(),
-        "{line}"
-    );
+    holds(rt, line, answers.op == op);
+    holds(rt, line, answers.argument.as_slice() == argument.as_slice());
     match part {
         Some(part) => check_deeds(rt, alloc, &answers.deeds, part, keys, &value),
         None => {
-            assert!(rt; answers.deeds.is_empty(), "{line}");
+            holds(rt, line, answers.deeds.is_empty());
             Ok(())
         }
     }
@@ -336,9 +334,9 @@ fn protocol_errors(rt: HostRuntime) -> Result<(), Fail> {
         ErrorKind::ProtocolInline,
     ] {
         let answers = answers_of(rt.alloc(), &Command::protocol(kind))?;
-        assert!(rt; answers.op == Op::Fault(kind));
-        assert!(rt; answers.deeds.is_empty());
-        assert!(rt; answers.argument.is_empty());
+        holds(&rt, "the error", answers.op == Op::Fault(kind));
+        holds(&rt, "no part", answers.deeds.is_empty());
+        holds(&rt, "no argument", answers.argument.is_empty());
     }
     Ok(())
 }
@@ -366,11 +364,16 @@ fn needs(rt: HostRuntime) -> Result<(), Fail> {
     for (descriptors, stage, lines) in &NEEDS {
         for words in lines.split('\n') {
             let need = need_of(rt.alloc(), words)?;
-            assert_eq!(rt; need, (*descriptors, *stage), "{words}");
+            equal(&rt, words, need, (*descriptors, *stage));
         }
     }
     let keys = keys_from(rt.alloc(), "MGET", 64)?;
     let words = format!(in rt.alloc(); "MGET|{keys}")?;
-    assert_eq!(rt; need_of(rt.alloc(), words.as_str())?, (1154, 66));
+    equal(
+        &rt,
+        "64 keys",
+        need_of(rt.alloc(), words.as_str())?,
+        (1154, 66),
+    );
     Ok(())
 }

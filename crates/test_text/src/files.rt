@@ -1,3 +1,4 @@
+use crate::checks::equal;
 use check_files::{CheckError, File, check_files, check_named, read_whole};
 use flake_base::{Bytes, Fails, Files, MemoryHost, MemorySource};
 use replay_check::Verdict;
@@ -12,7 +13,7 @@ fn at_the_limit(rt: HostRuntime) -> Result<(), Fail> {
         let bytes = Bytes::from_slice(alloc, b"shards 8\n")?;
         let mut source = MemorySource::new(bytes, 4, Fails::new(alloc));
         let read = read_whole(alloc, &mut source, limit);
-        assert_eq!(rt; read.is_ok(), whole);
+        equal(&rt, "it is read", read.is_ok(), whole);
     }
     Ok(())
 }
@@ -146,7 +147,7 @@ fn checked(alloc: Global, row: &Row) -> Result<Result<Verdict, CheckError>, Fail
 }
 
 fn check_row(rt: &impl Abort, alloc: Global, row: &Row) -> Result<(), Fail> {
-    assert_eq!(rt; checked(alloc, row)?, row.answer);
+    equal(rt, "the verdict", checked(alloc, row)?, row.answer);
     Ok(())
 }
 
@@ -239,9 +240,9 @@ fn named(
 fn check_names(rt: &impl Abort, alloc: Global, names: &Names) -> Result<(), Fail> {
     let mut host = host_of(alloc, &SAME)?;
     let (answer, files) = named(alloc, &mut host, names)?;
-    assert_eq!(rt; answer, names.answer);
-    assert_eq!(rt; files, names.files);
-    assert_eq!(rt; host.opens(), names.opens);
+    equal(rt, "the verdict", answer, names.answer);
+    equal(rt, "files", files, names.files);
+    equal(rt, "opens", host.opens(), names.opens);
     Ok(())
 }
 

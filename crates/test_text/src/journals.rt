@@ -1,3 +1,4 @@
+use crate::checks::{equal, holds};
 use flake_base::{Entry, Journal, Sequence};
 use journal_text::{JournalError, journal_text, read_journal};
 use std::alloc::Global;
@@ -22,14 +23,20 @@ fn shard(journal: &Journal, shard: usize) -> Option<&Sequence<Entry>> {
 #[test]
 fn a_journal_is_read(rt: HostRuntime) -> Result<(), Fail> {
     let journal = read_journal(rt.alloc(), b"shards 8\n4 0 0 0\n4 0 1 0\n")?;
-    assert_eq!(rt; journal.len(), 8);
+    equal(&rt, "shards", journal.len(), 8);
     let expected = [entry(0, 0, 0), entry(0, 1, 0)];
-    assert_eq!(rt;
+    equal(
+        &rt,
+        "shard 4",
         shard(&journal, 4).ok_or("fewer shards")?.as_slice(),
-        expected.as_slice()
+        expected.as_slice(),
     );
     for other in [0, 1, 2, 3, 5, 6, 7] {
-        assert!(rt; shard(&journal, other).ok_or("fewer shards")?.is_empty());
+        holds(
+            &rt,
+            "another shard",
+            shard(&journal, other).ok_or("fewer shards")?.is_empty(),
+        );
     }
     Ok(())
 }
@@ -37,11 +44,13 @@ fn a_journal_is_read(rt: HostRuntime) -> Result<(), Fail> {
 #[test]
 fn the_largest_numbers_are_read(rt: HostRuntime) -> Result<(), Fail> {
     let journal = read_journal(rt.alloc(), b"shards 16\n15 15 4294967295 63")?;
-    assert_eq!(rt; journal.len(), 16);
+    equal(&rt, "shards", journal.len(), 16);
     let expected = [entry(15, 4_294_967_295, 63)];
-    assert_eq!(rt;
+    equal(
+        &rt,
+        "shard 15",
         shard(&journal, 15).ok_or("fewer shards")?.as_slice(),
-        expected.as_slice()
+        expected.as_slice(),
     );
     Ok(())
 }
@@ -61,11 +70,11 @@ fn what_was_read_is_written_again(rt: HostRuntime) -> Result<(), Fail> {
     for text in TEXTS {
         let journal = read_journal(rt.alloc(), text)?;
         let written = journal_text(rt.alloc(), &journal)?;
-        assert_eq!(rt; written.as_slice(), text);
+        equal(&rt, "the text", written.as_slice(), text);
         let cut = text.len().saturating_sub(1);
         let same = read_journal(rt.alloc(), &text[..cut])?;
         let again = journal_text(rt.alloc(), &same)?;
-        assert_eq!(rt; again.as_slice(), text);
+        equal(&rt, "without the last LF", again.as_slice(), text);
     }
     Ok(())
 }
@@ -102,10 +111,11 @@ fn bad_line(alloc: Global, text: &[u8]) -> Option<u64> {
 fn bad_lines_are_named(rt: HostRuntime) {
     for (line, texts) in &BAD_LINES {
         for text in texts.split('/') {
-            assert_eq!(rt;
+            equal(
+                &rt,
+                text,
                 bad_line(rt.alloc(), text.as_bytes()),
                 Some(*line),
-                "{text}"
             );
         }
     }

@@ -2,6 +2,7 @@
 ghost use Rattle.std.specs.Prelude.{Some, refl};
 ghost use Rattle.flake_base.specs.MemorySource.{whole_of, at_end, nothing_left};
 
+use crate::checks::{equal, holds};
 use command_pump::Pump;
 use flake_base::{Bytes, End, Failed, Fails, Memory, MemorySource, Source};
 use std::alloc::Global;
@@ -100,11 +101,11 @@ fn check_end(
 ) -> Result<(), Fail> {
     for asks in 1..=3 {
         let found = pumped(alloc, input, commands, asks)?;
-        assert_eq!(rt; found.commands, commands);
-        assert_eq!(rt; found.ends.len(), asks);
-        assert!(rt; found.ends.iter().all(|it| *it == Some(end)));
-        assert_eq!(rt; (found.taken, found.reads), counts);
-        assert_eq!(rt; found.longest, 4096);
+        equal(rt, "commands", found.commands, commands);
+        equal(rt, "ends", found.ends.len(), asks);
+        holds(rt, "each end", found.ends.iter().all(|it| *it == Some(end)));
+        equal(rt, "bytes and reads", (found.taken, found.reads), counts);
+        equal(rt, "the longest room", found.longest, 4096);
     }
     Ok(())
 }

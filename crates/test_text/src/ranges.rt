@@ -1,3 +1,4 @@
+use crate::checks::{equal, holds};
 use range_pick::{NotInteger, Piece, Pieces, Span, read_signed, span};
 use std::process::Abort;
 use std::test::Fail;
@@ -55,10 +56,10 @@ static NO_NUMBERS: [&[u8]; 28] = [
 #[test]
 fn numbers(rt: HostRuntime) {
     for (word, number) in &NUMBERS {
-        assert_eq!(rt; read_signed(*word), Ok(*number));
+        equal(&rt, "a number", read_signed(*word), Ok(*number));
     }
     for word in &NO_NUMBERS {
-        assert_eq!(rt; read_signed(*word), Err(NotInteger));
+        equal(&rt, "a number", read_signed(*word), Err(NotInteger));
     }
 }
 
@@ -99,10 +100,10 @@ fn span_of(len: u32, start: i64, end: i64) -> Span {
 fn check_span(rt: &impl Abort, len: u32, start: i64, end: i64) {
     let (first, count) = places_between(len, start, end);
     let found = span_of(len, start, end);
-    assert_eq!(rt; found.len, count);
-    assert!(rt; found.from <= u64::from(len));
+    equal(rt, "the length", found.len, count);
+    holds(rt, "it begins within", found.from <= u64::from(len));
     if count > 0 {
-        assert_eq!(rt; Some(found.from), first);
+        equal(rt, "the first place", Some(found.from), first);
     }
     check_pieces(rt, found);
 }
@@ -120,16 +121,20 @@ fn check_pieces(rt: &impl Abort, span: Span) {
     let mut left = span.len;
     for piece in pieces_in(rt, span) {
         let Piece { frag, from, len } = piece;
-        assert_eq!(rt; u64::from(frag), next / 4_096);
-        assert_eq!(rt; u64::from(from), next % 4_096);
-        assert!(rt; len > 0);
-        assert!(rt; from.saturating_add(len) <= 4_096);
+        equal(rt, "the fragment", u64::from(frag), next / 4_096);
+        equal(rt, "the place there", u64::from(from), next % 4_096);
+        holds(rt, "some bytes", len > 0);
+        holds(rt, "within the fragment", from.saturating_add(len) <= 4_096);
         next = next.saturating_add(u64::from(len));
         left = left.saturating_sub(u64::from(len));
-        assert!(rt; left == 0 || from.saturating_add(len) == 4_096);
+        holds(
+            rt,
+            "to the fragment's end",
+            left == 0 || from.saturating_add(len) == 4_096,
+        );
     }
-    assert_eq!(rt; left, 0);
-    assert_eq!(rt; next, span.from.saturating_add(span.len));
+    equal(rt, "bytes left", left, 0);
+    equal(rt, "the end", next, span.from.saturating_add(span.len));
 }
 
 #[test]
@@ -200,9 +205,9 @@ fn check_row(rt: &impl Abort, row: &Row) {
             from: *from,
             len: *len,
         };
-        assert_eq!(rt; pieces.next(), Some(piece));
+        equal(rt, "a piece", pieces.next(), Some(piece));
     }
-    assert_eq!(rt; pieces.next(), None);
+    equal(rt, "a piece", pieces.next(), None);
 }
 
 #[test]
@@ -215,10 +220,30 @@ fn pieces(rt: HostRuntime) {
 #[test]
 fn far_places(rt: HostRuntime) {
     let none = Span { from: 6, len: 0 };
-    assert_eq!(rt; span_of(6, i64::MAX, i64::MAX), none);
-    assert_eq!(rt; span_of(6, 7, 99), none);
-    assert_eq!(rt; span_of(6, i64::MIN, i64::MAX), Span { from: 0, len: 6 });
-    assert_eq!(rt; span_of(6, i64::MIN, i64::MIN), Span { from: 0, len: 0 });
-    assert_eq!(rt; span_of(6, 3, 1), Span { from: 3, len: 0 });
-    assert_eq!(rt; span_of(6, -3, -1), Span { from: 3, len: 3 });
+    equal(&rt, "the last places", span_of(6, i64::MAX, i64::MAX), none);
+    equal(&rt, "behind the end", span_of(6, 7, 99), none);
+    equal(
+        &rt,
+        "all places",
+        span_of(6, i64::MIN, i64::MAX),
+        Span { from: 0, len: 6 },
+    );
+    equal(
+        &rt,
+        "the first places",
+        span_of(6, i64::MIN, i64::MIN),
+        Span { from: 0, len: 0 },
+    );
+    equal(
+        &rt,
+        "turned round",
+        span_of(6, 3, 1),
+        Span { from: 3, len: 0 },
+    );
+    equal(
+        &rt,
+        "from the end",
+        span_of(6, -3, -1),
+        Span { from: 3, len: 3 },
+    );
 }

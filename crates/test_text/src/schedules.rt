@@ -1,3 +1,4 @@
+use crate::checks::{equal, holds};
 use schedule_text::{Line, ScheduleError, read_schedule};
 use std::alloc::Global;
 use std::test::Fail;
@@ -5,7 +6,7 @@ use std::test::Fail;
 #[test]
 fn schedules_are_read(rt: HostRuntime) -> Result<(), Fail> {
     let nothing = read_schedule(rt.alloc(), b"", 0)?;
-    assert!(rt; nothing.is_empty());
+    holds(&rt, "no line", nothing.is_empty());
     // The last line has its LF, or lacks it.
     for text in [
         b"call 0\ngather 15\nreap 9\ncall 10\n".as_slice(),
@@ -18,10 +19,15 @@ fn schedules_are_read(rt: HostRuntime) -> Result<(), Fail> {
             Line::Reap(9),
             Line::Call(10),
         ];
-        assert_eq!(rt; schedule.as_slice(), expected.as_slice());
+        equal(&rt, "lines", schedule.as_slice(), expected.as_slice());
     }
     let first = read_schedule(rt.alloc(), b"gather 0", 1)?;
-    assert_eq!(rt; first.as_slice(), [Line::Gather(0)].as_slice());
+    equal(
+        &rt,
+        "a line",
+        first.as_slice(),
+        [Line::Gather(0)].as_slice(),
+    );
     Ok(())
 }
 
@@ -76,16 +82,21 @@ fn bad_lines_are_named(rt: HostRuntime) {
     for (line, texts) in &BAD_LINES {
         for text in texts.split('/') {
             let found = bad_line(rt.alloc(), text.as_bytes(), 3);
-            assert_eq!(rt; found, Some(*line), "{text}");
+            equal(&rt, text, found, Some(*line));
         }
     }
     // No session is below none.
-    assert_eq!(rt; bad_line(rt.alloc(), b"call 0\n", 0), Some(1));
+    equal(
+        &rt,
+        "no session",
+        bad_line(rt.alloc(), b"call 0\n", 0),
+        Some(1),
+    );
 }
 
 #[test]
 fn a_line_has_its_session(rt: HostRuntime) {
     let lines = [Line::Call(3), Line::Gather(0), Line::Reap(15)];
     let sessions = lines.map(|line| line.session());
-    assert_eq!(rt; sessions, [3, 0, 15]);
+    equal(&rt, "sessions", sessions, [3, 0, 15]);
 }

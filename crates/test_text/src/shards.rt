@@ -1,3 +1,4 @@
+use crate::checks::{equal, holds};
 use shard_part::{PartOp, Setting, When, shard_of};
 use std::process::Abort;
 
@@ -8,11 +9,11 @@ const SPREAD: [u8; 16] = [
 
 // The key belongs to these shards of 1, 3, 8, 16 and 65,535.
 fn check(rt: &impl Abort, key: &[u8], shards: [u16; 5]) {
-    assert_eq!(rt; shard_of(key, 1), shards[0]);
-    assert_eq!(rt; shard_of(key, 3), shards[1]);
-    assert_eq!(rt; shard_of(key, 8), shards[2]);
-    assert_eq!(rt; shard_of(key, 16), shards[3]);
-    assert_eq!(rt; shard_of(key, 65_535), shards[4]);
+    equal(rt, "of 1", shard_of(key, 1), shards[0]);
+    equal(rt, "of 3", shard_of(key, 3), shards[1]);
+    equal(rt, "of 8", shard_of(key, 8), shards[2]);
+    equal(rt, "of 16", shard_of(key, 16), shards[3]);
+    equal(rt, "of 65,535", shard_of(key, 65_535), shards[4]);
 }
 
 #[test]
@@ -82,9 +83,9 @@ static SETS: [(PartOp, Setting); 6] = [
 #[test]
 fn settings_of_parts(rt: HostRuntime) {
     for (part, setting) in &SETS {
-        assert_eq!(rt; part.setting(), Some(*setting));
-        assert_eq!(rt; setting.part_op(), *part);
-        assert!(rt; part.takes_value());
+        equal(&rt, "the setting", part.setting(), Some(*setting));
+        equal(&rt, "the operation", setting.part_op(), *part);
+        holds(&rt, "it takes a value", part.takes_value());
     }
     let others = [
         PartOp::Get,
@@ -95,14 +96,31 @@ fn settings_of_parts(rt: HostRuntime) {
         PartOp::GetRange { start: 0, end: -1 },
     ];
     for part in others {
-        assert_eq!(rt; part.setting(), None);
-        assert_eq!(rt; part.takes_value(), part == PartOp::Append);
+        equal(&rt, "the setting", part.setting(), None);
+        equal(
+            &rt,
+            "it takes a value",
+            part.takes_value(),
+            part == PartOp::Append,
+        );
     }
 }
 
 #[test]
 fn keys_that_are_stored_to(rt: HostRuntime) {
-    assert!(rt; When::Always.stores(true) && When::Always.stores(false));
-    assert!(rt; !When::IfMissing.stores(true) && When::IfMissing.stores(false));
-    assert!(rt; When::IfPresent.stores(true) && !When::IfPresent.stores(false));
+    holds(
+        &rt,
+        "always",
+        When::Always.stores(true) && When::Always.stores(false),
+    );
+    holds(
+        &rt,
+        "if it is missing",
+        !When::IfMissing.stores(true) && When::IfMissing.stores(false),
+    );
+    holds(
+        &rt,
+        "if it is there",
+        When::IfPresent.stores(true) && !When::IfPresent.stores(false),
+    );
 }

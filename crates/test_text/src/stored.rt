@@ -1,3 +1,4 @@
+use crate::checks::{equal, holds};
 use byte_store::{ByteAnswer, ByteStore};
 use flake_base::Memory;
 use shard_part::{Part, PartOp, VALUE_LIMIT};
@@ -26,13 +27,18 @@ fn ran(store: &mut ByteStore, alloc: Global, part: &Part<'_>) -> Result<ByteAnsw
 
 fn expect(rt: &impl Abort, answer: &ByteAnswer, told: Told) {
     match (answer, told) {
-        (ByteAnswer::Bulk(bytes), Told::Bulk(text)) => assert_eq!(rt; bytes.as_slice(), text),
-        (ByteAnswer::Length(length), Told::Length(wanted)) => assert_eq!(rt; *length, wanted),
-        (ByteAnswer::Did(did), Told::Did(wanted)) => assert_eq!(rt; *did, wanted),
+        (ByteAnswer::Bulk(bytes), Told::Bulk(text)) => equal(rt, "bytes", bytes.as_slice(), text),
+        (ByteAnswer::Length(length), Told::Length(wanted)) => equal(
+            rt,
+            "the length",
+            *length,
+            wanted,
+        ),
+        (ByteAnswer::Did(did), Told::Did(wanted)) => equal(rt, "whether it did", *did, wanted),
         (ByteAnswer::Null, Told::Null)
         | (ByteAnswer::Done, Told::Done)
         | (ByteAnswer::TooLong, Told::TooLong) => (),
-        _ => assert!(rt; false),
+        _ => holds(rt, "an answer of this kind", false),
     }
 }
 

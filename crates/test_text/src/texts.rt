@@ -1,3 +1,4 @@
+use crate::checks::equal;
 use flake_base::{Bytes, ErrorKind};
 use resp_text::{Items, Reply, error_text, line, put_text, text};
 use std::alloc::Global;
@@ -7,7 +8,7 @@ use std::test::Fail;
 // The reply's text is this.
 fn check(rt: &impl Abort, alloc: Global, reply: &Reply, want: &[u8]) -> Result<(), Fail> {
     let found = text(alloc, reply)?;
-    assert_eq!(rt; found.as_slice(), want);
+    equal(rt, "the text", found.as_slice(), want);
     Ok(())
 }
 
@@ -35,7 +36,12 @@ fn texts_behind_each_other(rt: HostRuntime) -> Result<(), Fail> {
     let mut texts = Bytes::new(rt.alloc());
     put_text(&mut texts, &Reply::Ok)?;
     put_text(&mut texts, &Reply::Int(7))?;
-    assert_eq!(rt; texts.as_slice(), b"+OK\r\n:7\r\n".as_slice());
+    equal(
+        &rt,
+        "both texts",
+        texts.as_slice(),
+        b"+OK\r\n:7\r\n".as_slice(),
+    );
     Ok(())
 }
 
@@ -125,7 +131,12 @@ fn errors(rt: HostRuntime) -> Result<(), Fail> {
         check(&rt, rt.alloc(), &Reply::Error(kind), want.as_bytes())?;
         let line = want.as_bytes();
         assert!(rt; line.len() > 3);
-        assert_eq!(rt; error_text(kind).as_bytes(), &line[1..line.len() - 2]);
+        equal(
+            &rt,
+            "the error's text",
+            error_text(kind).as_bytes(),
+            &line[1..line.len() - 2],
+        );
     }
     Ok(())
 }
@@ -141,6 +152,6 @@ fn lines(rt: HostRuntime) {
     for (mark, n, want) in table {
         let mut room = [0; 24];
         let count = line(&mut room, mark, n);
-        assert_eq!(rt; room.get(..count), Some(want));
+        equal(&rt, "a line", room.get(..count), Some(want));
     }
 }

@@ -1,3 +1,4 @@
+use crate::checks::equal;
 use flake_base::{Bytes, Entry, Inputs, Journal, Memory, Sequence, Texts};
 use journal_text::read_journal;
 use replay_check::{AnswerError, Verdict, answers, check};
@@ -158,13 +159,15 @@ fn check_row(rt: &impl Abort, alloc: Global, row: &Row) -> Result<(), Fail> {
     let inputs = inputs_of(alloc, row.sessions)?;
     let journal = read_journal(alloc, row.journal)?;
     let texts = answered(rt, alloc, &inputs, &journal)?;
-    assert_eq!(rt; texts.len(), row.texts.len());
+    equal(rt, "texts", texts.len(), row.texts.len());
     for (text, wanted) in texts.iter().zip(row.texts) {
-        assert_eq!(rt; text.as_slice(), *wanted);
+        equal(rt, "the text", text.as_slice(), *wanted);
     }
-    assert_eq!(rt;
+    equal(
+        rt,
+        "the verdict",
         judged(rt, alloc, &inputs, &journal, &texts)?,
-        Verdict::Same
+        Verdict::Same,
     );
     Ok(())
 }
@@ -217,8 +220,18 @@ fn bad_journals_come_first(rt: HostRuntime) -> Result<(), Fail> {
             shard: *shard,
             place: *place,
         };
-        assert_eq!(rt; of_pair(&rt, rt.alloc(), *journal, PAIR_REPLIES)?, bad);
-        assert_eq!(rt; of_pair(&rt, rt.alloc(), *journal, b"")?, bad);
+        equal(
+            &rt,
+            "with its replies",
+            of_pair(&rt, rt.alloc(), *journal, PAIR_REPLIES)?,
+            bad,
+        );
+        equal(
+            &rt,
+            "without replies",
+            of_pair(&rt, rt.alloc(), *journal, b"")?,
+            bad,
+        );
     }
     Ok(())
 }
@@ -242,15 +255,30 @@ fn each_byte_is_compared(rt: HostRuntime) -> Result<(), Fail> {
             replies[place] = other;
         }
         let verdict = of_pair(&rt, alloc, PAIR, replies.as_slice())?;
-        assert_eq!(rt; verdict, differs(place as u64, Some(*byte), Some(other)));
+        equal(
+            &rt,
+            "the verdict",
+            verdict,
+            differs(place as u64, Some(*byte), Some(other)),
+        );
         let verdict = of_pair(&rt, alloc, PAIR, &PAIR_REPLIES[..place])?;
-        assert_eq!(rt; verdict, differs(place as u64, Some(*byte), None));
+        equal(
+            &rt,
+            "the verdict",
+            verdict,
+            differs(place as u64, Some(*byte), None),
+        );
     }
     let longer = of_pair(&rt, alloc, PAIR, b"+OK\r\n$1\r\n1\r\n+")?;
-    assert_eq!(rt; longer, differs(12, None, Some(b'+')));
+    equal(&rt, "a byte more", longer, differs(12, None, Some(b'+')));
     // Of two differences the first is named.
     let two = of_pair(&rt, alloc, PAIR, b"+OK\r\n$2\r\n2\r\n")?;
-    assert_eq!(rt; two, differs(6, Some(b'1'), Some(b'2')));
+    equal(
+        &rt,
+        "two differences",
+        two,
+        differs(6, Some(b'1'), Some(b'2')),
+    );
     Ok(())
 }
 
@@ -269,10 +297,12 @@ fn other_ends_of_inputs(rt: HostRuntime) -> Result<(), Fail> {
         let journal = read_journal(rt.alloc(), b"shards 8\n")?;
         let texts = answered(&rt, rt.alloc(), &inputs, &journal)?;
         let wanted = one(rt.alloc(), text)?;
-        assert_eq!(rt; texts.len(), 1);
-        assert_eq!(rt;
+        equal(&rt, "texts", texts.len(), 1);
+        equal(
+            &rt,
+            "the verdict",
             judged(&rt, rt.alloc(), &inputs, &journal, &wanted)?,
-            Verdict::Same
+            Verdict::Same,
         );
     }
     Ok(())
@@ -378,13 +408,15 @@ fn two_hundred_keys(rt: HostRuntime) -> Result<(), Fail> {
         texts,
         lists,
     } = script;
-    assert_eq!(rt; texts.len(), 898_429);
+    equal(&rt, "texts", texts.len(), 898_429);
     let journal = Sequence::from_vec(lists);
     let inputs = one(alloc, input.as_slice())?;
     let replies = one(alloc, texts.as_slice())?;
-    assert_eq!(rt;
+    equal(
+        &rt,
+        "the verdict",
         judged(&rt, alloc, &inputs, &journal, &replies)?,
-        Verdict::Same
+        Verdict::Same,
     );
     Ok(())
 }
@@ -401,9 +433,11 @@ fn the_longest_value(rt: HostRuntime) -> Result<(), Fail> {
     let inputs = one(alloc, input.as_slice())?;
     let journal = read_journal(alloc, b"shards 8\n2 0 0 0\n2 0 1 0\n")?;
     let replies = one(alloc, b"+OK\r\n-ERR value too long\r\n")?;
-    assert_eq!(rt;
+    equal(
+        &rt,
+        "the verdict",
         judged(&rt, alloc, &inputs, &journal, &replies)?,
-        Verdict::Same
+        Verdict::Same,
     );
     Ok(())
 }

@@ -8,7 +8,7 @@ use Rattle.flake_base.specs.declared.segment.Seg.{Seg}
 use Rattle.pin_core.specs.declared.class.Class.TheVariants.{Small, Large}
 use Rattle.pin_core.specs.declared.sizes.Sizes.{Sizes}
 use Rattle.frag_value.specs.Fragments.{class_for}
-use Rattle.call_model.specs.Parts.{IsInBuffer}
+use Rattle.shard_core.specs.Parts.{IsInBuffer}
 
 -- the first address of the pool, and that of the first large buffer
 abbrev pub pool_base : ℕ

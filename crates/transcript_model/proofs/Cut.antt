@@ -12,6 +12,7 @@ use Rattle.flake_model.specs.Command.{Command}
 use Rattle.flake_model.specs.Deed.{Deed, Places}
 use Rattle.flake_model.specs.Wire.{faults_told}
 use Rattle.any_wire.specs.Sent.{WasSentByPuts}
+use Rattle.reply_planner.specs.Stages.{StagesAreApart}
 use Rattle.schedule_text.specs.declared.line.Line.TheVariants.{Call, Gather}
 use Rattle.transcript_model.specs.Lines.{LineEvent, sent, dropped}
 use Rattle.transcript_model.specs.Standing.{at_first}
@@ -135,6 +136,15 @@ no_places (suc shard) shard' places places' is is' key key' number number' found
       past : (n : ℕ) → slice_get [] n ≡ Some places → ⊥
       past n is = cc
 
+one_stage : (stage : List ℕ) → StagesAreApart (stage ∷ [])
+one_stage stage zero zero k l n one other first second here there = refl
+one_stage stage zero (suc j) k l n one other first second here there = absurd (past j second) where
+  past : (m : ℕ) → slice_get [] m ≡ Some other → ⊥
+  past m is = cc
+one_stage stage (suc i) j k l n one other first second here there = absurd (past i first) where
+  past : (m : ℕ) → slice_get [] m ≡ Some one → ⊥
+  past m is = cc
+
 pub cut_is_dropped : CutIsDropped
 cut_is_dropped = record {
   right = record {
@@ -152,6 +162,7 @@ cut_is_dropped = record {
         tt,
       );
       one_each = refl;
+      stages_apart = one_stage (stage_from 0);
       wholes = 0 ∷ [];
       told = cut_right;
       wires = (lit≤ tt, refl);

@@ -10,3 +10,4 @@ pub mod Wants
 pub mod Whole
 pub mod Cut
 pub mod Some
+pub mod Shared

@@ -1,7 +1,7 @@
 -- What fails the test is wrong: the test is exact, where no call met want of memory.
 use Rattle.std.proofs.Common.{◌≡◌, ℕ, zero, suc, ◌+◌, ◌-◌, ◌*◌, ◌/◌, ◌<◌, ◌≤◌, Bool, true, false, not, List, [], ◌∷◌}
 use Rattle.std.proofs.Common.{refl, ap, sym, ◌∙◌, subst, arith, nat_lt, nat_le}
-use Rattle.std.specs.Prelude.{◌==◌, ◌&&◌}
+use Rattle.std.specs.Prelude.{◌==◌, ◌&&◌, ⊤}
 use Rattle.std.specs.List.{AllByRecursion}
 use Rattle.flake_base.specs.declared.segment.Seg.{Seg}
 use Rattle.flake_base.specs.declared.session.End.{End}
@@ -101,7 +101,7 @@ none_true terms before need (suc n) least =
 -- no call of the session met want of memory
 abbrev pub HasMemory : End → Type 0
 HasMemory Memory = ⊥
-HasMemory end = Unit {0}
+HasMemory end = ⊤
 
 none_reaped : (end : End) (said : Bool) (n : ℕ) → HasMemory end → MayHaveReaped end said n → n ≡ 0
 none_reaped Clean said n has may = may

@@ -195,6 +195,7 @@ sourced run olds news schedule lines shards own by_own sources apart =
         stages = by_own.stages;
         stages_are = by_own.stages_are;
         one_each = by_own.one_each;
+        stages_apart = by_own.stages_apart;
         wholes = by_own.wholes;
         told = λ session end stage end_is stage_is.
             told_alike (terms_of run (own session) session end stage (slice_index by_own.wholes session))

@@ -1,6 +1,6 @@
 -- The transcript of two sessions is whole.
-use Rattle.std.proofs.Common.{◌≡◌, ℕ, zero, suc, ◌+◌, ◌*◌, ◌<◌, ◌≤◌, Bool, true, false, cond, List, [], ◌∷◌, slice_get}
-use Rattle.std.proofs.Common.{Some, refl, ap, sym, ◌∙◌, subst, arith, lit≤}
+use Rattle.std.proofs.Common.{◌≡◌, ℕ, zero, suc, ◌+◌, ◌*◌, ◌<◌, ◌≤◌, Bool, true, false, cond, List, [], ◌∷◌, map}
+use Rattle.std.proofs.Common.{slice_get, Some, refl, ap, sym, ◌∙◌, subst, arith, lit≤}
 use Rattle.std.specs.Prelude.{codes, unwrap_or, slice_index}
 use Rattle.std.specs.Fmt.{digits}
 use Rattle.std.specs.Ordering.{nat_cmp, eq_by_cmp}
@@ -17,7 +17,7 @@ use Rattle.transcript_model.specs.Lines.{transcript_text}
 use Rattle.view_sums.specs.Total.{Each}
 use Rattle.flake_base.specs.Told.{WireTold}
 use Rattle.any_wire.specs.Sent.{WasSentByPuts}
-use Rattle.reply_planner.specs.Stages.{IsAbove, IsRising}
+use Rattle.reply_planner.specs.Stages.{IsAbove, IsRising, StagesAreApart}
 use Rattle.transcript_model.specs.Terms.{Terms}
 use Rattle.transcript_model.specs.Standing.{at_first}
 use Rattle.transcript_model.specs.Worked.{default_sizes}
@@ -163,8 +163,49 @@ pub stage_small : (first n : ℕ) → first + n ≤ 4096
 stage_small first zero fits = tt
 stage_small first (suc n) fits = (omega arith, stage_small (first + 1) n (omega arith))
 
+-- where its addresses lie
+within : (first n k address : ℕ)
+    → slice_get (map (λ m. 1048576 + 512 * m) (range_with_len first n)) k ≡ Some address
+    → (1048576 + 512 * first ≤ address) × (address < 1048576 + 512 * (first + n))
+within first zero k address is = absurd (none k is) where
+  none : (m : ℕ) → slice_get [] m ≡ Some address → ⊥
+  none m at = cc
+within first (suc n) zero address is =
+    let same : 1048576 + 512 * first ≡ address = cc in (omega (arith, same), omega (arith, same))
+within first (suc n) (suc k) address is =
+    let rest = within (first + 1) n k address is in (omega (arith, rest.0), omega (arith, rest.1))
+
 abbrev stages_of_two : List (List ℕ)
 stages_of_two = stage_from 0 ∷ stage_from 128 ∷ []
+
+pub apart_of_two : StagesAreApart (stage_from 0 ∷ stage_from 128 ∷ [])
+apart_of_two zero zero k l n one other first second here there = refl
+apart_of_two zero (suc zero) k l n one other first second here there =
+    let below : stage_from 0 ≡ one = cc in
+    let above : stage_from 128 ≡ other = cc in
+    absurd (omega (
+      arith,
+      (within 0 128 k n (ap (λ stage. slice_get stage k) below ∙ here)).1,
+      (within 128 128 l n (ap (λ stage. slice_get stage l) above ∙ there)).0,
+    ))
+apart_of_two (suc zero) zero k l n one other first second here there =
+    let above : stage_from 128 ≡ one = cc in
+    let below : stage_from 0 ≡ other = cc in
+    absurd (omega (
+      arith,
+      (within 128 128 k n (ap (λ stage. slice_get stage k) above ∙ here)).0,
+      (within 0 128 l n (ap (λ stage. slice_get stage l) below ∙ there)).1,
+    ))
+apart_of_two (suc zero) (suc zero) k l n one other first second here there = refl
+apart_of_two (suc (suc i)) j k l n one other first second here there = absurd (past i first) where
+  past : (m : ℕ) → slice_get [] m ≡ Some one → ⊥
+  past m is = cc
+apart_of_two zero (suc (suc j)) k l n one other first second here there = absurd (past j second) where
+  past : (m : ℕ) → slice_get [] m ≡ Some other → ⊥
+  past m is = cc
+apart_of_two (suc zero) (suc (suc j)) k l n one other first second here there = absurd (past j second) where
+  past : (m : ℕ) → slice_get [] m ≡ Some other → ⊥
+  past m is = cc
 
 -- what the replay of the journal gives
 abbrev deeds_of_two : List Deed
@@ -303,6 +344,7 @@ whole_of_two = record {
       ),
     );
     one_each = refl;
+    stages_apart = apart_of_two;
     wholes = 1 ∷ 1 ∷ [];
     told = λ session end stage end_is stage_is. subst
         (λ deeds. IsRightSession (terms_of two_sessions deeds session end stage (slice_index (1 ∷ 1 ∷ []) session))

@@ -1,5 +1,5 @@
 -- When a line is right: by where its session stood before it, and it leaves where the session stands then.
-use Rattle.std.specs.Prelude.{◌≡◌, ℕ, ◌+◌, ◌<◌, ◌≤◌, Bool, true, false, List, [], ◌∷◌, ◌++◌, length, slice_get, Some}
+use Rattle.std.specs.Prelude.{◌≡◌, ℕ, ◌+◌, ◌<◌, ◌≤◌, Bool, true, false, List, [], ◌∷◌, ◌++◌, length, slice_get, Some, ⊤}
 use Rattle.view_sums.specs.Total.{Each}
 use Rattle.flake_base.specs.declared.segment.Seg.{Seg}
 use Rattle.flake_base.specs.declared.session.End.{End}
@@ -8,7 +8,7 @@ use Rattle.flake_base.specs.declared.session.End.TheVariants.{Left}
 use Rattle.flake_model.specs.Command.{Command}
 use Rattle.reply_layout.specs.Frames.{Frame}
 use Rattle.reply_layout.specs.Need.{need_of}
-use Rattle.call_model.specs.Parts.{IsInBuffer}
+use Rattle.shard_core.specs.Parts.{IsInBuffer}
 use Rattle.transcript_model.specs.Lines.{LineEvent, posted, ring_full, stage_full, at_end, sent, dropped}
 use Rattle.transcript_model.specs.Lines.{nothing_posted}
 use Rattle.transcript_model.specs.Lines.{reaped, nothing_reaped}
@@ -29,7 +29,7 @@ is_known Left = false
 -- a call that met want of memory may have reaped any number of gathered frames: they count at the first line that
 -- says the end
 abbrev pub MayHaveReaped : End → Bool → ℕ → Type 0
-MayHaveReaped Memory false n = Unit {0}
+MayHaveReaped Memory false n = ⊤
 MayHaveReaped end said n = n ≡ 0
 
 module _ (terms : Terms) (before : Standing) where

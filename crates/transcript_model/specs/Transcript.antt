@@ -15,7 +15,7 @@ use Rattle.flake_model.specs.Deed.{Deed, Places, places_at, IsLegal}
 use Rattle.flake_model.specs.Replay.{replay, places_from}
 use Rattle.pin_core.specs.declared.sizes.Sizes.{Sizes}
 use Rattle.reply_planner.specs.Places.{buffer_addresses}
-use Rattle.reply_planner.specs.Stages.{stage_size, IsRising}
+use Rattle.reply_planner.specs.Stages.{stage_size, IsRising, StagesAreApart}
 use Rattle.schedule_text.specs.declared.line.Line.{Line}
 use Rattle.transcript_model.specs.Lines.{LineEvent, posted, EventLine, line_of, transcript_text}
 use Rattle.transcript_model.specs.Terms.{Terms}
@@ -109,6 +109,8 @@ pub record IsToldBy {W : Type 0} (sends : Sending W) (run : DrivenRun) (olds new
   pub stages : List (List ℕ)
   pub stages_are : AllByRecursion (IsStageShown run.sizes) stages
   pub one_each : length stages ≡ length run.ends
+  -- no address is in the stages of two sessions
+  pub stages_apart : StagesAreApart stages
   -- how many frames of each session were sent whole
   pub wholes : List ℕ
   pub told : SessionsAreRight run deeds stages wholes lines

@@ -84,5 +84,28 @@ pub record CutIsDropped : Type 0 where
   pub right : IsTranscript cut_session cut_before cut_after (Call 0 ∷ Gather 0 ∷ []) (cut_lines (dropped 0 7))
   pub wrong : IsTranscript cut_session cut_before cut_after (Call 0 ∷ Gather 0 ∷ []) (cut_lines (sent 0 7)) → ⊥
 
+-- two sessions, each of which is answered once
+abbrev pub two_pings : DrivenRun
+two_pings = record {
+  sizes = default_sizes;
+  ring = 1160;
+  threshold = 512;
+  sessions = (ping ∷ []) ∷ (ping ∷ []) ∷ [];
+  ends = left_after 1 ∷ left_after 1 ∷ [];
+  journal = [] ∷ [];
+  small_held = 0;
+  large_held = 0;
+}
+
+-- both replies lie in one staging buffer
+abbrev pub shared_lines : List EventLine
+shared_lines =
+    record { session = 0; event = posted 0 0 (one 1048576 7) [] }
+    ∷ record { session = 1; event = posted 0 0 (one 1048576 7) [] } ∷ []
+
+-- which is no transcript, whatever the wires tell
+abbrev pub SharedStageIsWrong : Type 0
+SharedStageIsWrong = (olds news : Wires) → IsTranscript two_pings olds news (Call 0 ∷ Call 1 ∷ []) shared_lines → ⊥
+
 abbrev pub stage_from : ℕ → List ℕ
 stage_from first = map (λ n. 1048576 + 512 * n) (range_with_len first 128)

@@ -18,7 +18,7 @@ ghost use Rattle.transcript_model.specs.News.{with_news, LeavesSaid};
 ghost use Rattle.transcript_model.specs.Sources.{AreSources};
 ghost use Rattle.transcript_model.specs.Worked.{worked, wrong, wants_memory};
 ghost use Rattle.transcript_model.specs.Whole.{two_sessions, no_bytes_of_two, replies_of_two};
-ghost use Rattle.transcript_model.specs.Whole.{schedule_of_two, lines_of_two, CutIsDropped};
+ghost use Rattle.transcript_model.specs.Whole.{schedule_of_two, lines_of_two, CutIsDropped, SharedStageIsWrong};
 
 /// The lines of the worked transcripts are right.
 pub fn worked_transcripts()
@@ -47,6 +47,11 @@ pub fn whole_transcript()
 pub fn cut_reply_is_dropped()
     ensures law { CutReplyIsDropped }
     ensures worked { CutIsDropped }
+{}
+
+/// No two sessions have a staging buffer in common.
+pub fn no_stage_is_shared()
+    ensures { SharedStageIsWrong }
 {}
 
 /// Its text.

@@ -5,6 +5,7 @@ use Rattle.std.proofs.lemmas.Nat.{from_le_bytes-to_le_bytes_2, from_le_bytes-to_
 use Rattle.std.proofs.Math.Decide.{dec_lt}
 use mathlib.Core.Logic.{dite}
 use Rattle.std.specs.Int.{w16, w64, from_le_bytes}
+use Rattle.std.specs.Prelude.{⊤}
 use Rattle.tx_descriptor.specs.Bytes.{descriptor_bytes, reserved, IsInProfile, IsFirstForeign, IsLegacy}
 use Rattle.tx_descriptor.specs.declared.legacy.Legacy.{Legacy}
 use Rattle.tx_descriptor.specs.declared.legacy.Unsupported.{Unsupported}
@@ -12,7 +13,7 @@ use Rattle.tx_descriptor.specs.declared.legacy.Unsupported.{Unsupported}
 -- no byte has a bit of the mask at its place
 Clear : List ℕ → List ℕ → Type 0
 Clear (b ∷ bs) (m ∷ ms) = (bit_and b m ≡ 0) × Clear bs ms
-Clear bs ms = Unit {0}
+Clear bs ms = ⊤
 
 clear-at : (bs ms : List ℕ) → Clear bs ms → (i : ℕ) → bit_and (get_or bs i 0) (get_or ms i 0) ≡ 0
 unfolding Clear

@@ -1,6 +1,7 @@
 -- The calls that bring both ends to one seat and part them again.
 use Rattle.std.proofs.Common.{◌≡◌, ℕ, List, [], ◌∷◌, ◌++◌, length, true, sym, refl, ap, ◌∙◌, subst, Option}
 use Rattle.std.proofs.Common.{length-append, append-nil, arith}
+use Rattle.std.specs.Prelude.{⊤}
 use mathlib.Core.Option.{none}
 use Rattle.atomic_table.specs.Table.{Me, step, Allows, Enters, Joins}
 use Rattle.flake_base.specs.declared.segment.Seg.{Seg}
@@ -19,7 +20,7 @@ abbrev pub together : {P : Type 0} → DriverView P → DeviceView P → View P
 together d e = record { drives = true; gathers = true; driver = d; device = e }
 
 module _ {P : Type 0} (segs : P → List Seg) (n slots : ℕ) where
-  pub spare-call : Enters (Keeps {P = P} segs n) slots 0 (λ k w. Unit {0})
+  pub spare-call : Enters (Keeps {P = P} segs n) slots 0 (λ k w. ⊤)
   spare-call t r long low = (nobody, enters segs n t.words t.homes t.views r, tt)
 
   pub join-call : (seat other : ℕ) (m : Me (Option P) (View P)) (w : View P) (d : DriverView P) (e : DeviceView P)

@@ -1,6 +1,6 @@
 -- What the device's calls give.
 use Rattle.std.specs.Prelude.{◌≡◌, ℕ, ◌+◌, ◌-◌, ◌%◌, ◌≤◌, List, [], ◌∷◌, true, false, length, map, vec_capacity, Option}
-use Rattle.std.specs.Prelude.{None}
+use Rattle.std.specs.Prelude.{None, ⊤}
 use Rattle.atomic_table.specs.Table.{Me}
 use Rattle.flake_base.specs.declared.segment.Seg.{Seg}
 use Rattle.tx_ring.specs.Words.{length_word, last_len, IsFrame, size, extent}
@@ -27,17 +27,17 @@ module _ {P : Type 0} where
 
   abbrev pub IfFrame : Next P → (Job P → Type 0) → Type 0
   IfFrame (Frame job) F = F job
-  IfFrame (Empty tail) F = Unit {0}
-  IfFrame Closed F = Unit {0}
+  IfFrame (Empty tail) F = ⊤
+  IfFrame Closed F = ⊤
 
   abbrev pub IfEmpty : Next P → (ℕ → Type 0) → Type 0
-  IfEmpty (Frame job) F = Unit {0}
+  IfEmpty (Frame job) F = ⊤
   IfEmpty (Empty tail) F = F tail
-  IfEmpty Closed F = Unit {0}
+  IfEmpty Closed F = ⊤
 
   abbrev pub OnClosed : Next P → Type 0 → Type 0
-  OnClosed (Frame job) F = Unit {0}
-  OnClosed (Empty tail) F = Unit {0}
+  OnClosed (Frame job) F = ⊤
+  OnClosed (Empty tail) F = ⊤
   OnClosed Closed F = F
 
 module _ {P : Type 0} (segs : P → List Seg) where

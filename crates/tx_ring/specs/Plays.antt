@@ -1,5 +1,5 @@
 -- What each step tells: of the step, the seat before, the number found or stored, and the seat after.
-use Rattle.std.specs.Prelude.{◌≡◌, ◌≢◌, ℕ, ◌+◌, ◌-◌, ◌*◌, ◌/◌, ◌%◌, ◌<◌, ◌≤◌, List, [], ◌∷◌, ◌++◌, Bool, true, false}
+use Rattle.std.specs.Prelude.{◌≡◌, ◌≢◌, ℕ, ◌+◌, ◌-◌, ◌*◌, ◌/◌, ◌%◌, ◌<◌, ◌≤◌, List, [], ◌∷◌, ◌++◌, Bool, true, false, ⊤}
 use Rattle.std.specs.Prelude.{length, slice_index, Option, Some, None}
 use Rattle.atomic_table.specs.Table.{State, Me, Step, rest}
 use Rattle.flake_base.specs.declared.segment.Seg.{Seg}
@@ -71,15 +71,15 @@ module _ {P : Type 0} (segs : P → List Seg) where
       × (m' ≡ (with_device (fetching f 0 m.0.device) m.0, m.1)) × IsFrame (segs f) × (size segs f < st.slots))
 
   abbrev pub Fetches : ℕ → Me (Option P) (View P) → ℕ → Me (Option P) (View P) → DeviceStage P → Type 0
-  Fetches n m r m' Resting = Unit {0}
+  Fetches n m r m' Resting = ⊤
   Fetches n m r m' (Fetching f k) = (r ≡ slice_index (frame_words false (segs f)) k)
       × (k + 1 < 2 * size segs f → m' ≡ (with_device (fetching f (k + 1) m.0.device) m.0, m.1))
       × (k + 1 ≡ 2 * size segs f → m' ≡ (
         with_device (holding f m.0.device) m.0,
         ((extent segs m.0.device.completed + (size segs f - 1)) % n, Some f) ∷ m.1,
       ))
-  Fetches n m r m' (Holding f) = Unit {0}
-  Fetches n m r m' (Behind f) = Unit {0}
+  Fetches n m r m' (Holding f) = ⊤
+  Fetches n m r m' (Behind f) = ⊤
 
   abbrev pub fetched : Step (Option P) → Me (Option P) (View P) → ℕ → Me (Option P) (View P) → Type 0
   fetched st m r m' = Fetches st.slots m r m' m.0.device.stage

@@ -1,7 +1,7 @@
 -- The rule of a ring's table: what holds of its words, of the slots at home and of the views between any two steps.
 -- Word 0 is the tail, word 1 the head and word 2 tells whether the driver closed. Two words for each place follow.
 use Rattle.std.specs.Prelude.{◌≡◌, ◌≢◌, ℕ, suc, ◌+◌, ◌-◌, ◌*◌, ◌%◌, ◌<◌, ◌≤◌, List, [], ◌∷◌, ◌++◌, true, false, length}
-use Rattle.std.specs.Prelude.{slice_index, slice_index_or, Option, None}
+use Rattle.std.specs.Prelude.{slice_index, slice_index_or, Option, None, ⊤}
 use mathlib.Core.Option.{some}
 use mathlib.Core.Option as maybe
 use lib.ListN.{get_elem?}
@@ -56,7 +56,7 @@ module _ {P : Type 0} (segs : P → List Seg) where
 
   -- what the device knows of the frames that it did not complete, and of those that it did
   abbrev pub DeviceAt : List P → List P → DeviceStage P → Type 0
-  DeviceAt waiting completed Resting = Unit {0}
+  DeviceAt waiting completed Resting = ⊤
   DeviceAt waiting completed (Fetching f k) = ((rest : List P) × (waiting ≡ f ∷ rest)) × (k < 2 * size segs f)
   DeviceAt waiting completed (Holding f) = (rest : List P) × (waiting ≡ f ∷ rest)
   DeviceAt waiting completed (Behind f) = (before : List P) × (completed ≡ before ++ f ∷ [])

@@ -1,5 +1,5 @@
 -- A frame as descriptor words, two for each segment, and as the slots of its descriptors.
-use Rattle.std.specs.Prelude.{ℕ, ◌+◌, ◌-◌, ◌*◌, ◌^◌, ◌<◌, ◌≤◌, List, [], ◌∷◌, ◌++◌, Bool, true, false, cond, length}
+use Rattle.std.specs.Prelude.{ℕ, ◌+◌, ◌-◌, ◌*◌, ◌^◌, ◌<◌, ◌≤◌, List, [], ◌∷◌, ◌++◌, Bool, true, false, cond, length, ⊤}
 use Rattle.std.specs.Prelude.{replicate, Option, Some, None}
 use Rattle.flake_base.specs.declared.segment.Seg.{Seg}
 
@@ -27,7 +27,7 @@ pairs [] = []
 pairs (s ∷ ss) = s.address ∷ length_word s.len false false ∷ pairs ss
 
 abbrev pub EachElement : {A : Type 0} → (A → Type 0) → List A → Type 0
-EachElement F [] = Unit {0}
+EachElement F [] = ⊤
 EachElement F (x ∷ xs) = F x × EachElement F xs
 
 -- a segment that one descriptor may name

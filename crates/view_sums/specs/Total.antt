@@ -1,5 +1,5 @@
 -- Sums over lists, by weights.
-use Rattle.std.specs.Prelude.{◌≡◌, ℕ, ◌+◌, List, [], ◌∷◌, cond, eqb}
+use Rattle.std.specs.Prelude.{◌≡◌, ℕ, ◌+◌, List, [], ◌∷◌, cond, eqb, ⊤}
 
 -- the weight of each, added up
 abbrev pub total : {A : Type 0} → (A → ℕ) → List A → ℕ
@@ -12,7 +12,7 @@ same a b = cond (eqb a b) 1 0
 
 -- P holds of each
 abbrev pub Each : {A : Type 0} → (A → Type 0) → List A → Type 0
-Each P [] = Unit {0}
+Each P [] = ⊤
 Each P (x ∷ xs) = P x × Each P xs
 
 -- both lists have the same items, each as often: no weight tells them apart

@@ -1,6 +1,7 @@
 -- Jobs are dealt in their order: the queue holds those that were not taken, and each of the others was taken by one
 -- pass, once.
 use Rattle.std.specs.Prelude.{◌≡◌, ℕ, zero, suc, ◌+◌, ◌-◌, ◌<◌, ◌≤◌, List, [], ◌∷◌, ◌++◌, length, drop, slice_index_or}
+use Rattle.std.specs.Prelude.{⊤}
 use mathlib.Core.Option.{some}
 use lib.ListN.{get_elem?}
 use Rattle.view_sums.specs.Total.{total, same}
@@ -81,5 +82,5 @@ module _ {T : Type 0} where
 
   -- each result is one that the job at its number may give
   abbrev pub Given : {X : Type 0} → (T → X → Type 0) → List T → List (Done X) → Type 0
-  Given gives all [] = Unit {0}
+  Given gives all [] = ⊤
   Given gives all (d ∷ ds) = ((x : T) × IsAt all d.number x × gives x d.result) × Given gives all ds

@@ -3,6 +3,7 @@ ghost use Rattle.std.specs.Prelude.{◌≡◌, ◌+◌, ◌<◌, ◌≤◌};
 
 use super::replies::run_all;
 use super::resources::{RunResources, open_resources};
+use crate::checks::equal;
 use command_exec::{Pass, Shop};
 use command_parts::Command;
 use flake_base::Memory;
@@ -106,7 +107,7 @@ fn a_pass_lends_its_seat(rt: HostRuntime) -> Result<(), Fail> {
     let pool = PoolBlank::open(alloc, 256, 1, 8200)?;
     let book = BookBlank::open(alloc, 8, 2)?;
     let sight = see_in(&rt, alloc, pool, book, &commands)?;
-    assert_eq!(&rt; sight.session, 1);
+    equal(&rt, "the session", sight.session, 1);
     let seen = [
         (7, 1),
         (6, 0),
@@ -117,7 +118,7 @@ fn a_pass_lends_its_seat(rt: HostRuntime) -> Result<(), Fail> {
         (1, 0),
         (0, 0),
     ];
-    assert_eq!(&rt; sight.looks.as_slice(), seen.as_slice());
-    assert_eq!(&rt; sight.back, 1);
+    equal(&rt, "looks", sight.looks.as_slice(), seen.as_slice());
+    equal(&rt, "the seat's number", sight.back, 1);
     Ok(())
 }

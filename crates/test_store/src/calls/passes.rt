@@ -1,6 +1,7 @@
 //! Passes that are opened and closed.
 ghost use Rattle.std.specs.Prelude.{◌≡◌, ◌<◌};
 
+use crate::checks::equal;
 use command_exec::Pass;
 use flake_base::Memory;
 use order_book::{BookBlank, BookName};
@@ -66,9 +67,9 @@ fn check(
     let pool = PoolBlank::open(alloc, small, 1, 1)?;
     let book = BookBlank::open(alloc, 1, 2)?;
     let opened = open_in(alloc, pool, book)?;
-    assert_eq!(rt; opened.free, free);
-    assert_eq!(rt; opened.session, 1);
-    assert_eq!(rt; opened.held, Held { small: 0, large: 0 });
+    equal(rt, "free staging buffers", opened.free, free);
+    equal(rt, "the session", opened.session, 1);
+    equal(rt, "what is held", opened.held, Held { small: 0, large: 0 });
     Ok(())
 }
 

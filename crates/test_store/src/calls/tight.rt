@@ -3,6 +3,7 @@ ghost use Rattle.std.specs.Prelude.{◌≡◌, ◌+◌, ◌<◌, ◌≤◌};
 
 use super::replies::{Reply, run_one};
 use super::resources::{RunResources, open_resources};
+use crate::checks::equal;
 use command_exec::{Pass, Shop, execute};
 use command_parts::Command;
 use flake_base::{Memory, Segs, Sequence};
@@ -133,10 +134,10 @@ fn check<R: Wait + Abort>(
     let pool = PoolBlank::open(alloc, 256, 17, 8200)?;
     let book = BookBlank::open(alloc, 8, 1)?;
     let squeezed = squeeze_in(rt, alloc, pool, book, &first, &ping, &second)?;
-    assert_eq!(rt; second.need().stage, stage);
-    assert_eq!(rt; squeezed.before, stage);
-    assert_eq!(rt; squeezed.after, stage);
-    assert_eq!(rt; squeezed.reply.text.len(), bytes);
+    equal(rt, "the need", second.need().stage, stage);
+    equal(rt, "free before it", squeezed.before, stage);
+    equal(rt, "free behind it", squeezed.after, stage);
+    equal(rt, "bytes", squeezed.reply.text.len(), bytes);
     Ok(())
 }
 

@@ -2,7 +2,7 @@
 ghost use Rattle.std.specs.Prelude.{◌≡◌, ◌+◌, ◌<◌, ◌≤◌, length};
 ghost use Rattle.flake_base.specs.Limits.{value_limit};
 
-use flake_base::{Memory, Seg, Segs, Sequence};
+use flake_base::{Memory, Segs, Sequence};
 use frag_value::PlaceError;
 use pinned_pool::{Held, Pool, PoolBlank, PoolName, PoolSeat};
 use shard_core::{PartAnswer, ShardMap};
@@ -10,14 +10,12 @@ use shard_part::{Part, PartOp};
 use std::alloc::Global;
 use test_support::copier::Copier;
 
-/// A run of bytes that the taker got: where it lies, how long it is, and whether a hold came with it.
-#[derive(Clone, Copy, PartialEq, Eq, Debug)]
-pub struct Run {
-    pub address: u64,
-    pub offset: u32,
-    pub len: usize,
-    pub over: bool,
-}
+/// A run of bytes that the taker got: the buffer's address, the place there, how many they are, and whether a hold came
+/// with them.
+pub type Run = (u64, u32, usize, bool);
+
+/// A segment's address and its length.
+pub type Stored = (u64, u32);
 
 /// What one part did: its answer, what the taker got, and the segments that it stored.
 #[derive(Drop)]
@@ -25,7 +23,15 @@ pub struct Seen {
     pub answer: Result<PartAnswer, PlaceError>,
     pub bytes: Vec<u8>,
     pub runs: Vec<Run>,
-    pub stored: Vec<Seg>,
+    pub stored: Vec<Stored>,
+}
+
+fn stored_of(alloc: Global, segs: &Segs) -> Result<Vec<Stored>, Memory> {
+    let mut stored = Vec::new(alloc);
+    for seg in segs.iter() {
+        stored.push((seg.address, seg.len))?;
+    }
+    Ok(stored)
 }
 
 impl Seen {
@@ -39,18 +45,13 @@ impl Seen {
         let mut runs = Vec::new(alloc);
         for copied in &copier.copies {
             bytes.extend_from_slice(&copied.bytes[..copied.len])?;
-            runs.push(Run {
-                address: copied.address,
-                offset: copied.offset,
-                len: copied.len,
-                over: copied.over,
-            })?;
+            runs.push((copied.address, copied.offset, copied.len, copied.over))?;
         }
         Ok(Seen {
             answer,
             bytes,
             runs,
-            stored: stored.into_vec(),
+            stored: stored_of(alloc, &stored)?,
         })
     }
 }

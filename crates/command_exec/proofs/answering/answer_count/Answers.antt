@@ -1,6 +1,6 @@
 use Rattle.std.proofs.Common.{length, refl, ap, subst, ◌∙◌, arith}
 use Rattle.flake_base.specs.declared.journal.Entry.{Entry}
-use Rattle.call_model.specs.Outcomes.{entry_at}
+use Rattle.shard_core.specs.Outcomes.{entry_at}
 use Rattle.command_exec.specs.Kinds.{part_at}
 use Rattle.command_exec.specs.Parted.{CountsKey}
 use Rattle.command_exec.proofs.Asked.{on_err}

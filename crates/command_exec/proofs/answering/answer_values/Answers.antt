@@ -2,7 +2,7 @@ use Rattle.std.proofs.Common.{[], ◌∷◌, ◌++◌, None, ◌+◌, length, re
 use Rattle.flake_base.specs.declared.journal.Entry.{Entry}
 use Rattle.frag_value.specs.Taken.{copied}
 use Rattle.reply_planner.specs.Planned.{planned, left_of}
-use Rattle.call_model.specs.Outcomes.{entry_at}
+use Rattle.shard_core.specs.Outcomes.{entry_at}
 use Rattle.command_exec.specs.Kinds.{part_at}
 use Rattle.command_exec.specs.Lines.{number_line}
 use Rattle.command_exec.specs.Parted.{AddsValue}

@@ -1,6 +1,6 @@
 use Rattle.std.proofs.Common.{◌≡◌, ◌-◌, ◌≤◌, ◌++◌, false, take, drop}
 use Rattle.tx_ring.specs.Jobs.{frame_of}
-use Rattle.device_model.specs.Devices.{PutsText}
+use Rattle.any_wire.specs.Sends.{PutsText}
 use Rattle.device_model.specs.Framing.{text_behind, IsInText}
 use Rattle.device_model.proofs.framing.send_cut.Given as goal
 

@@ -6,7 +6,7 @@ use Rattle.any_wire.proofs.Sending.{sends-none, sends-on, sends-same}
 use Rattle.mtu_frames.specs.Frames.{MtuFrame, mtu_frame_bytes, header_bytes, cuts_from, cuts_of}
 use Rattle.reply_planner.specs.Parcels.{Sent, IsSent}
 use Rattle.tx_ring.specs.Jobs.{frame_of}
-use Rattle.device_model.specs.Devices.{PutsText}
+use Rattle.any_wire.specs.Sends.{PutsText}
 use Rattle.device_model.specs.Framing.{text_behind, IsInText}
 use Rattle.device_model.specs.Pieces.{PutsEach}
 use Rattle.device_model.proofs.Framed.{in-first, behind-all, frames_left, left-next, take-least, drop-least}

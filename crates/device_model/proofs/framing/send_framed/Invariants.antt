@@ -1,7 +1,7 @@
 use Rattle.std.proofs.Common.{◌≡◌, ◌+◌, ◌-◌, ◌≤◌, ◌++◌, List, ℕ, length, map}
 use Rattle.mtu_frames.specs.Frames.{MtuFrame, cuts_of, framed, frames_of, mtu_frame_bytes}
 use Rattle.tx_ring.specs.Jobs.{frame_of}
-use Rattle.device_model.specs.Devices.{PutsText}
+use Rattle.any_wire.specs.Sends.{PutsText}
 use Rattle.device_model.specs.Framing.{text_behind, IsInText}
 use Rattle.device_model.specs.Pieces.{PutsEach}
 use Rattle.device_model.proofs.Framed.{frames_left}

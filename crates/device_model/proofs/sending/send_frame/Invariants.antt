@@ -4,7 +4,7 @@ use Rattle.device_model.specs.Pieces.{AreCutsAt}
 use Rattle.reply_layout.specs.Gathered.{read_all}
 use Rattle.reply_planner.specs.Places.{reading}
 use Rattle.tx_ring.specs.Jobs.{frame_of}
-use Rattle.device_model.specs.Devices.{PutsText}
+use Rattle.any_wire.specs.Sends.{PutsText}
 use Rattle.device_model.proofs.sending.send_frame.Given as goal
 
 abbrev pub invariant-loop-i : goal.invariant-loop-i

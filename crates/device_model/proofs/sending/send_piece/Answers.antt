@@ -2,7 +2,7 @@ use Rattle.std.proofs.Common.{rules, ◌≡◌, length, true, false, refl, sym, 
 use Rattle.any_wire.specs.Sends.{Puts}
 use Rattle.any_wire.proofs.Sending.{sends-put}
 use Rattle.reply_planner.specs.Places.{buffer_bytes}
-use Rattle.device_model.specs.Devices.{PutsText}
+use Rattle.any_wire.specs.Sends.{PutsText}
 use Rattle.device_model.proofs.Cutting.{chain-put}
 use Rattle.device_model.proofs.Puts.{run-length}
 use Rattle.device_model.proofs.sending.send_piece.Goals as goal

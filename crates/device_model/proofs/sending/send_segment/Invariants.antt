@@ -2,7 +2,7 @@ use Rattle.std.proofs.Common.{◌-◌, ◌*◌, ◌≡◌, ◌≤◌, ℕ, List,
 use Rattle.any_wire.specs.Sends.{WireStep, Chain}
 use Rattle.device_model.specs.Pieces.{AreCuts}
 use Rattle.reply_planner.specs.Places.{buffer_bytes}
-use Rattle.device_model.specs.Devices.{PutsText}
+use Rattle.any_wire.specs.Sends.{PutsText}
 use Rattle.device_model.proofs.sending.send_segment.Given as goal
 
 abbrev pub invariant-loop-done : goal.invariant-loop-done

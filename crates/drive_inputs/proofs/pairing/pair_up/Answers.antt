@@ -2,7 +2,7 @@ use Rattle.std.proofs.Common.{◌≡◌, [], ◌∷◌, ◌++◌, Some, map, len
 use Rattle.std.proofs.lemmas.List.{nil_from_length}
 use Rattle.std.specs.Vec.Iter.{into_iter_items}
 use Rattle.command_pump.specs.Pump.{origin_of}
-use Rattle.session_serve.specs.Working.{IsFresh}
+use Rattle.session_pass.specs.Fresh.{IsFresh}
 use Rattle.drive_script.specs.Driving.{driving_of, IsNew}
 use Rattle.run_resources.specs.Opened.{IsSessionSlot}
 use Rattle.run_resources.proofs.Lists.{all_of_none, all_as, all_more, all_first, all_rest, all_given, given_on}
@@ -21,9 +21,9 @@ loop-slot-init g c =
     record {
       all = gives.0;
       left = omega (arith, gives.1, long, c.args.slots.ok.0);
-      fresh = all_of_none c.args.drivings.items (λ d. IsNew g.P.PoolName.sizes (driving_of d.lane.session
-          d.lane.device.failed d.lane.device.end d.asking.kept d.asking.end d.asking.pump d.wire)
-          × IsFresh g.P.PoolName.sizes d.lane.session d.asking.pump) none;
+      fresh = all_of_none c.args.drivings.items (λ d. IsNew g.P.PoolName.sizes (driving_of d.connection.session
+          d.connection.device.failed d.connection.device.end d.asking.kept d.asking.end d.asking.pump d.wire)
+          × IsFresh g.P.PoolName.sizes d.connection.session d.asking.pump) none;
       sessions = rw none refl;
       origins = rw none (ap (map (λ s. origin_of (g.S.Source.name s) (g.S.Source.whole s))) sources);
       unread = all_as _ c.args.sources.items (λ s. g.S.Source.given s ≡ []) sources c.requires.unread;
@@ -54,12 +54,13 @@ loop-slot-preserved g c =
       all = given_on c.loop-slot.yielded _ _ _ _ before.all steps.0;
       left = omega (arith, before.left, steps.1, ap length steps.0);
       fresh = all_more drivings _ _
-          (λ d. IsNew z (driving_of d.lane.session d.lane.device.failed d.lane.device.end d.asking.kept
-          d.asking.end d.asking.pump d.wire) × IsFresh z d.lane.session d.asking.pump) items before.fresh
+          (λ d. IsNew z (driving_of d.connection.session d.connection.device.failed d.connection.device.end
+          d.asking.kept
+          d.asking.end d.asking.pump d.wire) × IsFresh z d.connection.session d.asking.pump) items before.fresh
           (new_driving z slot.session slot.device.end slot.device.failed c.new-pump.result _ _
           c.in-Some-next-2.wire is
           c.new-pump.ensures.pump own.0 own.2);
-      sessions = both_more drivings _ _ c.loop-slot.yielded slot (λ d. d.lane.session)
+      sessions = both_more drivings _ _ c.loop-slot.yielded slot (λ d. d.connection.session)
           (λ d. d.session) items
           before.sessions refl;
       origins = moves_on drivings _ _ (λ d. d.asking.pump.origin) _ _ _ items

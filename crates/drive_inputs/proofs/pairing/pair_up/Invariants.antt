@@ -1,17 +1,18 @@
 use Rattle.std.proofs.Common.{◌≡◌, ◌+◌, ◌≤◌, ◌++◌, [], All, Some, length, map, vec_len, vec_capacity}
 use Rattle.std.specs.Vec.Iter.{into_iter_items, into_iter_len}
 use Rattle.command_pump.specs.Pump.{origin_of}
-use Rattle.session_serve.specs.Working.{IsFresh}
+use Rattle.session_pass.specs.Fresh.{IsFresh}
 use Rattle.drive_script.specs.Driving.{driving_of, IsNew}
 use Rattle.run_resources.specs.Opened.{IsSessionSlot}
 use Rattle.drive_inputs.proofs.pairing.pair_up.Given as goal
 
 abbrev pub invariant-loop-slot : goal.invariant-loop-slot
 invariant-loop-slot g l = record {
-  fresh : All (λ d. IsNew g.P.PoolName.sizes (driving_of d.lane.session d.lane.device.failed d.lane.device.end
-      d.asking.kept d.asking.end d.asking.pump d.wire) × IsFresh g.P.PoolName.sizes d.lane.session d.asking.pump)
+  fresh : All (λ d. IsNew g.P.PoolName.sizes (driving_of d.connection.session d.connection.device.failed
+      d.connection.device.end
+      d.asking.kept d.asking.end d.asking.pump d.wire) × IsFresh g.P.PoolName.sizes d.connection.session d.asking.pump)
       l.drivings.items;
-  sessions : map (λ d. d.lane.session) l.drivings.items ≡ map (λ d. d.session) l.yielded;
+  sessions : map (λ d. d.connection.session) l.drivings.items ≡ map (λ d. d.session) l.yielded;
   origins : map (λ d. d.asking.pump.origin) l.drivings.items
       ++ map (λ s. origin_of (g.S.Source.name s) (g.S.Source.whole s)) (into_iter_items l.more_sources)
       ≡ map (λ s. origin_of (g.S.Source.name s) (g.S.Source.whole s)) l.fn.sources.items;

@@ -1,8 +1,11 @@
-use Rattle.std.proofs.Common.{ℕ, ◌*◌, ◌<◌, All, refl, ap, sym, ◌∙◌, subst, arith}
+use Rattle.std.proofs.Common.{◌≡◌, ℕ, ◌*◌, ◌<◌, List, All, map, refl, ap, sym, ◌∙◌, subst, arith}
 use Rattle.std.specs.List.{range_with_len}
 use Rattle.pin_core.specs.declared.sizes.Sizes.{Sizes}
 use Rattle.view_sums.specs.Total.{Each}
 use Rattle.schedule_text.specs.Text.{line_session}
+use Rattle.reply_planner.specs.Places.{buffer_addresses}
+use Rattle.reply_planner.specs.Stages.{StagesAreApart}
+use Rattle.session_pass.specs.Views.{SessionView}
 use Rattle.drive_script.specs.Driven.{leaving_of}
 use Rattle.drive_script.specs.Driving.{driving_of}
 use Rattle.run_resources.specs.Opened.{IsSessionSlot}
@@ -10,7 +13,8 @@ use Rattle.run_resources.proofs.SessionSlots.{HasCredits, slot_credits}
 use Rattle.run_resources.proofs.Lists.{count_of, same_count, count_as}
 use Rattle.drive_inputs.proofs.Each.{AreFit, all_fit}
 use Rattle.drive_inputs.proofs.Together.{as_many, wires_past, reads, origins, same_origins, credits}
-use Rattle.drive_inputs.proofs.Together.{credits_of, drove_inputs}
+use Rattle.drive_inputs.proofs.Together.{credits_of, drove_inputs, maps_in}
+use Rattle.drive_inputs.proofs.Stages.{addresses_apart, all_small}
 use Rattle.drive_inputs.proofs.whole.drive_opened.Goals as goal
 
 pub returns-clause-drove : goal.returns-clause-drove
@@ -26,11 +30,21 @@ returns-clause-drove g c =
     (λ d. d.session) slots
     (λ d is. is.pass) c.requires.slots c.requires.ring c.requires.threshold
     (c.requires.numbers ∙ ap (λ (n : ℕ). range_with_len 0 n) (sym many)) in
-    drove_inputs _ _ z g.N.BookName.sizes.shards (λ d. driving_of d.lane.session d.lane.device.failed d.lane.device.end
+    let stage_of : SessionView → List ℕ = λ s. buffer_addresses z s.pass.stage in
+    let stages : map (λ d. buffer_addresses z d.connection.session.pass.stage) c.pair_up-drivings.result.0.items
+    ≡ map (buffer_addresses z) (map (λ d. d.session.pass.stage) slots) =
+    sym (maps_in stage_of (λ d. d.connection.session) c.pair_up-drivings.result.0.items)
+    ∙ ap (map stage_of) c.pair_up-drivings.ensures.sessions ∙ maps_in stage_of (λ d. d.session) slots
+    ∙ sym (maps_in (buffer_addresses z) (λ d. d.session.pass.stage) slots) in
+    let apart = subst StagesAreApart (sym stages) (addresses_apart z (map (λ d. d.session.pass.stage) slots)
+    (all_small z (λ d. IsSessionSlot z d.session d.device.end d.device.failed) (λ d. d.session.pass.stage) slots
+    (λ d is. is.pass.opened.small) c.requires.slots) c.requires.apart) in
+    drove_inputs _ _ z g.N.BookName.sizes.shards (λ d. driving_of d.connection.session d.connection.device.failed
+    d.connection.device.end
     d.asking.kept d.asking.end d.asking.pump d.wire) (λ a. leaving_of a.end a.mine a.seat a.pump a.wire) _ _
     c.pair_up-drivings.result.0.items c.drive-accounts.result.accounts.items _ _ g.N.BookName.sizes _ _ _ _ _ _ _ _ _
     _ _ _ _ _ c.drive-accounts.ensures.driven refl c.requires.pool
-    (subst (AreFit z _ _ 0) (sym c.pair_up-drivings.ensures.sessions) fit) c.bring_in-ends.ensures.lists
+    (subst (AreFit z _ _ 0) (sym c.pair_up-drivings.ensures.sessions) fit) apart c.bring_in-ends.ensures.lists
     c.requires.main.0 c.bring_in-ends.ensures.seats (omega (arith, many, rows, left, lists, c.requires.book.1))
     c.close_all-journal.ensures.closed c.driven_together.ensures c.bring_in-ends.ensures.givens
     c.bring_in-ends.ensures.endeds c.bring_in-ends.ensures.ends c.pair_up-drivings.ensures.wires
@@ -136,7 +150,8 @@ close_all-journal-requires-clause-credits g c =
     let rows = same_count c.pair_up-drivings.result.0.items slots _ _ c.pair_up-drivings.ensures.sessions in
     let own = credits_of (λ d. IsSessionSlot z d.session d.device.end d.device.failed) (λ d. d.session)
     (λ d is. slot_credits z _ _ _ is) slots c.requires.slots in
-    let all = credits _ _ z _ (λ d. driving_of d.lane.session d.lane.device.failed d.lane.device.end d.asking.kept
+    let all = credits _ _ z _ (λ d. driving_of d.connection.session d.connection.device.failed d.connection.device.end
+    d.asking.kept
     d.asking.end d.asking.pump d.wire) (λ a. leaving_of a.end a.mine a.seat a.pump a.wire) _ _
     c.pair_up-drivings.result.0.items c.drive-accounts.result.accounts.items _ _ _ _ c.drive-accounts.ensures.driven
     (subst (Each HasCredits) (sym c.pair_up-drivings.ensures.sessions) own) c.bring_in-ends.ensures.seats in

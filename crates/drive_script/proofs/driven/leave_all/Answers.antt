@@ -13,14 +13,16 @@ loop-session-init g c =
       left = omega (arith, gives.1, long, c.args.sessions.ok.0);
       done = rw c.requires.room.0 tt;
       rest = same_go _ _ _ _ c.args.sessions.items
-          (λ d. driving_of d.lane.session d.lane.device.failed d.lane.device.end d.asking.kept d.asking.end
+          (λ d. driving_of d.connection.session d.connection.device.failed d.connection.device.end d.asking.kept
+          d.asking.end
           d.asking.pump d.wire) gives.0 c.requires.going;
       room = omega (arith, long, c.requires.room.1, ap length c.requires.room.0, c.args.accounts.ok.0);
     }
 
 pub leave-requires-clause-going : goal.leave-requires-clause-going
 leave-requires-clause-going g c = λ _ _. first_goes _ _ _ (into_iter_items c.loop-session.session-iterator) _
-    c.in-Some.session (λ d. driving_of d.lane.session d.lane.device.failed d.lane.device.end d.asking.kept d.asking.end
+    c.in-Some.session (λ d. driving_of d.connection.session d.connection.device.failed d.connection.device.end
+    d.asking.kept d.asking.end
     d.asking.pump d.wire) c.in-Some.ensures.steps.0 c.loop-session.invariant.rest
 
 pub loop-session-preserved : goal.loop-session-preserved
@@ -34,7 +36,8 @@ loop-session-preserved g c =
           c.push_reserved.ensures.items before.done
           (λ first events is. (c.leave.ensures.left first events is, c.leave.ensures.driven first events is));
       rest = rest_goes _ _ _ (into_iter_items c.loop-session.session-iterator) _ c.in-Some.session
-          (λ d. driving_of d.lane.session d.lane.device.failed d.lane.device.end d.asking.kept d.asking.end
+          (λ d. driving_of d.connection.session d.connection.device.failed d.connection.device.end d.asking.kept
+          d.asking.end
           d.asking.pump d.wire) steps.0 before.rest;
       room = omega (
         arith,

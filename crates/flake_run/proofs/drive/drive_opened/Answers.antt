@@ -2,7 +2,7 @@ use Rattle.std.proofs.Common.{◌≡◌, ◌||◌, suc, [], ◌∷◌, Some, len
 use Rattle.std.specs.List.{range_with_len}
 use Rattle.std.proofs.lemmas.List.{length-map}
 use Rattle.flake_base.specs.Histories.{histories}
-use Rattle.run_resources.specs.Ran.{AreReads}
+use Rattle.session_serve.specs.Ran.{AreReads}
 use Rattle.transcript_model.specs.Lines.{held_text}
 use Rattle.drive_script.specs.Says.{PrintsText}
 use Rattle.flake_run.specs.Causes.{AreCountsOf, highest_by}

@@ -9,7 +9,7 @@ use Rattle.flake_base.specs.declared.session.End.{End}
 use Rattle.flake_base.specs.declared.session.End.TheVariants.{Left}
 use Rattle.flake_base.specs.declared.session.SessionEnd.{SessionEnd}
 use Rattle.run_resources.specs.Opened.{HasRunSizes, pool_sizes}
-use Rattle.run_resources.specs.Ran.{AreReads}
+use Rattle.session_serve.specs.Ran.{AreReads}
 use Rattle.flake_base.specs.Histories.{histories}
 use Rattle.serve_inputs.specs.Dumped.{dump_told}
 use Rattle.flake_run.specs.declared.outcome.Detail.TheVariants.{Nothing}

@@ -1,4 +1,5 @@
 use Rattle.std.proofs.Common.{sym, subst}
+use Rattle.std.specs.Prelude.{⊤}
 use Rattle.join_files.specs.Joined.{IsRefusedAt}
 use Rattle.join_files.proofs.Taking.{is_refused, is_taken}
 use Rattle.join_files.proofs.joining.take_one.Goals as goal
@@ -11,5 +12,5 @@ returns-in-Err-clause-err c =
     let before = c.args.joiner.now in
     subst (λ e. IsRefusedAt e c.args.number before.mtu before.calls before.frames c.args.frame.now)
     (sym c.error_of.ensures)
-    (is_refused before.mtu before.calls c.args.frame.now before.frames c.take.new.self.frames (Unit {0})
+    (is_refused before.mtu before.calls c.args.frame.now before.frames c.take.new.self.frames ⊤
     c.in-Err.refused c.args.number c.in-Err.ensures.answer)

@@ -1,4 +1,4 @@
-use Rattle.value_pins.specs.Pins.{all_frags}
+use Rattle.frag_value.specs.Pins.{all_frags}
 use Rattle.pin_dump.proofs.Emptied.{is_emptied}
 use Rattle.pin_dump.proofs.dump.emptied.Goals as goal
 

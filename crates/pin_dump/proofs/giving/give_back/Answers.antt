@@ -1,7 +1,7 @@
 use Rattle.std.proofs.Common.{◌≤◌, ◌++◌, length, refl, ap, sym, ◌∙◌, subst, arith}
 use Rattle.pinned_pool.specs.Moves.{meant_count}
 use Rattle.frag_value.specs.Values.{Frags, uses}
-use Rattle.value_pins.specs.Pins.{AreReturned, all_frags, pin_key}
+use Rattle.frag_value.specs.Pins.{AreReturned, all_frags, pin_key}
 use Rattle.pin_dump.specs.Dumps.{GivesHolds}
 use Rattle.pin_dump.proofs.GivenBack.{all_given, given_on, frags-one, gives_none, gives_more, still_held}
 use Rattle.pin_dump.proofs.giving.give_back.Goals as goal

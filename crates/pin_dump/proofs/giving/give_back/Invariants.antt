@@ -1,6 +1,6 @@
 use Rattle.std.proofs.Common.{◌≡◌, ◌++◌, length}
 use Rattle.std.specs.Vec.Iter.{into_iter_items, into_iter_len}
-use Rattle.value_pins.specs.Pins.{all_frags}
+use Rattle.frag_value.specs.Pins.{all_frags}
 use Rattle.pin_dump.specs.Dumps.{GivesHolds}
 use Rattle.pin_dump.proofs.giving.give_back.Given as goal
 

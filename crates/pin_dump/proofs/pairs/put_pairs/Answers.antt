@@ -5,7 +5,7 @@ use Rattle.any_wire.proofs.Sending.{sends-on, sends-same}
 use Rattle.pinned_pool.specs.declared.view.View.{View}
 use Rattle.dump_model.specs.Dump.{set_text}
 use Rattle.frag_value.specs.Values.{value_bytes}
-use Rattle.value_pins.specs.Pins.{KeyFrags, IsPinned}
+use Rattle.frag_value.specs.Pins.{KeyFrags, IsPinned}
 use Rattle.pin_dump.proofs.Texts.{pairs_more, part_pinned}
 use Rattle.pin_dump.proofs.pairs.put_pairs.Goals as goal
 

@@ -1,6 +1,7 @@
 use Rattle.std.proofs.Common.{◌≡◌, take}
 use Rattle.dump_model.specs.Dump.{pairs_text}
-use Rattle.value_pins.specs.Pins.{PutsText, pairs_shown}
+use Rattle.any_wire.specs.Sends.{PutsText}
+use Rattle.frag_value.specs.Pins.{pairs_shown}
 use Rattle.pin_dump.proofs.pairs.put_pairs.Given as goal
 
 abbrev pub invariant-loop-i : goal.invariant-loop-i

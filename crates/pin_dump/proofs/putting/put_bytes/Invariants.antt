@@ -1,5 +1,5 @@
 use Rattle.std.proofs.Common.{◌-◌, ◌≤◌, length, take}
-use Rattle.value_pins.specs.Pins.{PutsText}
+use Rattle.any_wire.specs.Sends.{PutsText}
 use Rattle.pin_dump.proofs.putting.put_bytes.Given as goal
 
 abbrev pub decreases-loop-done : goal.decreases-loop-done

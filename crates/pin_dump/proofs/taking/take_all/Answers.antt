@@ -1,6 +1,6 @@
 use Rattle.std.proofs.Common.{rules, ◌≡◌, ℕ, ◌+◌, ◌≤◌, List, ◌++◌, length, sym, ap, ◌∙◌, subst, arith}
 use Rattle.pin_core.specs.Buffers.{buffers}
-use Rattle.value_pins.specs.Pins.{KeyFrags, all_frags}
+use Rattle.frag_value.specs.Pins.{KeyFrags, all_frags}
 use Rattle.pin_dump.specs.Dumps.{GivesHolds, HoldsFor}
 use Rattle.pin_dump.proofs.TakenShards.{TakenSoFar, taken_none, taken_more, enough_left, back_held, back_took}
 use Rattle.pin_dump.proofs.TakenShards.{back_keeps}

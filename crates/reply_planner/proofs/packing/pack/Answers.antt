@@ -12,8 +12,8 @@ use Rattle.reply_planner.proofs.Packed.{Outcome, used_held, outcome}
 use Rattle.reply_planner.proofs.packing.pack.Given.{Over}
 use Rattle.reply_planner.proofs.packing.pack.Goals as goal
 
-pub fill-requires-clause-own : goal.fill-requires-clause-own
-fill-requires-clause-own g c =
+pub fill_words-requires-clause-own : goal.fill_words-requires-clause-own
+fill_words-requires-clause-own g c =
     let is = c.deref_mut-parts.ensures.value in
     subst (λ ks. AreOwn c.args.seat.now.holds (key_buffers ks))
     (sym (c.deref.ensures.value ∙ ap (λ l. l.staged.items) is))
@@ -24,16 +24,16 @@ pub fetch-requires-clause-held : goal.fetch-requires-clause-held
 fetch-requires-clause-held g c =
     let is = c.deref_mut-parts.ensures.value in
     let staged = c.deref.ensures.value ∙ ap (λ l. l.staged.items) is in
-    let texts = c.deref-2.ensures.value ∙ ap (λ l. l.text.items) is in
+    let texts = ap (λ l. l.text.items) is in
     let text = c.args.lists.value.text.items in
     let keys = c.args.lists.value.staged.items in
     let count : c.div_ceil-used.result ≡ staging_buffers_for (length text) =
-    omega (arith, c.div_ceil-used.ensures, c.len.ensures, c.deref-2.ensures.len, ap length texts) in
-    let filled : IsFilledWith text (key_buffers keys) c.args.seat.now c.fill.new.seat =
-    subst (λ ks. IsFilledWith text (key_buffers ks) c.args.seat.now c.fill.new.seat) staged
-    (subst (λ xs. IsFilledWith xs (key_buffers c.deref.result.now) c.args.seat.now c.fill.new.seat) texts
-    c.fill.ensures.filled) in
-    used_held g.N.PoolName.sizes text keys c.requires.staging c.args.seat.now c.fill.new.seat c.args.stage.now
+    omega (arith, c.div_ceil-used.ensures, c.len.ensures, c.deref_mut-parts.result.now.text.ok, ap length texts) in
+    let filled : IsFilledWith text (key_buffers keys) c.args.seat.now c.fill_words.new.seat =
+    subst (λ ks. IsFilledWith text (key_buffers ks) c.args.seat.now c.fill_words.new.seat) staged
+    (subst (λ xs. IsFilledWith xs (key_buffers c.deref.result.now) c.args.seat.now c.fill_words.new.seat) texts
+    c.fill_words.ensures.filled) in
+    used_held g.N.PoolName.sizes text keys c.requires.staging c.args.seat.now c.fill_words.new.seat c.args.stage.now
     c.requires.buffers filled c.as_slice.result.now
     (c.as_slice.ensures.value ∙ c.keep_used.ensures.used ∙ (λ i. take (count i) (is i).staged.items))
 
@@ -48,17 +48,17 @@ packs : (g : Over) (c : goal.After-join g) → Packs g c
 packs g c =
     let is = c.deref_mut-parts.ensures.value in
     let staged = c.deref.ensures.value ∙ ap (λ l. l.staged.items) is in
-    let texts = c.deref-2.ensures.value ∙ ap (λ l. l.text.items) is in
+    let texts = ap (λ l. l.text.items) is in
     let text = c.args.lists.value.text.items in
     let keys = c.args.lists.value.staged.items in
     let ks = c.keep_used.new.lists.staged.items in
     let seat = c.args.seat.now in
-    let full = c.fill.new.seat in
+    let full = c.fill_words.new.seat in
     let count : c.div_ceil-used.result ≡ staging_buffers_for (length text) =
-    omega (arith, c.div_ceil-used.ensures, c.len.ensures, c.deref-2.ensures.len, ap length texts) in
+    omega (arith, c.div_ceil-used.ensures, c.len.ensures, c.deref_mut-parts.result.now.text.ok, ap length texts) in
     let filled : IsFilledWith text (key_buffers keys) seat full =
     subst (λ l. IsFilledWith text (key_buffers l) seat full) staged
-    (subst (λ xs. IsFilledWith xs (key_buffers c.deref.result.now) seat full) texts c.fill.ensures.filled) in
+    (subst (λ xs. IsFilledWith xs (key_buffers c.deref.result.now) seat full) texts c.fill_words.ensures.filled) in
     let lost : c.fetch.new.from ≡ losing ks full = c.fetch.ensures.from
     ∙ ap (λ l. losing l full) c.as_slice.ensures.value in
     let gained : c.fetch.new.into ≡ gaining (holds_for ks full.holds) c.args.own = c.fetch.ensures.into

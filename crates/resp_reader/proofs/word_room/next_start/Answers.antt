@@ -1,6 +1,6 @@
-use Rattle.std.proofs.Common.{sym, ◌∙◌}
-use Rattle.resp_reader.proofs.Rooms.{last_end-at}
+use Rattle.std.proofs.Common.{sym}
+use Rattle.resp_reader.proofs.Rooms.{last_of}
 use Rattle.resp_reader.proofs.word_room.next_start.Goals as goal
 
-pub returns : goal.returns
-returns c = c.start_of.ensures ∙ sym (last_end-at 0 c.args.ends.now)
+pub returns-in-Some : goal.returns-in-Some
+returns-in-Some c = last_of c.args.spans.now c.in-Some.span.now (sym c.in-Some.ensures.value)

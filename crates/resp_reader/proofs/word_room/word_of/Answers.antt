@@ -1,17 +1,14 @@
-use Rattle.std.proofs.Common.{◌∙◌, get_or, slice_range, sym, ap, arith, length}
-use Rattle.resp_reader.proofs.Rooms.{word_at, end_at}
+use Rattle.std.proofs.Common.{◌∙◌, sym, length}
+use Rattle.resp_reader.proofs.Rooms.{word_at, span_at}
 use Rattle.resp_reader.proofs.word_room.word_of.Goals as goal
 
 pub part-requires-clause-ordered : goal.part-requires-clause-ordered
-part-requires-clause-ordered c = let at = end_at 0 c.args.ends.now (length c.args.bytes.now) c.args.i c.requires.ends
-    c.requires.below in omega (arith, at.0, c.start_of.ensures)
+part-requires-clause-ordered c =
+    (span_at 0 c.args.spans.now (length c.args.bytes.now) c.args.i _ c.requires.spans c.requires.below).0
 
 pub part-requires-clause-within : goal.part-requires-clause-within
-part-requires-clause-within c = let at = end_at 0 c.args.ends.now (length c.args.bytes.now) c.args.i c.requires.ends
-    c.requires.below in omega (arith, at.1)
+part-requires-clause-within c =
+    (span_at 0 c.args.spans.now (length c.args.bytes.now) c.args.i _ c.requires.spans c.requires.below).1
 
 pub returns : goal.returns
-returns c =
-    c.part.ensures ∙ ap (λ start. slice_range c.args.bytes.now start (get_or c.args.ends.now c.args.i 0))
-    c.start_of.ensures
-    ∙ sym (word_at 0 c.args.ends.now c.args.bytes.now c.args.i c.requires.below)
+returns c = c.part.ensures ∙ sym (word_at c.args.spans.now c.args.bytes.now c.args.i _ c.requires.below)

@@ -3,6 +3,7 @@ use Rattle.std.specs.List.{range_with_len}
 use Rattle.pin_core.specs.declared.sizes.Sizes.{Sizes}
 use Rattle.command_exec.specs.Passes.{PassView}
 use Rattle.run_resources.proofs.Lists.{count_of}
+use Rattle.run_resources.proofs.Passes.{slots_apart}
 use Rattle.run_resources.proofs.Numbers.{new_count, all_new, pass_numbers, slot_numbers, thresholds}
 use Rattle.run_resources.proofs.resources.open_resources.Goals as goal
 
@@ -82,3 +83,8 @@ pub returns-clause-threshold : goal.returns-clause-threshold
 returns-clause-threshold g c =
     thresholds g.P.PoolName.sizes _ _ _ c.in_ok-pool.field-0.passes.items c.in_ok-slots-2.ensures.passes
     c.in_ok-pool.ensures.passes
+
+pub returns-clause-apart : goal.returns-clause-apart
+returns-clause-apart g c =
+    slots_apart (λ d. d.session.pass) c.in_ok-slots-2.slots.items c.in_ok-pool.field-0.passes.items
+    c.in_ok-slots-2.ensures.passes c.in_ok-pool.ensures.apart

@@ -1,7 +1,7 @@
 use Rattle.std.proofs.Common.{sym, subst}
 use Rattle.session_serve.proofs.Sides.{fresh-told}
 use Rattle.session_serve.specs.Dumps.{DumpCame}
-use Rattle.session_serve.specs.Working.{IsFresh}
+use Rattle.session_pass.specs.Fresh.{IsFresh}
 use Rattle.session_serve.proofs.beside.serve_beside.Goals as goal
 
 pub serve_sides-requires-clause-fresh : goal.serve_sides-requires-clause-fresh

@@ -1,7 +1,7 @@
 use Rattle.std.proofs.Common.{◌≡◌, false, ◌+◌, ◌-◌, List, [], length}
 use Rattle.flake_model.specs.Command.{Command}
 use Rattle.flake_model.specs.Resp.{judged_bytes}
-use Rattle.call_model.specs.Outcomes.{Outcomes}
+use Rattle.shard_core.specs.Outcomes.{Outcomes}
 use Rattle.device_model.specs.Devices.{ForwardsAs}
 use Rattle.reply_planner.specs.Parcels.{texts_in}
 use Rattle.session_serve.specs.Dumps.{CanTake, IsInTime, Stands, as_seeing}

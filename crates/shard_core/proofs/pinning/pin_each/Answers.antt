@@ -2,8 +2,8 @@ use Rattle.std.proofs.Common.{◌≡◌, ℕ, ◌+◌, List, [], ◌∷◌, ◌+
 use Rattle.std.proofs.Common.{arith}
 use Rattle.pinned_pool.specs.declared.view.View.{View}
 use Rattle.frag_value.proofs.Unmarked.{has_unmarked}
-use Rattle.value_pins.specs.Pins.{KeyFrags, pin_holds, pinning}
-use Rattle.value_pins.proofs.PinSteps.{length-pins, pins-append, pinning_both, pinning_none, same_pins}
+use Rattle.frag_value.specs.Pins.{KeyFrags, pin_holds, pinning}
+use Rattle.frag_value.proofs.PinSteps.{length-pins, pins-append, pinning_both, pinning_none, same_pins}
 use Rattle.shard_core.specs.Kept.{Entries}
 use Rattle.shard_core.specs.Rooms.{FitRooms, key_frags}
 use Rattle.shard_core.proofs.PinnedAll.{Entry, drop_here, no_room_left, frags_in, pairs_more, frags_more}

@@ -1,6 +1,6 @@
 use Rattle.std.proofs.Common.{◌≡◌, ◌≤◌, length, take, drop, vec_len, vec_capacity}
 use Rattle.frag_value.specs.Values.{unmarked_view}
-use Rattle.value_pins.specs.Pins.{all_frags, pin_holds, pinning}
+use Rattle.frag_value.specs.Pins.{all_frags, pin_holds, pinning}
 use Rattle.shard_core.specs.Rooms.{FitRooms, key_frags}
 use Rattle.shard_core.proofs.pinning.pin_each.Given as goal
 

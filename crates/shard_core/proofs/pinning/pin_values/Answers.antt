@@ -1,7 +1,7 @@
 use Rattle.std.proofs.Common.{List, sym, ap, ◌∙◌, subst}
 use Rattle.view_sums.specs.Total.{Each}
 use Rattle.frag_value.specs.Values.{IsFilled}
-use Rattle.value_pins.specs.Pins.{KeyFrags, all_frags, pairs_shown}
+use Rattle.frag_value.specs.Pins.{KeyFrags, all_frags, pairs_shown}
 use Rattle.shard_core.proofs.Holds.{marked_held, poor-marked}
 use Rattle.shard_core.proofs.PinnedAll.{filled_all, sorted_held, shows_store}
 use Rattle.shard_core.proofs.pinning.pin_values.Goals as goal

@@ -1,8 +1,5 @@
-use Rattle.std.proofs.Common.{◌≡◌, length}
+use Rattle.std.proofs.Common.{length}
 use Rattle.test_text.proofs.requests.lend.Given as goal
-
-abbrev pub invariant-loop-request : goal.invariant-loop-request
-invariant-loop-request g l = l.reader.closed ≡ l.fn.reader.closed
 
 abbrev pub decreases-loop-request : goal.decreases-loop-request
 decreases-loop-request g l = length l.reader.requests

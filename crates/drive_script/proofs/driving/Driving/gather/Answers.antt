@@ -7,7 +7,8 @@ returns-clause-right g c = λ first events was.
     gather_goes_on _ _ _ first _ _ events _ c.in-Some.wire c.gather-wire.result.0
     (sym c.take.ensures.value ∙ c.in-Some.is) c.gather-wire.ensures.ring c.gather-wire.ensures.pass
     c.gather-wire.ensures.posted refl refl refl refl
-    (λ start given lane. c.gather-wire.ensures.right _ start given _ events lane) c.gather-wire.ensures.runs was
+    (λ start given connection. c.gather-wire.ensures.right _ start given _ events connection) c.gather-wire.ensures.runs
+    was
 
 pub returns-clause-flushed : goal.returns-clause-flushed
 returns-clause-flushed g c = λ none.

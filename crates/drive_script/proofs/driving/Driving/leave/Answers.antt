@@ -15,8 +15,9 @@ close-seat-requires-clause-told g c = λ _ _. let going = c.requires.going in
 pub returns : goal.returns
 returns g c =
     let end_is = c.close-seat.ensures.end
-    ∙ (λ i. ended_at (c.unwrap_or.ensures i) (c.taken.ensures i) (length c.gather_all.new.self.lane.session.posted)
-    c.gather_all.new.self.lane.device.failed) in
+    ∙ (λ i. ended_at (c.unwrap_or.ensures i) (c.taken.ensures i) (length
+    c.gather_all.new.self.connection.session.posted)
+    c.gather_all.new.self.connection.device.failed) in
     record {
       left = λ first events is.
           has_left _ _ _ first _ events (c.gather_all.ensures.right first events is) c.close-seat.result.end

@@ -1,4 +1,5 @@
 use Rattle.std.proofs.Common.{rules, Some, sym, subst}
+use Rattle.std.specs.Prelude.{⊤}
 use Rattle.atomic_table.specs.Table.{Allows}
 use Rattle.handover_slot.specs.Lying.{IsKept}
 use Rattle.handover_slot.proofs.Steps.{gives-value, holds-then}
@@ -12,7 +13,7 @@ store-requires g c =
     in (
       search rules,
       search rules,
-      subst (λ n. Allows (λ s. IsKept fits s.words s.homes) n seat.id seat.me 0 (λ _. 2) (λ _ _. Unit {0}))
+      subst (λ n. Allows (λ s. IsKept fits s.words s.homes) n seat.id seat.me 0 (λ _. 2) (λ _ _. ⊤))
           (sym c.self.invariant.slots)
           (gives-value fits seat.id seat.me c.args.value only (rw c.self.view_is c.requires)),
     )

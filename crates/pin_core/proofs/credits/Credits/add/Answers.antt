@@ -1,5 +1,5 @@
 use Rattle.std.proofs.Common.{◌≡◌, ◌+◌, ◌++◌, replicate, length, sym, ap, subst, ◌∙◌, arith}
-use Rattle.std.specs.Prelude.{Some, None, position, Result, OnOk}
+use Rattle.std.specs.Prelude.{Some, None, position, Result, OnOk, ⊤}
 use Rattle.view_sums.specs.Total.{SameItems}
 use Rattle.pin_core.proofs.Found.{is_none}
 use Rattle.pin_core.proofs.AccountSums.{read-le, read_single, read_more, single-added, credits-added}
@@ -48,7 +48,7 @@ invariant_of-self-in-None c =
 
 pub returns-after-push-clause-ok : goal.returns-after-push-clause-ok
 returns-after-push-clause-ok c =
-    let P : Result (Unit {0}) Memory
+    let P : Result ⊤ Memory
     → Type 0 = λ r. OnOk r
     (SameItems (account_credits c.push.new.self.items) (replicate c.args.credits c.args.holder ++ c.args.self.now))
     in

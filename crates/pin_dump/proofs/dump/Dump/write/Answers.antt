@@ -1,7 +1,7 @@
 use Rattle.std.proofs.Common.{rules, ◌≡◌, List, false, length, sym, ap, ◌∙◌}
 use Rattle.any_wire.proofs.Sending.{sends-same}
 use Rattle.dump_model.specs.Dump.{pairs_text}
-use Rattle.value_pins.specs.Pins.{KeyFrags, pairs_shown}
+use Rattle.frag_value.specs.Pins.{KeyFrags, pairs_shown}
 use Rattle.pin_dump.specs.Dumps.{DumpView}
 use Rattle.pin_dump.proofs.Emptied.{text-length}
 use Rattle.pin_dump.proofs.Flushed.{flushed}

@@ -1,4 +1,5 @@
 use Rattle.std.proofs.Common.{sym, ◌∙◌, ap, subst}
+use Rattle.std.specs.Prelude.{⊤}
 use Rattle.atomic_table.specs.declared.shared.Seat.{Seat}
 use Rattle.pin_core.specs.declared.sizes.Sizes.{Sizes}
 use Rattle.pinned_pool.specs.Named.{ClaimsAreNearby}
@@ -15,7 +16,7 @@ returns-clause-end g c = let named = c.args.self.named in let sized = c.args.sel
     c.close_with-closed.ensures.values.2 in
     end_same g.N.PoolName.sizes c.args.self.table.shared.key _ c.args.seat _ c.args.self.small c.args.self.large _ _
     named.sizes_are (subst (Ended c.args.self.table.shared.key _) c.seat.view_is t)
-    (ap (λ (m : Seat (Unit {0}) View). m.me.0) c.of-last.ensures ∙ c.seat.view_is) sized.0 sized.1
+    (ap (λ (m : Seat ⊤ View). m.me.0) c.of-last.ensures ∙ c.seat.view_is) sized.0 sized.1
     c.count_held.ensures c.count_held-2.ensures
 
 pub returns-clause-loose : goal.returns-clause-loose

@@ -1,4 +1,5 @@
 use Rattle.std.proofs.Common.{sym, ◌∙◌, subst}
+use Rattle.std.specs.Prelude.{⊤}
 use mathlib.Core.Option.{none}
 use Rattle.atomic_table.specs.Table.{Me}
 use Rattle.pinned_pool.specs.Views.{IsLoose, OneFront}
@@ -34,7 +35,7 @@ invariant_of-into g c =
     let was = c.into.invariant in
     let mine = c.into.inside.seat.me in
     let other = c.from.inside.seat.me in
-    let loose = subst (λ (m : Me (Unit {0}) View). IsLoose m.0) joins.2 loads.2.1 in
-    let fronts = subst (λ (m : Me (Unit {0}) View). OneFront m.0) joins.2 loads.2.2 in
+    let loose = subst (λ (m : Me ⊤ View). IsLoose m.0) joins.2 loads.2.1 in
+    let fronts = subst (λ (m : Me ⊤ View). OneFront m.0) joins.2 loads.2.2 in
     next_seat _ _ _ _ mine _ _ was (loads.0 ∙ joins.0) (loads.2.0 ∙ joins.2)
     (seat_joined g.N.PoolName.sizes mine.0 was.kept other.0 c.from.invariant.kept loose fronts)

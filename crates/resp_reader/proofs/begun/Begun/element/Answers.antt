@@ -13,8 +13,8 @@ returns-clause-sound c =
     c.requires.sound) in
     let at : IsState (AtWord c.in-AtWord.count) words word = subst (λ s. IsState s words word) c.in-AtWord.is moved.0
     in
-    words_sound c.in-AtWord.count c.count.result c.behind_words-self.result c.take_words.new.room.words
-    c.take_words.new.room.word c.in_ok-rest.ensures.words c.in_ok-rest.ensures.word at.0.most c.count.ensures
+    words_sound c.in-AtWord.count c.count.result c.behind_words-self.result c.take_whole.new.self.words
+    c.take_whole.new.self.word c.in_ok-rest.ensures.words c.in_ok-rest.ensures.word at.0.most c.count.ensures
     c.behind_words-self.ensures.whole c.behind_words-self.ensures.more
 
 pub returns-clause-ok : goal.returns-clause-ok
@@ -28,6 +28,6 @@ returns-clause-ok c =
     moved.1 ∙ ap (λ s. state_front s words word ++ behind) c.in-AtWord.is in
     ap (λ s. state_front s words word ++ c.args.bytes.now) c.requires.state ∙ front ∙ c.in_ok-rest.ensures.ok
     ∙ ap (λ (f : List ℕ). f ++ c.in_ok-rest.rest.now)
-    (sym (words_front c.in-AtWord.count c.count.result c.behind_words-self.result c.take_words.new.room.words
-    c.take_words.new.room.word c.in_ok-rest.ensures.words c.count.ensures c.behind_words-self.ensures.whole
+    (sym (words_front c.in-AtWord.count c.count.result c.behind_words-self.result c.take_whole.new.self.words
+    c.take_whole.new.self.word c.in_ok-rest.ensures.words c.count.ensures c.behind_words-self.ensures.whole
     c.behind_words-self.ensures.more))

@@ -1,5 +1,5 @@
 use Rattle.std.proofs.Common.{length, ap, arith}
-use Rattle.resp_reader.proofs.Rooms.{length-words_to}
+use Rattle.resp_reader.proofs.Rooms.{length-words_at}
 use Rattle.resp_reader.proofs.word_room.WordRoom.word.Goals as goal
 
 pub word_of-requires-clause-below : goal.word_of-requires-clause-below
@@ -9,7 +9,7 @@ word_of-requires-clause-below c =
       arith,
       c.requires,
       ap (λ r. length r.words) c.self.view_is,
-      length-words_to 0 room.ends.items
+      length-words_at room.spans.items
           room.bytes.items,
       ap length c.deref-2.ensures.value,
     )

@@ -1,7 +1,7 @@
 use Rattle.std.proofs.Common.{◌≡◌, ◌+◌, ◌-◌, List, length}
 use Rattle.flake_model.specs.Command.{Command}
 use Rattle.flake_model.specs.Resp.{judged_bytes}
-use Rattle.call_model.specs.Outcomes.{Outcomes}
+use Rattle.shard_core.specs.Outcomes.{Outcomes}
 use Rattle.session_serve.specs.Dumps.{CanTake, IsInTime, Stands, as_seeing}
 use Rattle.session_serve.specs.Working.{IsWorking}
 use Rattle.session_serve.proofs.session_side.SessionSide.run.Given as goal

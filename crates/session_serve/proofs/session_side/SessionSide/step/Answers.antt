@@ -60,4 +60,4 @@ returns-in-Err-called-clause-ring g c =
 pub returns-clause-ring : goal.returns-clause-ring
 returns-clause-ring g c =
     let posted = c.in-Ok-called.ensures.posted in
-    posted.posts.rest.ring ∙ posted.waited.keeps.rest.ring ∙ ap (λ s. s.ring) c.take_before_call.ensures.session.rest
+    posted.posts.2.rest.ring ∙ posted.waited.keeps.rest.ring ∙ ap (λ s. s.ring) c.take_before_call.ensures.session.rest

@@ -9,10 +9,10 @@ use Rattle.order_book.specs.Pages.{ShardList, SessionList}
 use Rattle.shard_core.specs.ShardMaps.{ShardState}
 use Rattle.shard_core.specs.declared.answer.PartAnswer.TheVariants as say
 use Rattle.shard_part.specs.Parts.{operation_of}
-use Rattle.call_model.specs.Outcomes.{PartOutcome}
+use Rattle.shard_core.specs.Outcomes.{PartOutcome}
 use Rattle.shard_store.specs.Shards.{IsShard, answer_after, found_after, first_after}
 use Rattle.shard_store.proofs.Histories.{grows, stored_are, entered_shard, entered_session, pieces-found, stays}
-use Rattle.shard_store.proofs.Histories.{only_writes, key-part, refused, needed, wanting, paid_part, seat_kept, on_err}
+use Rattle.shard_store.proofs.Histories.{may_miss, key-part, refused, needed, wanting, paid_part, seat_kept, on_err}
 use Rattle.shard_store.proofs.Reached.{reaches}
 use Rattle.shard_store.proofs.Stored.{in_buffers}
 use Rattle.shard_store.proofs.Unstored.{unstored, would_put, shown_answer}
@@ -171,7 +171,7 @@ returns-in-Err-NoBuffer-clause-part g c =
       told = record {
         outcome = None;
         run = record {
-          is = only_writes z op c.args.payer.now c.apply.new.payer none.0;
+          is = may_miss z op c.args.payer.now c.apply.new.payer none.0;
           told = sym (append-nil c.args.mine.now.told);
           sought = paid_part z op None c.args.payer.now c.apply.new.payer none.0;
           free = absurd;

@@ -1,4 +1,0 @@
-use Rattle.test_pool.proofs.values.share_between.Given as goal
-
-abbrev pub ghosts-share : goal.ghosts-share
-ghosts-share a = record { table = a.blank.table; sizes = a.blank.sizes }

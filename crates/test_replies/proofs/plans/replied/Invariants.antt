@@ -1,4 +1,0 @@
-use Rattle.test_replies.proofs.plans.replied.Given as goal
-
-abbrev pub ghosts-reply_to : goal.ghosts-reply_to
-ghosts-reply_to a = record { table = a.blank.table; sizes = a.blank.sizes }

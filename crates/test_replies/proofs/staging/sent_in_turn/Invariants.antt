@@ -1,4 +1,0 @@
-use Rattle.test_replies.proofs.staging.sent_in_turn.Given as goal
-
-abbrev pub ghosts-send_in_turn : goal.ghosts-send_in_turn
-ghosts-send_in_turn a = record { table = a.blank.table; sizes = a.blank.sizes }

@@ -1,4 +1,0 @@
-pub mod PinSteps
-pub mod PutSteps
-pub mod FewSteps
-pub mod Returned
