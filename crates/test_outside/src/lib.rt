@@ -1,4 +1,4 @@
-//! Tests of lists, and of the outside in memory and over real files, by public items.
+//! Tests of what lies outside, in memory and over real files, of wires and of frames, and of lists, by public items.
 #![tactic(auto)]
 
 #[cfg(test)]
@@ -8,6 +8,14 @@ mod faulty;
 #[cfg(test)]
 mod files;
 #[cfg(test)]
+mod frame_cases;
+#[cfg(test)]
+mod framed_replies;
+#[cfg(test)]
+mod frames;
+#[cfg(test)]
 mod memory;
 #[cfg(test)]
 mod outside;
+#[cfg(test)]
+mod wires;

@@ -436,21 +436,36 @@ fn a_look_answers_how_many_deeds_the_shard_has(rt: HostRuntime) -> Result<(), Fa
     Ok(())
 }
 
+fn shard_numbers_of<N: BookName>(alloc: Global, seats: &ShardSeats<N>) -> Result<Vec<u16>, Memory> {
+    let mut numbers = Vec::new(alloc);
+    for i in 0..seats.len() {
+        numbers.push(seats.get(i).shard())?;
+    }
+    Ok(numbers)
+}
+
+fn session_numbers_of<N: BookName>(
+    alloc: Global,
+    seats: &SessionSeats<N>,
+) -> Result<Vec<u16>, Memory> {
+    let mut numbers = Vec::new(alloc);
+    for i in 0..seats.len() {
+        numbers.push(seats.get(i).session())?;
+    }
+    Ok(numbers)
+}
+
 // The numbers that the seats of a new book tell, from the first on.
 fn numbers_of<N: BookName>(alloc: Global, blank: BookBlank) -> Result<(Vec<u16>, Vec<u16>), Memory>
     requires { (N.table ≡ blank.table) × (N.sizes ≡ blank.sizes) }
 {
     let (book, shards, sessions) = blank.name::<N>();
-    let mut shard_numbers = Vec::new(alloc);
-    for i in 0..shards.len() {
-        shard_numbers.push(shards.get(i).shard())?;
-    }
-    let mut session_numbers = Vec::new(alloc);
-    for i in 0..sessions.len() {
-        session_numbers.push(sessions.get(i).session())?;
-    }
+    let numbers = (
+        shard_numbers_of(alloc, &shards)?,
+        session_numbers_of(alloc, &sessions)?,
+    );
     book.close(shards, sessions);
-    Ok((shard_numbers, session_numbers))
+    Ok(numbers)
 }
 
 #[test]

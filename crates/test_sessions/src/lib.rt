@@ -1,4 +1,4 @@
-//! Tests of sessions that are served and driven, by public items.
+//! Tests of sessions that are served and driven, of transcripts and of reports, by public items.
 #![tactic(auto)]
 
 #[cfg(test)]
@@ -15,3 +15,7 @@ mod driven;
 mod generated;
 #[cfg(test)]
 mod inputs;
+#[cfg(test)]
+mod lines;
+#[cfg(test)]
+mod reports;

@@ -1,4 +1,5 @@
-//! Tests of what reads, judges and writes texts: requests, commands, journals, schedules and replies, by public items.
+//! Tests of what reads, judges and writes texts: requests, commands, journals, schedules, replies and the words of the
+//! command line, by public items.
 #![tactic(auto)]
 
 #[cfg(test)]
@@ -9,6 +10,8 @@ mod commands;
 mod files;
 #[cfg(test)]
 mod journals;
+#[cfg(test)]
+mod needs;
 #[cfg(test)]
 mod pumps;
 #[cfg(test)]
@@ -25,3 +28,5 @@ mod stored;
 mod texts;
 #[cfg(test)]
 mod verdicts;
+#[cfg(test)]
+mod words;

@@ -1,6 +1,6 @@
 //! What words ask to join.
 use crate::checks::holds;
-use crate::typing::typed;
+use crate::words::typing::typed;
 use command_line::{JoinTask, join_task};
 use flake_base::Memory;
 use std::alloc::Global;

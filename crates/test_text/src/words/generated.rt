@@ -1,6 +1,6 @@
 //! What words ask `gen` for.
 use crate::checks::holds;
-use crate::typing::typed;
+use crate::words::typing::typed;
 use command_line::{GenTask, gen_task};
 use flake_base::Memory;
 use std::alloc::Global;

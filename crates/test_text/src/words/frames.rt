@@ -1,7 +1,7 @@
 //! What words ask to serve in frames.
 use crate::checks::holds;
-use crate::tasks::USUAL;
-use crate::typing::{are_words, typed};
+use crate::words::tasks::USUAL;
+use crate::words::typing::{are_words, typed};
 use command_line::{FramesTask, SizeOptions, frames_task};
 use flake_base::Memory;
 use std::alloc::Global;

@@ -1,6 +1,6 @@
 //! What words ask to serve, and to check.
 use crate::checks::holds;
-use crate::typing::{are_words, typed};
+use crate::words::typing::{are_words, typed};
 use command_line::{
     CheckTask, CommandName, DriveTask, ServeTask, SizeOptions, check_task, command_name,
     drive_task, serve_task,
