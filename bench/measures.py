@@ -21,8 +21,9 @@ BUILT = os.path.join(TOP, "crates", "flake_program", "out", "flake_program")
 REQUESTS, BYTES = 100_000, 40_000_000
 SHARDS = 8  # as many as `serve` has, where it isn't told another number
 
-# Seconds of processor time, user and system, and of the clock; and the most memory at once, in KiB.
-Cost = collections.namedtuple("Cost", "processor clock memory")
+# Seconds of processor time, in the program and in the kernel; those of them in the kernel; seconds of the clock; and the
+# most memory at once, in KiB.
+Cost = collections.namedtuple("Cost", "processor kernel clock memory")
 # What one more request takes: instructions, and how often memory is taken.
 Count = collections.namedtuple("Count", "instructions taken")
 
@@ -121,7 +122,7 @@ class Run:
         self.child.returncode = -os.WTERMSIG(status) if os.WIFSIGNALED(status) else os.WEXITSTATUS(status)
         if self.child.returncode != 0:
             refuse(f"{' '.join(map(str, self.command))} ended with status {self.child.returncode}")
-        return Cost(usage.ru_utime + usage.ru_stime, clock, self.memory)
+        return Cost(usage.ru_utime + usage.ru_stime, usage.ru_stime, clock, self.memory)
 
 
 def remove_replies(folder):

@@ -10,7 +10,7 @@ use command_parts::Command;
 use flake_base::{Entry, Memory, Segs};
 use order_book::BookName;
 use pinned_pool::PoolName;
-use reply_planner::{Parcel, Plan};
+use reply_planner::{Need, Parcel, Plan};
 use std::sync::Wait;
 
 /// Why a call is not executed.
@@ -41,12 +41,47 @@ pub fn execute<R: Wait, N: BookName, P: PoolName>(
     ensures spare { OnOk result
         (stored.old.spare + length stored.old.items ≤ stored.new.spare + length stored.new.items) }
 {
+    execute_needing(
+        rt,
+        shop,
+        pass,
+        session,
+        call,
+        command,
+        command.need(),
+        stored,
+    )
+}
+
+/// The same, told what the command needs.
+pub fn execute_needing<R: Wait, N: BookName, P: PoolName>(
+    rt: &R,
+    shop: &Shop<'_, N, P>,
+    pass: &mut Pass<N, P>,
+    session: u16,
+    call: u32,
+    command: &Command,
+    need: Need,
+    stored: &mut Segs,
+) -> Result<Parcel<P>, ExecError>
+    requires need { need ≡ need_of command.now }
+    requires stage { (need_of command.now).stage ≤ length pass.old.free }
+    requires credits { (need_of command.now).descriptors + 5 ≤ pass.old.seat.credits }
+    requires spare { frags_limit ≤ stored.old.spare }
+    requires session { session ≡ pass.old.list.number }
+    ensures reply { IfOk result (λ parcel. Executes P.sizes N.sizes.shards command.now call pass.old pass.new parcel
+        stored.old.items stored.new.items) }
+    ensures memory { OnErr result (FallsShort P.sizes N.sizes.shards command.now call pass.old pass.new) }
+    ensures untold { OnErr result (stored.new.items ≡ stored.old.items) }
+    ensures spare { OnOk result
+        (stored.old.spare + length stored.old.items ≤ stored.new.spare + length stored.new.items) }
+{
     let _ = pass.stage.free();
     let Ok(mut plan) = Plan::start(
         shop.pool,
         &mut pass.seat,
         &mut pass.stage,
-        command.need(),
+        need,
         pass.threshold,
     ) else {
         return Err(ExecError::Memory);

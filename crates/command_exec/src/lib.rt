@@ -8,6 +8,6 @@ mod parts;
 mod pass;
 mod shop;
 
-pub use executing::{ExecError, execute};
+pub use executing::{ExecError, execute, execute_needing};
 pub use pass::Pass;
 pub use shop::Shop;

@@ -235,3 +235,16 @@ both_read a m n j k from buffer_words xs first last size whole fits sum one two 
     (λ t. front t ++ (last ++ drop k (behind t))) ∙ ap (λ l. first ++ (last ++ l)) none
     ∙ ap (λ l. first ++ l) (append-nil last) ∙ (λ t. one t ++ two t)
     ∙ sym (part-more a m from xs) ∙ ap (λ c. take c (drop from xs)) sum
+
+-- one line more of a run
+pub next_line_put : (b i k : ℕ) (bytes line : List ℕ) (u v w : View) → 64 * k + 64 ≤ length bytes
+    → PutsBytes b i (take (64 * k) bytes) u v → line ≡ take 64 (drop (64 * k) bytes) → PutsBytes b (i + 8 * k) line v w
+    → PutsBytes b i (take (64 * (k + 1)) bytes) u w
+next_line_put b i k bytes line u v w fits was is one =
+    let front = take (64 * k) bytes in
+    let long : length front ≡ 64 * k = omega (arith, length-take (64 * k) bytes) in
+    let more : take (64 * (k + 1)) bytes ≡ front ++ line =
+    (let n : 64 * (k + 1) ≡ 64 * k + 64 = omega arith in ap (λ m. take m bytes) n) ∙ take-more (64 * k) 64 bytes
+    ∙ ap (λ l. front ++ l) (sym is) in
+    puts_same b i (front ++ line) (take (64 * (k + 1)) bytes) u w (sym more)
+    (puts_then b i (i + 8 * k) front line u v w (omega (arith, long)) (omega (arith, long)) was one)

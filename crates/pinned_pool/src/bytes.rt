@@ -32,8 +32,47 @@ fn short_word(bytes: &[u8]) -> u64
 }
 
 impl<N: PoolName> Pool<N> {
+    // Writes eight words, a line. Their number is fixed, so that the compiler lays the stores out one after another.
+    fn put_line(
+        &self,
+        seat: &mut PoolSeat<N>,
+        buffer: u32,
+        first: usize,
+        index: usize,
+        bytes: &[u8],
+    )
+        requires line { length bytes.now ≡ 64 }
+        requires first { (buffer < buffers N.sizes) × (first ≡ word_at N.sizes buffer 0) }
+        requires exclusive { 0 < total (sole_at buffer) seat.old.holds }
+        requires index { (index ≤ length (front_of buffer seat.old.holds))
+            × (8 * index + length bytes.now ≤ 8 * buffer_words N.sizes buffer) }
+        ensures { PutsBytes buffer index bytes.now seat.old seat.new }
+    {
+        for k in 0..8 {
+            let word = whole_word(&bytes[8 * k..8 * k + 8]);
+            self.put_at::<Brand>(seat, buffer, first, index + k, word);
+        }
+    }
+
+    // Writes whole lines.
+    fn put_lines(&self, seat: &mut PoolSeat<N>, hold: &Hold<N>, index: u32, bytes: &[u8])
+        requires whole { length bytes.now % 64 ≡ 0 }
+        requires exclusive { 0 < total (sole_at hold.now.buffer) seat.old.holds }
+        requires index { (index ≤ length (front_of hold.now.buffer seat.old.holds))
+            × (8 * index + length bytes.now ≤ 8 * buffer_words N.sizes hold.now.buffer) }
+        ensures { PutsBytes hold.now.buffer index bytes.now seat.old seat.new }
+    {
+        let buffer = hold.buffer();
+        let first = self.first_word(buffer);
+        let index = index as usize;
+        for k in 0..bytes.len() / 64 {
+            let line = &bytes[64 * k..64 * k + 64];
+            self.put_line(seat, buffer, first, index + 8 * k, line);
+        }
+    }
+
     // Writes whole words.
-    fn put_whole(&self, seat: &mut PoolSeat<N>, hold: &Hold<N>, index: u32, bytes: &[u8])
+    fn put_words(&self, seat: &mut PoolSeat<N>, hold: &Hold<N>, index: u32, bytes: &[u8])
         requires whole { length bytes.now % 8 ≡ 0 }
         requires exclusive { 0 < total (sole_at hold.now.buffer) seat.old.holds }
         requires index { (index ≤ length (front_of hold.now.buffer seat.old.holds))
@@ -46,6 +85,22 @@ impl<N: PoolName> Pool<N> {
         for k in 0..bytes.len() / 8 {
             let word = whole_word(&bytes[8 * k..8 * k + 8]);
             self.put_at::<Brand>(seat, buffer, first, index + k, word);
+        }
+    }
+
+    // Writes whole words, the most of them in lines.
+    fn put_whole(&self, seat: &mut PoolSeat<N>, hold: &Hold<N>, index: u32, bytes: &[u8])
+        requires whole { length bytes.now % 8 ≡ 0 }
+        requires exclusive { 0 < total (sole_at hold.now.buffer) seat.old.holds }
+        requires index { (index ≤ length (front_of hold.now.buffer seat.old.holds))
+            × (8 * index + length bytes.now ≤ 8 * buffer_words N.sizes hold.now.buffer) }
+        ensures { PutsBytes hold.now.buffer index bytes.now seat.old seat.new }
+    {
+        let lines = bytes.len() / 64;
+        self.put_lines(seat, hold, index, &bytes[..64 * lines]);
+        if 64 * lines < bytes.len() {
+            let rest = &bytes[64 * lines..];
+            self.put_words(seat, hold, index + 8 * lines as u32, rest);
         }
     }
 
@@ -168,6 +223,7 @@ impl<N: PoolName> Pool<N> {
     }
 
     // Reads bytes from a word's first one on.
+    #[inline(always)]
     fn load_aligned(&self, seat: &mut PoolSeat<N>, buffer: u32, index: u32, room: &mut [u8])
         requires held { 0 < total (at buffer) seat.old.holds }
         requires inside { 8 * index + length room.old ≤ 8 * length (front_of buffer seat.old.holds) }
@@ -191,6 +247,7 @@ impl<N: PoolName> Pool<N> {
 
     /// Reads bytes of the front of a buffer that the seat holds, from an offset on, into the whole room. Each word is
     /// loaded in a single step.
+    #[inline(always)]
     pub fn load_bytes(&self, seat: &mut PoolSeat<N>, buffer: u32, from: u32, room: &mut [u8])
         requires held { 0 < total (at buffer) seat.old.holds }
         requires inside { from + length room.old ≤ 8 * length (front_of buffer seat.old.holds) }

@@ -61,6 +61,7 @@ fn append_long_head(text: &mut Vec<u8>, len: u64)
 }
 
 /// Puts the head of a bulk string at the end. One of few digits is written at once.
+#[inline(always)]
 pub(crate) fn append_head(text: &mut Vec<u8>, len: u64)
     requires few { len ≤ 65536 }
     requires room { length text.old.items + 8 ≤ vec_capacity text.old }

@@ -80,6 +80,7 @@ impl<N: PoolName> Parcel<N> {
     }
 
     /// Bytes of a segment, as many as the room has.
+    #[inline(always)]
     pub fn load_bytes(&mut self, pool: &Pool<N>, buffer: u32, from: u32, room: &mut [u8])
         requires { HasBytes N.sizes self.old.segments buffer from (length room.old) }
         ensures same { self.new ≡ self.old }

@@ -31,6 +31,7 @@ pub(crate) fn unpin_all<N: PoolName>(
 
 /// Takes a parcel back: its staging buffers are free again, without a count step, and all its other holds are given
 /// back. The answer is how many of these were the last of their buffers.
+#[inline(always)]
 pub fn give_back<N: PoolName>(
     parcel: Parcel<N>,
     pool: &Pool<N>,

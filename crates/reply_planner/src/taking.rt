@@ -78,6 +78,7 @@ fn stays(threshold: u32, len: u32) -> bool
 
 impl<'a, N: PoolName> Plan<'a, N> {
     // A run that is copied.
+    #[inline(always)]
     fn copy_part(
         &mut self,
         pool: &Pool<N>,

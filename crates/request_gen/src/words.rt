@@ -1,5 +1,5 @@
 // The words of a request, as the items of an array.
-ghost use Rattle.std.specs.Prelude.{◌≡◌, ◌<◌, [], ◌∷◌, Some, IfOk, map, string_bytes};
+ghost use Rattle.std.specs.Prelude.{◌≡◌, ◌<◌, [], ◌∷◌, ◌++◌, Some, IfOk, map, string_bytes};
 ghost use Rattle.resp_text.specs.Meaning.{item_meaning};
 ghost use Rattle.request_gen.specs.Requests.{IsKey, IsRequest};
 ghost use Rattle.request_gen.specs.Words.{key_text, letter_of, value_of, generated_words};
@@ -57,12 +57,26 @@ fn four_keys(alloc: Global, session: u16, n: u16) -> Result<Items, Memory>
         (λ words. map item_meaning words.items ≡ map Some (generated_words session (DrawnRequest.GetFour n))) }
 {
     let next = (n + 1) % 16;
-    let name = word(alloc, b"MGET")?;
-    let shared = key_word(alloc, session, Key::Shared(n))?;
-    let own = key_word(alloc, session, Key::Own(n))?;
-    let next_shared = key_word(alloc, session, Key::Shared(next))?;
-    let next_own = key_word(alloc, session, Key::Own(next))?;
-    Ok(Items::from_vec(vec![in alloc; name, shared, own, next_shared, next_own]?))
+    let mut words = vec![in alloc; word(alloc, b"MGET")?]?;
+    push_key(alloc, session, Key::Shared(n), &mut words)?;
+    push_key(alloc, session, Key::Own(n), &mut words)?;
+    push_key(alloc, session, Key::Shared(next), &mut words)?;
+    push_key(alloc, session, Key::Own(next), &mut words)?;
+    Ok(Items::from_vec(words))
+}
+
+// Puts a key behind the words.
+fn push_key(
+    alloc: Global,
+    session: u16,
+    key: Key,
+    words: &mut Vec<Option<Bytes>>,
+) -> Result<(), Memory>
+    ensures { IfOk result (λ _. map item_meaning words.new.items
+        ≡ map item_meaning words.old.items ++ Some (key_text session key) ∷ []) }
+{
+    words.push(key_word(alloc, session, key)?)?;
+    Ok(())
 }
 
 fn word(alloc: Global, bytes: &[u8]) -> Result<Option<Bytes>, Memory>

@@ -57,6 +57,7 @@ impl<N: BookName, P: PoolName + Send> Session<N, P> {
     }
 
     /// The same where nobody asks for the segments.
+    #[inline(always)]
     pub fn call_untold<R: Wait>(
         &mut self,
         rt: &R,
@@ -73,8 +74,8 @@ impl<N: BookName, P: PoolName + Send> Session<N, P> {
         if self.stopped {
             return Err(CallError::Memory);
         }
-        let (reaped, _) = self.make_room(shop, command)?;
-        match self.post_untold(rt, shop, command) {
+        let (reaped, need) = self.make_room(shop, command)?;
+        match self.post_untold(rt, shop, command, need) {
             Ok(call) => Ok(Posted { call, reaped }),
             Err(ExecError::Memory) => Err(CallError::Memory),
         }
@@ -86,8 +87,10 @@ impl<N: BookName, P: PoolName + Send> Session<N, P> {
         rt: &R,
         shop: &Shop<'_, N, P>,
         command: &Command,
+        need: Need,
     ) -> Result<u32, ExecError>
         requires few { length self.old.posted < 2 ^ 32 - 1 }
+        requires need { need ≡ need_of command.now }
         requires fits { FitsBeside self.old.ring self.old.pass.stage (waiting self.old 0) (need_of command.now) }
         ensures posted { IfOk result
             (λ call. PostsOne P.sizes N.sizes.shards command.now self.old self.new call 0) }
@@ -100,7 +103,7 @@ impl<N: BookName, P: PoolName + Send> Session<N, P> {
             call,
             part: 0,
         };
-        match run_untold(rt, shop, &mut self.pass, &mut self.ready, at, command) {
+        match run_untold(rt, shop, &mut self.pass, &mut self.ready, at, command, need) {
             Ok(parcel) => {
                 parcel.is_parcel();
                 self.calls += 1;

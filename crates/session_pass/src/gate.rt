@@ -11,5 +11,6 @@ pub trait Gate: Sync {
 pub struct NoGate;
 
 impl Gate for NoGate {
+    #[inline(always)]
     fn before<R: Wait>(&self, _rt: &R, _session: u16, _call: u32) {}
 }

@@ -25,6 +25,7 @@ impl<N: BookName, P: PoolName + Send> Session<N, P> {
     }
 
     /// Gives the oldest replies back, as long as a command's need isn't there. The answer is how many, and the need.
+    #[inline(always)]
     pub(crate) fn make_room(
         &mut self,
         shop: &Shop<'_, N, P>,

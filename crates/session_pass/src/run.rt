@@ -5,7 +5,7 @@ ghost use Rattle.command_exec.specs.Executed.{FallsShort};
 ghost use Rattle.session_pass.specs.Running.{RunsCommand, RunsUntold};
 
 use crate::ready::Ready;
-use command_exec::{ExecError, Pass, Shop, execute};
+use command_exec::{ExecError, Pass, Shop, execute_needing};
 use command_parts::Command;
 use flake_base::{Entry, Seg, Segs};
 use order_book::BookName;
@@ -38,7 +38,7 @@ pub(crate) fn run<R: Wait, N: BookName, P: PoolName>(
     if sent.reserve(need.descriptors as usize).is_err() {
         return Err(ExecError::Memory);
     }
-    let (parcel, fragments) = run_parts(rt, shop, pass, ready, at, command)?;
+    let (parcel, fragments) = run_parts(rt, shop, pass, ready, at, command, need)?;
     ready.hand_out(fragments, stored);
     tell(&parcel, sent);
     Ok(parcel)
@@ -52,7 +52,9 @@ pub(crate) fn run_untold<R: Wait, N: BookName, P: PoolName>(
     ready: &mut Ready,
     at: Entry,
     command: &Command,
+    need: Need,
 ) -> Result<Parcel<P>, ExecError>
+    requires need { need ≡ need_of command.now }
     requires stage { (need_of command.now).stage ≤ length pass.old.free }
     requires credits { (need_of command.now).descriptors + 5 ≤ pass.old.seat.credits }
     requires session { at.session ≡ pass.old.list.number }
@@ -60,7 +62,19 @@ pub(crate) fn run_untold<R: Wait, N: BookName, P: PoolName>(
         RunsUntold P.sizes N.sizes.shards command.now at.call pass.old pass.new parcel) }
     ensures memory { OnErr result (FallsShort P.sizes N.sizes.shards command.now at.call pass.old pass.new) }
 {
-    let (parcel, fragments) = run_parts(rt, shop, pass, ready, at, command)?;
+    let Ok(mut fragments) = ready.take() else {
+        return Err(ExecError::Memory);
+    };
+    let parcel = execute_needing(
+        rt,
+        shop,
+        pass,
+        at.session,
+        at.call,
+        command,
+        need,
+        &mut fragments,
+    )?;
     ready.keep(fragments);
     Ok(parcel)
 }
@@ -73,7 +87,9 @@ fn run_parts<R: Wait, N: BookName, P: PoolName>(
     ready: &mut Ready,
     at: Entry,
     command: &Command,
+    need: Need,
 ) -> Result<(Parcel<P>, Segs), ExecError>
+    requires need { need ≡ need_of command.now }
     requires stage { (need_of command.now).stage ≤ length pass.old.free }
     requires credits { (need_of command.now).descriptors + 5 ≤ pass.old.seat.credits }
     requires session { at.session ≡ pass.old.list.number }
@@ -85,7 +101,16 @@ fn run_parts<R: Wait, N: BookName, P: PoolName>(
     let Ok(mut fragments) = ready.take() else {
         return Err(ExecError::Memory);
     };
-    let parcel = execute(rt, shop, pass, at.session, at.call, command, &mut fragments)?;
+    let parcel = execute_needing(
+        rt,
+        shop,
+        pass,
+        at.session,
+        at.call,
+        command,
+        need,
+        &mut fragments,
+    )?;
     Ok((parcel, fragments))
 }
 

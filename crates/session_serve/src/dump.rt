@@ -46,6 +46,7 @@ impl<P: PoolName + Send> DumpTurn<P> {
     }
 
     /// Takes the dump, if the next call is the one that it stands before.
+    #[inline(always)]
     pub(crate) fn take_before_call<R: Wait, N: BookName>(
         &mut self,
         rt: &R,
@@ -71,6 +72,7 @@ impl<P: PoolName + Send> DumpTurn<P> {
     }
 
     /// Takes the dump, if it wasn't tried.
+    #[inline(never)]
     pub(crate) fn take<R: Wait, N: BookName>(
         &mut self,
         rt: &R,

@@ -10,6 +10,7 @@ use pinned_pool::{Pool, PoolName};
 
 /// Gathers the next reply and puts its text, or, where there is a bound, its frames of at most so many bytes. Where no
 /// reply is posted the wire is flushed.
+#[inline(always)]
 pub(crate) fn gather_next<P: PoolName + Send, W: Drop, C: WireCalls<W>>(
     device: &mut Device<P>,
     pool: &Pool<P>,

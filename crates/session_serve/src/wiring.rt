@@ -21,6 +21,7 @@ impl<'a, W, C: WireCalls<W>> WireCalls<W> for Wiring<'a, C> {
 
     ghost flush_may = { λ wiring w r. C.flush_may wiring.calls.now w r };
 
+    #[inline(always)]
     fn put(&self, wire: W, piece: &[u8]) -> (W, bool)
         requires { C.can_put self.now.calls.now }
         ensures { C.put_may self.now.calls.now wire piece.entry result }
@@ -28,6 +29,7 @@ impl<'a, W, C: WireCalls<W>> WireCalls<W> for Wiring<'a, C> {
         self.calls.put(wire, piece)
     }
 
+    #[inline(always)]
     fn flush(&self, wire: W) -> (W, bool)
         requires { C.can_flush self.now.calls.now }
         ensures { C.flush_may self.now.calls.now wire result }

@@ -43,6 +43,7 @@ pub(crate) fn first_lock<N: BookName, P: PoolName>(
         shard_map,
         seat: book,
         journal: history,
+        apart: _,
     } = lock.into_inner();
     shard_map.is_shard_map();
     let Room {
@@ -79,6 +80,7 @@ pub(crate) fn take_lock<N: BookName, P: PoolName, const I: u16>(
             shard_map,
             seat: book,
             journal: history,
+            apart: _,
         } = lock.into_inner();
         shard_map.is_shard_map();
         pool.join(&mut parts.seat, shard_map.into_seat());

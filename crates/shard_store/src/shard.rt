@@ -26,11 +26,15 @@ use std::marker::Model;
 use std::snapshot::Snapshot;
 
 /// A shard map of values, and the history that led to them. Contracts see the shard's number and its deeds.
+///
+/// What every part writes lies in front, beside the lock. The line behind the values keeps the next shard's lock apart
+/// from them: processors take a written line of 64 bytes from one another.
 #[derive(Drop)]
 pub(crate) struct Shard<N: BookName, P: PoolName, const I: u16> {
-    pub(crate) shard_map: ShardMap<P>,
-    pub(crate) seat: ShardSeat<N>,
     pub(crate) journal: Vec<Entry>,
+    pub(crate) seat: ShardSeat<N>,
+    pub(crate) shard_map: ShardMap<P>,
+    pub(crate) apart: [u64; 8],
 }
 
 impl<N: BookName, P: PoolName, const I: u16> Model for Shard<N, P, I> {
@@ -59,6 +63,7 @@ impl<N: BookName, P: PoolName, const I: u16> Shard<N, P, I> {
             shard_map: ShardMap::claiming_from(alloc, own, start),
             seat,
             journal: Vec::new(alloc),
+            apart: [0; 8],
         }
     }
 

@@ -17,7 +17,7 @@ ghost use Rattle.shard_store.specs.Images.{IsImage};
 
 use crate::asked::{AskedPart, Commons};
 use crate::image::ShardImage;
-use crate::locks::{locked, open_lock};
+use crate::locks::{open_lock, pin_behind, run_behind};
 use crate::parts::{Parts, Room, all_taken, first_lock, take_lock};
 use crate::shard::Shard;
 use crate::spread::ClaimSpread;
@@ -30,26 +30,26 @@ use shard_part::shard_of;
 use std::alloc::Global;
 use std::sync::{Mutex, Wait};
 
-// What an expression comes to in one of the store's shards, whose lock is held for it.
-macro_rules! in_shard {
-    ($store:expr, $rt:expr, $number:expr, $shard:ident => $done:expr) => {
+// What an expression comes to by the lock of one of the store's shards.
+macro_rules! by_lock {
+    ($store:expr, $number:expr, $lock:ident => $done:expr) => {
         match $number {
-            0 => { let mut $shard = locked($rt, &$store.shard0); $done }
-            1 => { let mut $shard = locked($rt, &$store.shard1); $done }
-            2 => { let mut $shard = locked($rt, &$store.shard2); $done }
-            3 => { let mut $shard = locked($rt, &$store.shard3); $done }
-            4 => { let mut $shard = locked($rt, &$store.shard4); $done }
-            5 => { let mut $shard = locked($rt, &$store.shard5); $done }
-            6 => { let mut $shard = locked($rt, &$store.shard6); $done }
-            7 => { let mut $shard = locked($rt, &$store.shard7); $done }
-            8 => { let mut $shard = locked($rt, &$store.shard8); $done }
-            9 => { let mut $shard = locked($rt, &$store.shard9); $done }
-            10 => { let mut $shard = locked($rt, &$store.shard10); $done }
-            11 => { let mut $shard = locked($rt, &$store.shard11); $done }
-            12 => { let mut $shard = locked($rt, &$store.shard12); $done }
-            13 => { let mut $shard = locked($rt, &$store.shard13); $done }
-            14 => { let mut $shard = locked($rt, &$store.shard14); $done }
-            15 => { let mut $shard = locked($rt, &$store.shard15); $done }
+            0 => { let $lock = &$store.shard0; $done }
+            1 => { let $lock = &$store.shard1; $done }
+            2 => { let $lock = &$store.shard2; $done }
+            3 => { let $lock = &$store.shard3; $done }
+            4 => { let $lock = &$store.shard4; $done }
+            5 => { let $lock = &$store.shard5; $done }
+            6 => { let $lock = &$store.shard6; $done }
+            7 => { let $lock = &$store.shard7; $done }
+            8 => { let $lock = &$store.shard8; $done }
+            9 => { let $lock = &$store.shard9; $done }
+            10 => { let $lock = &$store.shard10; $done }
+            11 => { let $lock = &$store.shard11; $done }
+            12 => { let $lock = &$store.shard12; $done }
+            13 => { let $lock = &$store.shard13; $done }
+            14 => { let $lock = &$store.shard14; $done }
+            15 => { let $lock = &$store.shard15; $done }
             _ => unreachable!(),
         }
     };
@@ -207,7 +207,7 @@ impl<N: BookName, P: PoolName> Store<N, P> {
             KeepsTaker range (taking T.Taker taker.old) (taking T.Taker taker.new) }
     {
         let number = shard_of(asked.part.key, self.shards);
-        in_shard!(self, rt, number, shard => shard.run(commons, seat, mine, asked, taker, stored))
+        by_lock!(self, number, lock => run_behind(rt, lock, commons, seat, mine, asked, taker, stored))
     }
 
     /// How many shards there are.
@@ -236,7 +236,7 @@ impl<N: BookName, P: PoolName> Store<N, P> {
         ensures memory { OnErr result ((seat.new ≡ seat.old) × (mine.new ≡ mine.old)) }
     {
         let _ = self.shards;
-        in_shard!(self, rt, shard, found => found.pin(pool, book, seat, mine))
+        by_lock!(self, shard, lock => pin_behind(rt, lock, pool, book, seat, mine))
     }
 
     /// What the shards have come to: their histories, which are legal, and the seat that holds their final values, with

@@ -5,13 +5,13 @@ use Rattle.shard_store.proofs.parts.first_lock.Goals as goal
 pub returns : goal.returns
 returns g c =
     let room = c.args.room in
-    let inside = c.shard_map.inside in
+    let inside = c.history.inside in
     let histories : c.args.shards ≤ room.journal.spare = omega (arith, room.enough.0, c.requires.open.2) in
     let seats : c.args.shards ≤ room.books.spare = omega (arith, room.enough.1, c.requires.open.2) in
     first_part g.P.PoolName.sizes c.args.shards room.books c.push-2.new.self room.journal c.push.new.self
     c.into_seat.result inside.shard_map inside.seat inside.journal.items c.from_vec.result
     (record {
-      shard = c.shard_map.invariant;
+      shard = c.history.invariant;
       kept = c.is_shard_map.ensures.kept;
       distinct = c.is_shard_map.ensures.distinct;
     })

@@ -5,12 +5,12 @@ use Rattle.shard_store.proofs.parts.take_lock.Goals as goal
 
 pub returns-in-Ok-push : goal.returns-in-Ok-push
 returns-in-Ok-push g c =
-    let inside = c.shard_map.inside in
+    let inside = c.history.inside in
     let parts = c.args.parts.now in
     taken g.P.PoolName.sizes g.row.I c.args.shards parts.books c.push-in-Some.new.self parts.journal c.push.new.self
     parts.seat c.join.new.into inside.shard_map inside.seat inside.journal.items c.from_vec.result
     c.requires.parts (record {
-      shard = c.shard_map.invariant;
+      shard = c.history.invariant;
       kept = c.is_shard_map.ensures.kept;
       distinct = c.is_shard_map.ensures.distinct;
     })

@@ -1,35 +1,41 @@
-use Rattle.std.proofs.Common.{◌≡◌, ℕ, ◌+◌, ◌-◌, ◌*◌, ◌<◌, ◌≤◌, take, drop, length, ap, sym, subst, ◌∙◌, arith}
-use Rattle.std.proofs.lemmas.List.{length-take}
-use Rattle.view_sums.specs.Total.{total}
-use Rattle.pin_core.specs.Buffers.{buffer_words}
-use Rattle.pin_core.specs.Holding.{sole_at}
-use Rattle.pinned_pool.specs.Moves.{put, front_of}
-use Rattle.pinned_pool.proofs.WordRuns.{puts-sole, puts-front, next_word}
+use Rattle.std.proofs.Common.{◌≡◌, ◌+◌, ◌-◌, ◌*◌, ◌/◌, ◌++◌, take, drop, length, ap, ◌∙◌, arith}
+use Rattle.std.proofs.lemmas.List.{length-take, length-drop, take_all, take-append-drop}
+use Rattle.pinned_pool.proofs.WordRuns.{puts-sole, puts-front, puts_then, puts_same}
 use Rattle.pinned_pool.proofs.pool.Pool.put_whole.Goals as goal
 
-pub put_at-requires-clause-exclusive : goal.put_at-requires-clause-exclusive
-put_at-requires-clause-exclusive g c =
-    subst (λ (b : ℕ). 0 < total (sole_at b) c.loop-k.seat.holds) (sym c.buffer-buffer.ensures.buffer)
-    (puts-sole c.args.hold.now.buffer c.args.index (take (8 * c.loop-k.k) c.args.bytes.now) c.args.seat.now
-    c.loop-k.seat c.loop-k.invariant c.requires.exclusive)
+pub put_words-requires-clause-exclusive : goal.put_words-requires-clause-exclusive
+put_words-requires-clause-exclusive g c = puts-sole c.args.hold.now.buffer c.args.index _ c.args.seat.now
+    c.put_lines.new.seat c.put_lines.ensures c.requires.exclusive
 
-pub put_at-requires-clause-index : goal.put_at-requires-clause-index
-put_at-requires-clause-index g c =
-    let z = g.N.PoolName.sizes in
-    let done = take (8 * c.loop-k.k) c.args.bytes.now in
-    let long = puts-front c.args.hold.now.buffer c.args.index done c.args.seat.now c.loop-k.seat c.loop-k.invariant
-    c.requires.exclusive c.requires.index.0 in
-    subst (λ (b : ℕ). (c.args.index + c.loop-k.k ≤ length (front_of b c.loop-k.seat.holds))
-    × (c.args.index + c.loop-k.k < buffer_words z b)) (sym c.buffer-buffer.ensures.buffer)
-    (omega (arith, long, length-take (8 * c.loop-k.k) c.args.bytes.now), omega (arith, c.requires.index.1))
+pub put_words-requires-clause-index : goal.put_words-requires-clause-index
+put_words-requires-clause-index g c =
+    let bytes = c.args.bytes.now in
+    let n = length bytes in
+    let whole = 64 * (n / 64) in
+    let done = take whole bytes in
+    let long = puts-front c.args.hold.now.buffer c.args.index done c.args.seat.now c.put_lines.new.seat
+    c.put_lines.ensures c.requires.exclusive c.requires.index.0 in (
+      omega (arith, long, length-take whole bytes),
+      omega (
+        arith,
+        c.requires.index.1,
+        length-take (n - whole) (drop whole bytes),
+        length-drop whole bytes,
+      ),
+    )
 
-pub loop-k-preserved : goal.loop-k-preserved
-loop-k-preserved g c =
+pub returns-then-lines-bytes : goal.returns-then-lines-bytes
+returns-then-lines-bytes g c =
     let b = c.args.hold.now.buffer in
-    let step = c.put_at.ensures
-    ∙ ap (λ (n : ℕ). put n (c.args.index + c.loop-k.k) c.whole_word-word.result c.loop-k.seat)
-    c.buffer-buffer.ensures.buffer in
-    let n : 8 * c.loop-k.k + 8 - 8 * c.loop-k.k ≡ 8 = omega arith in
-    next_word b c.args.index c.loop-k.k c.whole_word-word.result c.args.bytes.now c.args.seat.now c.loop-k.seat
-    c.put_at.new.seat (omega arith) c.loop-k.invariant
-    (c.whole_word-word.ensures ∙ ap (λ m. take m (drop (8 * c.loop-k.k) c.args.bytes.now)) n) step
+    let bytes = c.args.bytes.now in
+    let n = length bytes in
+    let whole = 64 * (n / 64) in
+    let done = take whole bytes in
+    let rest = take (n - whole) (drop whole bytes) in
+    let all : rest ≡ drop whole bytes = take_all (n - whole) (drop whole bytes) (omega (arith, length-drop whole bytes))
+    in
+    puts_same b c.args.index (done ++ rest) bytes c.args.seat.now c.put_words.new.seat
+    (ap (λ l. done ++ l) all ∙ take-append-drop whole bytes)
+    (puts_then b c.args.index (c.args.index + 8 * (n / 64)) done rest c.args.seat.now c.put_lines.new.seat
+    c.put_words.new.seat (omega (arith, length-take whole bytes)) (omega (arith, length-take whole bytes))
+    c.put_lines.ensures c.put_words.ensures)

@@ -3,7 +3,7 @@ use Rattle.command_exec.specs.Executed.{FallsShort}
 use Rattle.command_exec.specs.Passes.{PassView, pass_of, IsPass}
 use Rattle.command_exec.proofs.Nothing.{not_begun}
 use Rattle.command_exec.proofs.Finishing.{begin_is, starts_of, starts_own, starts_executes, starts_falls}
-use Rattle.command_exec.proofs.executing.execute.Goals as goal
+use Rattle.command_exec.proofs.executing.execute_needing.Goals as goal
 
 pub returns-in_default-clause-memory : goal.returns-in_default-clause-memory
 returns-in_default-clause-memory g c =
@@ -21,7 +21,7 @@ invariant_of-pass-2 g c =
     let started = c.in-Ok.ensures in
     subst (IsPass g.P.PoolName.sizes)
     (λ i. pass_of p.mine (sym started.seat i) p.opened.value (sym started.stage i) p.threshold)
-    (begin_is g.P.PoolName.sizes c.need.result old c.pass.invariant)
+    (begin_is g.P.PoolName.sizes c.args.need old c.pass.invariant)
 
 pub seal-requires-clause-own : goal.seal-requires-clause-own
 seal-requires-clause-own g c =
@@ -31,9 +31,9 @@ seal-requires-clause-own g c =
     let two : PassView = pass_of r.mine r.seat r.opened.value r.stage r.threshold in
     let started = c.in-Ok.ensures in
     let begin : PassView = pass_of p.mine c.start.new.seat p.opened.value c.start.new.stage p.threshold in
-    let starts = starts_of c.args.command.now c.args.pass.now old c.need.result c.start.new.seat c.start.new.stage
+    let starts = starts_of c.args.command.now c.args.pass.now old c.args.need c.start.new.seat c.start.new.stage
     c.in-Ok.plan c.pass.view_is c.requires.stage c.requires.credits c.free.ensures.ordered
-    c.need.ensures.need started.seat started.stage started.plan in
+    c.requires.need started.seat started.stage started.plan in
     starts_own c.args.command.now c.args.pass.now old begin c.answer.new.pass two c.in-Ok.plan c.answer.new.plan starts
     c.pass.invariant.own c.pass-2.view_is c.answer.ensures.base c.in-Ok-answer.ensures.reply.ran.keeps
 
@@ -45,9 +45,9 @@ cancel-requires-clause-own g c =
     let two : PassView = pass_of r.mine r.seat r.opened.value r.stage r.threshold in
     let started = c.in-Ok.ensures in
     let begin : PassView = pass_of p.mine c.start.new.seat p.opened.value c.start.new.stage p.threshold in
-    let starts = starts_of c.args.command.now c.args.pass.now old c.need.result c.start.new.seat c.start.new.stage
+    let starts = starts_of c.args.command.now c.args.pass.now old c.args.need c.start.new.seat c.start.new.stage
     c.in-Ok.plan c.pass.view_is c.requires.stage c.requires.credits c.free.ensures.ordered
-    c.need.ensures.need started.seat started.stage started.plan in
+    c.requires.need started.seat started.stage started.plan in
     starts_own c.args.command.now c.args.pass.now old begin c.answer.new.pass two c.in-Ok.plan c.answer.new.plan starts
     c.pass.invariant.own c.pass-2.view_is c.answer.ensures.base c.in-Err.ensures.stopped.keeps
 
@@ -59,9 +59,9 @@ returns-in-Ok-answer-clause-reply g c =
     let two : PassView = pass_of r.mine r.seat r.opened.value r.stage r.threshold in
     let started = c.in-Ok.ensures in
     let begin : PassView = pass_of p.mine c.start.new.seat p.opened.value c.start.new.stage p.threshold in
-    let starts = starts_of c.args.command.now c.args.pass.now old c.need.result c.start.new.seat c.start.new.stage
+    let starts = starts_of c.args.command.now c.args.pass.now old c.args.need c.start.new.seat c.start.new.stage
     c.in-Ok.plan c.pass.view_is c.requires.stage c.requires.credits c.free.ensures.ordered
-    c.need.ensures.need started.seat started.stage started.plan in
+    c.requires.need started.seat started.stage started.plan in
     starts_executes g.P.PoolName.sizes g.N.BookName.sizes.shards c.args.call c.args.command.now c.args.pass.now old
     begin c.answer.new.pass two c.args.stored.now.items c.answer.new.stored.items c.in-Ok.plan c.answer.new.plan
     starts c.pass-2.view_is c.answer.ensures.base
@@ -76,9 +76,9 @@ returns-in-Err-clause-memory g c =
     let two : PassView = pass_of r.mine r.seat r.opened.value r.stage r.threshold in
     let started = c.in-Ok.ensures in
     let begin : PassView = pass_of p.mine c.start.new.seat p.opened.value c.start.new.stage p.threshold in
-    let starts = starts_of c.args.command.now c.args.pass.now old c.need.result c.start.new.seat c.start.new.stage
+    let starts = starts_of c.args.command.now c.args.pass.now old c.args.need c.start.new.seat c.start.new.stage
     c.in-Ok.plan c.pass.view_is c.requires.stage c.requires.credits c.free.ensures.ordered
-    c.need.ensures.need started.seat started.stage started.plan in
+    c.requires.need started.seat started.stage started.plan in
     starts_falls g.P.PoolName.sizes g.N.BookName.sizes.shards c.args.call c.args.command.now c.args.pass.now old begin
     c.answer.new.pass two c.args.stored.now.items c.answer.new.stored.items c.in-Ok.plan c.answer.new.plan starts
     c.pass-2.view_is c.answer.ensures.base
