@@ -43,7 +43,11 @@ pub(crate) fn run_part<R: Wait, N: BookName, P: PoolName>(
     ensures spare { stored.old.spare + length stored.old.items ≤ stored.new.spare + length stored.new.items }
 {
     let part = command.part(at.part as usize);
-    let asked = AskedPart { at, part };
+    let asked = AskedPart {
+        at,
+        part,
+        start: pass.start,
+    };
     let commons = Commons {
         pool: shop.pool,
         book: shop.book,

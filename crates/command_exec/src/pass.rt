@@ -9,7 +9,7 @@ ghost use Rattle.reply_planner.specs.Stages.{NoneInBoth, IsReordered};
 ghost use Rattle.command_exec.specs.Passes.{IsPass, pass_of, none_found};
 
 use order_book::{BookName, SessionSeat};
-use pinned_pool::{Pool, PoolName, PoolSeat};
+use pinned_pool::{ClaimStart, Pool, PoolName, PoolSeat};
 use reply_planner::{OpenError, Parcel, Stage, give_back};
 use std::alloc::Global;
 use std::marker::Model;
@@ -24,6 +24,7 @@ pub struct Pass<N: BookName, P: PoolName> {
     // The stage as it was opened.
     opened: Snapshot<Stage<P>>,
     pub(crate) threshold: u32,
+    pub(crate) start: ClaimStart,
 }
 
 impl<N: BookName, P: PoolName> Model for Pass<N, P> {
@@ -67,10 +68,20 @@ impl<N: BookName, P: PoolName> Pass<N, P> {
                     stage,
                     opened,
                     threshold,
+                    start: ClaimStart::FIRST,
                 })
             }
             Err(error) => Err((error, seat, mine)),
         }
+    }
+
+    /// What its calls store is claimed from here on.
+    pub fn claiming_from(self, start: ClaimStart) -> Self
+        ensures { result ≡ self }
+    {
+        let mut pass = self;
+        pass.start = start;
+        pass
     }
 
     /// How many of its staging buffers are free.
@@ -138,6 +149,7 @@ impl<N: BookName, P: PoolName> Pass<N, P> {
             stage,
             opened: _,
             threshold: _,
+            start: _,
         } = self;
         stage.close(pool, &mut seat);
         (seat, mine)

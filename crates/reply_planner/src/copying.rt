@@ -111,6 +111,7 @@ fn lengthen(text: &mut Vec<u8>, count: usize)
 }
 
 /// Puts bytes of a buffer that the owner holds at the end.
+#[inline(always)]
 pub(crate) fn append_run<N: PoolName>(
     text: &mut Vec<u8>,
     pool: &Pool<N>,

@@ -206,6 +206,7 @@ impl<'a, N: PoolName> Taker<N> for Plan<'a, N> {
 
     ghost range_room = { λ p. range_room_of p };
 
+    #[inline(always)]
     fn begin(&mut self, len: u64) {
         append_head(&mut self.lists.text, len);
         self.history.add(Step::Began { len });

@@ -8,11 +8,12 @@ mod passing;
 mod resources;
 mod sizes;
 mod slot;
+mod spread;
 
 pub use blanks::RunBlanks;
 pub use closing::{Closed, close_all};
 pub use passing::SESSION_CREDITS;
 pub use resources::{RunResources, open_resources};
-pub use shard_store::ClaimSpread;
 pub use sizes::RunSizes;
 pub use slot::SessionSlot;
+pub use spread::ClaimSpread;

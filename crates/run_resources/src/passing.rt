@@ -7,6 +7,7 @@ ghost use Rattle.serve_model.specs.Seats.{IsSpare};
 ghost use Rattle.run_resources.specs.Opened.{session_credits, IsNewPass};
 ghost use Rattle.run_resources.specs.Passing.{IsNewList, SeatRefused, AreRefused, HasStages};
 
+use crate::spread::ClaimSpread;
 use command_exec::Pass;
 use flake_base::Memory;
 use order_book::{BookName, SessionSeat, SessionSeats};
@@ -33,6 +34,7 @@ fn open_pass<N: BookName, P: PoolName>(
     main: &mut PoolSeat<P>,
     mine: SessionSeat<N>,
     threshold: u32,
+    spread: ClaimSpread,
 ) -> Result<Pass<N, P>, Option<PoolSeat<P>>>
     requires main { IsSpare main.old }
     requires credits { session_credits < main.old.credits }
@@ -44,8 +46,9 @@ fn open_pass<N: BookName, P: PoolName>(
     ensures refused { IfErr result (λ e. IfSome e (SeatRefused P.sizes)) }
 {
     let seat = pool.split(main, (), SESSION_CREDITS);
+    let start = spread.start(mine.session());
     match Pass::open(alloc, pool, seat, mine, threshold) {
-        Ok(pass) => Ok(pass),
+        Ok(pass) => Ok(pass.claiming_from(start)),
         Err((OpenError::Memory, _, _)) => Err(None),
         Err((OpenError::NoBuffer(_), seat, _)) => Err(Some(seat)),
     }
@@ -94,6 +97,7 @@ fn open_all<N: BookName, P: PoolName>(
     main: &mut PoolSeat<P>,
     lists: SessionSeats<N>,
     threshold: u32,
+    spread: ClaimSpread,
     passes: Vec<Pass<N, P>>,
 ) -> Result<Vec<Pass<N, P>>, Option<(PoolSeat<P>, Vec<Pass<N, P>>)>>
     requires main { IsSpare main.old }
@@ -112,7 +116,7 @@ fn open_all<N: BookName, P: PoolName>(
     let mut lists = lists;
     let mut passes = passes;
     while let Some(mine) = lists.pop() {
-        match open_pass(alloc, pool, main, mine, threshold) {
+        match open_pass(alloc, pool, main, mine, threshold, spread) {
             Ok(mut pass) => {
                 compare_with(pool, &mut pass, &mut passes);
                 passes.push_reserved(pass);
@@ -144,14 +148,15 @@ fn join_all<N: BookName, P: PoolName>(
 }
 
 /// While `main` has all other credits a pass is opened for each list, in the lists' order, so that the first session's
-/// stage has the least addresses. That a stage finds no buffer can't be: a pool that is closed says that each buffer
-/// which was found held was claimed, and nobody has claimed any but the stages.
+/// stage has the least addresses; each claims where the spread says. That a stage finds no buffer can't be: a pool that
+/// is closed says that each buffer which was found held was claimed, and nobody has claimed any but the stages.
 pub(crate) fn open_passes<N: BookName, P: PoolName>(
     alloc: Global,
     pool: Pool<P>,
     main: PoolSeat<P>,
     lists: SessionSeats<N>,
     threshold: u32,
+    spread: ClaimSpread,
     passes: Vec<Pass<N, P>>,
 ) -> Result<Passed<N, P>, Memory>
     requires main { main ≡ opener P.sizes.credits }
@@ -169,7 +174,7 @@ pub(crate) fn open_passes<N: BookName, P: PoolName>(
     let mut main = main;
     // A list is taken from the end.
     let lists = turned(alloc, lists)?;
-    match open_all(alloc, &pool, &mut main, lists, threshold, passes) {
+    match open_all(alloc, &pool, &mut main, lists, threshold, spread, passes) {
         Ok(passes) => Ok(Passed { pool, main, passes }),
         Err(refused) => {
             let Some((seat, passes)) = refused else {

@@ -10,11 +10,12 @@ ghost use Rattle.run_resources.specs.Opened.{HasRunSizes, IsPool, IsBook, IsSess
 use crate::passing::{Passed, open_passes};
 use crate::sizes::RunSizes;
 use crate::slot::{SessionSlot, open_session_slots};
+use crate::spread::ClaimSpread;
 use flake_base::Memory;
 use order_book::{Book, BookBlank, BookName, ShardSeats};
 use pinned_pool::{Pool, PoolBlank, PoolName, PoolSeat};
 use reply_planner::Parcel;
-use shard_store::{ClaimSpread, Store, open_seats};
+use shard_store::{Store, open_seats};
 use std::alloc::Global;
 use tx_descriptor::Framed;
 
@@ -33,13 +34,12 @@ where
     pub slots: Vec<SessionSlot<N, P>>,
 }
 
-// A store whose shards have a credit each, and claim where the spread says.
+// A store whose shards have a credit each.
 fn open_store<N: BookName, P: PoolName>(
     alloc: Global,
     pool: &Pool<P>,
     main: &mut PoolSeat<P>,
     shards: u16,
-    spread: ClaimSpread,
     books: ShardSeats<N>,
 ) -> Result<Store<N, P>, Memory>
     requires shards { (shards ≡ N.sizes.shards) × (0 < shards) × (shards ≤ 16) }
@@ -52,14 +52,14 @@ fn open_store<N: BookName, P: PoolName>(
     let Ok(seats) = open_seats(alloc, pool, main, usize::from(shards)) else {
         return Err(Memory);
     };
-    match Store::open_spread(alloc, seats, books, spread) {
+    match Store::open(alloc, seats, books) {
         Ok(store) => Ok(store),
         Err((memory, _, _)) => Err(memory),
     }
 }
 
 /// Opens all over a new pool and a new book: the sessions' passes first, while nobody else has claimed a buffer. What
-/// the shards claim begins where the spread says.
+/// the sessions claim begins where the spread says.
 pub fn open_resources<N: BookName, P: PoolName + Send>(
     alloc: Global,
     sizes: &RunSizes,
@@ -89,8 +89,8 @@ pub fn open_resources<N: BookName, P: PoolName + Send>(
         pool,
         mut main,
         passes,
-    } = open_passes(alloc, pool, main, lists, sizes.threshold, passes)?;
-    let store = open_store(alloc, &pool, &mut main, sizes.shards, spread, shard_seats)?;
+    } = open_passes(alloc, pool, main, lists, sizes.threshold, spread, passes)?;
+    let store = open_store(alloc, &pool, &mut main, sizes.shards, shard_seats)?;
     let slots = open_session_slots(alloc, sizes.ring, passes, slots)?;
     Ok(RunResources {
         pool,

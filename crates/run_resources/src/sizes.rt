@@ -1,7 +1,7 @@
 use crate::passing::SESSION_CREDITS;
+use crate::spread::ClaimSpread;
 use pinned_pool::ClaimStart;
 use reply_planner::STAGE_SIZE;
-use shard_store::ClaimSpread;
 
 /// How much of everything a run is given.
 #[derive(Clone, Copy, Debug, PartialEq, Eq)]
@@ -43,24 +43,22 @@ impl RunSizes {
         }
     }
 
-    /// Where the shards' claims may begin in a run of so many sessions: what stands behind the sessions' stages is
-    /// shared out evenly.
+    /// Where the claims of so many sessions may begin: what stands behind their stages is shared out evenly.
     pub fn spread(&self, count: usize) -> ClaimSpread
         requires { HasRunSizes count self.now }
         ensures first { (result.first.small ≡ 128 * count) × (result.first.large ≡ 0) }
-        ensures step { (result.step.small ≡ (self.now.small - 128 * count) / self.now.shards)
-            × (result.step.large ≡ self.now.large / self.now.shards) }
+        ensures step { (result.step.small ≡ (self.now.small - 128 * count) / count)
+            × (result.step.large ≡ self.now.large / count) }
     {
         let staged = STAGE_SIZE as u32 * count as u32;
-        let shards = u32::from(self.shards);
         ClaimSpread {
             first: ClaimStart {
                 small: staged,
                 large: 0,
             },
             step: ClaimStart {
-                small: (self.small - staged) / shards,
-                large: self.large / shards,
+                small: (self.small - staged) / count as u32,
+                large: self.large / count as u32,
             },
         }
     }

@@ -82,6 +82,7 @@ impl<N: BookName, P: PoolName + Send> Session<N, P> {
     }
 
     // A call where ring and stage have what is needed. The answer is its number.
+    #[inline(always)]
     fn post_untold<R: Wait>(
         &mut self,
         rt: &R,

@@ -12,13 +12,14 @@ use std::mem::replace;
 
 pub(crate) type Values<P> = IndexMap<Vec<u8>, Value<P>>;
 
-/// A shard's values, the seat that holds their fragments, what memory is taken from, and where the claims begin.
+/// Where the claims of the part begin that is done; a shard's values, the seat that holds their fragments, and what
+/// memory is taken from.
 #[derive(Drop)]
 pub(crate) struct Kept<P: PoolName> {
+    pub(crate) start: ClaimStart,
     pub(crate) alloc: Global,
     pub(crate) own: PoolSeat<P>,
     pub(crate) values: Values<P>,
-    pub(crate) start: ClaimStart,
 }
 
 /// The value that the key has at this index.

@@ -56,22 +56,22 @@ impl<P: PoolName> ShardMap<P> {
         requires { IsBare seat }
         ensures { result ≡ record { entries = []; seat = seat } }
     {
-        ShardMap::claiming_from(alloc, seat, ClaimStart::FIRST)
-    }
-
-    /// Likewise. What its values need is claimed from the start on.
-    pub fn claiming_from(alloc: Global, seat: PoolSeat<P>, start: ClaimStart) -> Self
-        requires { IsBare seat }
-        ensures { result ≡ record { entries = []; seat = seat } }
-    {
         ShardMap {
             kept: Kept {
+                start: ClaimStart::FIRST,
                 alloc,
                 own: seat,
                 values: IndexMap::new(alloc),
-                start,
             },
         }
+    }
+
+    /// What its values need is claimed from here on, until another start is said.
+    #[inline(always)]
+    pub fn claim_from(&mut self, start: ClaimStart)
+        ensures { self.new ≡ self.old }
+    {
+        self.kept.start = start;
     }
 
     /// Does a part. New values are claimed and filled on the payer's seat and then moved here, and old ones go from
@@ -168,10 +168,10 @@ impl<P: PoolName> ShardMap<P> {
     {
         let ShardMap { kept } = self;
         let Kept {
+            start: _,
             alloc: _,
             own,
             values: _,
-            start: _,
         } = kept;
         own
     }

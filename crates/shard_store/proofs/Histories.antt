@@ -56,6 +56,11 @@ legal-snoc s p [] d legal next = (next, tt)
 legal-snoc s p (e ∷ ds) d legal next =
     (legal.0, legal-snoc (after s e.operation) (places_after s p e.operation e.stored) ds d legal.1 next)
 
+pub as_was : (z : Sizes) (number : ℕ) (old new : ShardMapView) (list : ShardList) (journal : List Entry) → new ≡ old
+    → IsShard z number old list journal → IsShard z number new list journal
+as_was z number old new list journal same it =
+    subst (λ (m : ShardMapView). IsShard z number m list journal) (sym same) it
+
 pub begins : (z : Sizes) (number : ℕ) (shard_map : ShardMapView) (own : View) (list : ShardList) (journal : List Entry)
     → shard_map ≡ record { entries = []; seat = own } → list ≡ new_shard number → journal ≡ []
     → IsShard z number shard_map list journal

@@ -8,7 +8,6 @@ mod locks;
 mod parts;
 mod seats;
 mod shard;
-mod spread;
 mod store;
 
 pub use asked::{AskedPart, Commons};
@@ -17,5 +16,4 @@ pub use parts::Parts;
 pub use seats::open_seats;
 pub use shard_core::PartAnswer;
 pub use shard_part::{Part, PartOp, shard_of};
-pub use spread::ClaimSpread;
 pub use store::{Store, is_shared};

@@ -16,7 +16,6 @@ ghost use Rattle.shard_store.specs.Images.{IsImage};
 use crate::asked::{AskedPart, Commons};
 use crate::image::ShardImage;
 use crate::shard::Shard;
-use crate::spread::ClaimSpread;
 use flake_base::{Memory, Segs};
 use frag_value::Taker;
 use order_book::{Book, BookName, SessionSeat, ShardSeats};
@@ -25,11 +24,10 @@ use shard_core::PartAnswer;
 use std::alloc::Global;
 use std::sync::{Mutex, MutexGuard, Wait};
 
-/// The last seats go behind a lock, if the shard is one of the store's. Its claims begin where the spread says.
+/// The last seats go behind a lock, if the shard is one of the store's.
 pub(crate) fn open_lock<N: BookName, P: PoolName, const I: u16>(
     alloc: Global,
     shards: u16,
-    spread: ClaimSpread,
     seats: &mut PoolSeats<P>,
     books: &mut ShardSeats<N>,
 ) -> Option<Mutex<Shard<N, P, I>>>
@@ -48,7 +46,7 @@ pub(crate) fn open_lock<N: BookName, P: PoolName, const I: u16>(
     let Some(seat) = books.pop() else {
         unreachable!()
     };
-    Some(Mutex::new(Shard::new(alloc, own, seat, spread.start(I))))
+    Some(Mutex::new(Shard::new(alloc, own, seat)))
 }
 
 // The shard behind the lock. All that is known of it is its type.

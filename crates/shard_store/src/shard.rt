@@ -19,7 +19,7 @@ use crate::image::ShardImage;
 use flake_base::{Entry, Memory, Segs};
 use frag_value::{PlaceError, Taker};
 use order_book::{Book, BookName, SessionSeat, ShardSeat};
-use pinned_pool::{ClaimStart, Pool, PoolName, PoolSeat};
+use pinned_pool::{Pool, PoolName, PoolSeat};
 use shard_core::{PartAnswer, ShardMap};
 use std::alloc::Global;
 use std::marker::Model;
@@ -49,18 +49,13 @@ impl<N: BookName, P: PoolName, const I: u16> Model for Shard<N, P, I> {
 }
 
 impl<N: BookName, P: PoolName, const I: u16> Shard<N, P, I> {
-    pub(crate) fn new(
-        alloc: Global,
-        own: PoolSeat<P>,
-        seat: ShardSeat<N>,
-        start: ClaimStart,
-    ) -> Self
+    pub(crate) fn new(alloc: Global, own: PoolSeat<P>, seat: ShardSeat<N>) -> Self
         requires bare { IsBare own }
         requires seat { seat ≡ new_shard I }
         ensures { result ≡ seat }
     {
         Shard {
-            shard_map: ShardMap::claiming_from(alloc, own, start),
+            shard_map: ShardMap::new(alloc, own),
             seat,
             journal: Vec::new(alloc),
             apart: [0; 8],
@@ -94,6 +89,7 @@ impl<N: BookName, P: PoolName, const I: u16> Shard<N, P, I> {
     {
         self.journal.reserve(1)?;
         self.shard_map.is_shard_map();
+        self.shard_map.claim_from(asked.start);
         let from = stored.len();
         match self
             .shard_map

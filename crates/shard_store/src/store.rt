@@ -20,7 +20,6 @@ use crate::image::ShardImage;
 use crate::locks::{open_lock, pin_behind, run_behind};
 use crate::parts::{Parts, Room, all_taken, first_lock, take_lock};
 use crate::shard::Shard;
-use crate::spread::ClaimSpread;
 use flake_base::{Memory, Segs, Sequence};
 use frag_value::Taker;
 use order_book::{Book, BookName, SessionSeat, ShardSeats};
@@ -101,21 +100,6 @@ impl<N: BookName, P: PoolName> Store<N, P> {
         requires seats { (length seats.items ≡ N.sizes.shards) × Each IsBare seats.items }
         ensures { IfErr result (λ e. (e.1 ≡ seats) × (e.2 ≡ books)) }
     {
-        Store::open_spread(alloc, seats, books, ClaimSpread::TOGETHER)
-    }
-
-    /// Likewise. The claims of each shard begin where the spread says.
-    pub fn open_spread(
-        alloc: Global,
-        seats: PoolSeats<P>,
-        books: ShardSeats<N>,
-        spread: ClaimSpread,
-    ) -> Result<Store<N, P>, (Memory, PoolSeats<P>, ShardSeats<N>)>
-        requires shards { (0 < N.sizes.shards) × (N.sizes.shards ≤ 16) }
-        requires books { books.items ≡ new_shards N.sizes.shards }
-        requires seats { (length seats.items ≡ N.sizes.shards) × Each IsBare seats.items }
-        ensures { IfErr result (λ e. (e.1 ≡ seats) × (e.2 ≡ books)) }
-    {
         let shards = books.len();
         let Ok(journal) = Sequence::with_room(alloc, shards) else {
             return Err((Memory, seats, books));
@@ -127,13 +111,12 @@ impl<N: BookName, P: PoolName> Store<N, P> {
             journal,
             books: emptied,
         };
-        Ok(Store::open_in(alloc, shards as u16, spread, seats, books, room))
+        Ok(Store::open_in(alloc, shards as u16, seats, books, room))
     }
 
     fn open_in(
         alloc: Global,
         shards: u16,
-        spread: ClaimSpread,
         mut seats: PoolSeats<P>,
         mut books: ShardSeats<N>,
         room: Room<N>,
@@ -142,22 +125,22 @@ impl<N: BookName, P: PoolName> Store<N, P> {
         requires books { books.items ≡ new_shards (min 16 shards) }
         requires seats { (length seats.items ≡ min 16 shards) × Each IsBare seats.items }
     {
-        let shard15 = open_lock(alloc, shards, spread, &mut seats, &mut books);
-        let shard14 = open_lock(alloc, shards, spread, &mut seats, &mut books);
-        let shard13 = open_lock(alloc, shards, spread, &mut seats, &mut books);
-        let shard12 = open_lock(alloc, shards, spread, &mut seats, &mut books);
-        let shard11 = open_lock(alloc, shards, spread, &mut seats, &mut books);
-        let shard10 = open_lock(alloc, shards, spread, &mut seats, &mut books);
-        let shard9 = open_lock(alloc, shards, spread, &mut seats, &mut books);
-        let shard8 = open_lock(alloc, shards, spread, &mut seats, &mut books);
-        let shard7 = open_lock(alloc, shards, spread, &mut seats, &mut books);
-        let shard6 = open_lock(alloc, shards, spread, &mut seats, &mut books);
-        let shard5 = open_lock(alloc, shards, spread, &mut seats, &mut books);
-        let shard4 = open_lock(alloc, shards, spread, &mut seats, &mut books);
-        let shard3 = open_lock(alloc, shards, spread, &mut seats, &mut books);
-        let shard2 = open_lock(alloc, shards, spread, &mut seats, &mut books);
-        let shard1 = open_lock(alloc, shards, spread, &mut seats, &mut books);
-        let shard0 = open_lock(alloc, shards, spread, &mut seats, &mut books);
+        let shard15 = open_lock(alloc, shards, &mut seats, &mut books);
+        let shard14 = open_lock(alloc, shards, &mut seats, &mut books);
+        let shard13 = open_lock(alloc, shards, &mut seats, &mut books);
+        let shard12 = open_lock(alloc, shards, &mut seats, &mut books);
+        let shard11 = open_lock(alloc, shards, &mut seats, &mut books);
+        let shard10 = open_lock(alloc, shards, &mut seats, &mut books);
+        let shard9 = open_lock(alloc, shards, &mut seats, &mut books);
+        let shard8 = open_lock(alloc, shards, &mut seats, &mut books);
+        let shard7 = open_lock(alloc, shards, &mut seats, &mut books);
+        let shard6 = open_lock(alloc, shards, &mut seats, &mut books);
+        let shard5 = open_lock(alloc, shards, &mut seats, &mut books);
+        let shard4 = open_lock(alloc, shards, &mut seats, &mut books);
+        let shard3 = open_lock(alloc, shards, &mut seats, &mut books);
+        let shard2 = open_lock(alloc, shards, &mut seats, &mut books);
+        let shard1 = open_lock(alloc, shards, &mut seats, &mut books);
+        let shard0 = open_lock(alloc, shards, &mut seats, &mut books);
         Store {
             shards,
             shard0,

@@ -6,7 +6,7 @@ use crate::checks::{equal, holds};
 use flake_base::{Entry, Journal, Memory, Sequence};
 use order_book::BookBlank;
 use pinned_pool::{ClaimStart, Class, NoBuffer, PoolBlank};
-use shard_store::{ClaimSpread, PartAnswer, PartOp};
+use shard_store::{PartAnswer, PartOp};
 use std::alloc::Global;
 use std::marker::Brand;
 use std::process::Abort;
@@ -20,33 +20,15 @@ fn run<R: Threads + Wait + Sync>(
     alloc: Global,
     pool: PoolBlank,
     book: BookBlank,
-    spread: ClaimSpread,
     first: &[Ask<'_>],
     second: &[Ask<'_>],
 ) -> Result<Outcome, Memory>
     requires { (0 < book.sizes.shards) × (book.sizes.shards ≤ 16) × (book.sizes.shards + 3 < pool.sizes.credits) }
 {
-    run_named::<Brand, Brand, R>(rt, alloc, pool, book, spread, first, second)
+    run_named::<Brand, Brand, R>(rt, alloc, pool, book, first, second)
 }
 
 // Over so many shards, in a pool of 8 small buffers and so many large ones, at most 64.
-fn run_spread<R: Threads + Wait + Sync>(
-    rt: &R,
-    alloc: Global,
-    shards: u16,
-    large: u32,
-    spread: ClaimSpread,
-    first: &[Ask<'_>],
-    second: &[Ask<'_>],
-) -> Result<Outcome, Fail> {
-    if shards == 0 || shards > 16 || large > 64 {
-        return Err("no such numbers of shards and buffers".into());
-    }
-    let pool = PoolBlank::open(alloc, 8, large, 20)?;
-    let book = BookBlank::open(alloc, shards, 2)?;
-    Ok(run(rt, alloc, pool, book, spread, first, second)?)
-}
-
 fn run_over<R: Threads + Wait + Sync>(
     rt: &R,
     alloc: Global,
@@ -55,15 +37,12 @@ fn run_over<R: Threads + Wait + Sync>(
     first: &[Ask<'_>],
     second: &[Ask<'_>],
 ) -> Result<Outcome, Fail> {
-    run_spread(
-        rt,
-        alloc,
-        shards,
-        large,
-        ClaimSpread::TOGETHER,
-        first,
-        second,
-    )
+    if shards == 0 || shards > 16 || large > 64 {
+        return Err("no such numbers of shards and buffers".into());
+    }
+    let pool = PoolBlank::open(alloc, 8, large, 20)?;
+    let book = BookBlank::open(alloc, shards, 2)?;
+    Ok(run(rt, alloc, pool, book, first, second)?)
 }
 
 fn asking<'a>(call: u32, part: u16, op: PartOp, key: &'a [u8], value: &'a [u8]) -> Ask<'a> {
@@ -73,6 +52,15 @@ fn asking<'a>(call: u32, part: u16, op: PartOp, key: &'a [u8], value: &'a [u8]) 
         op,
         key,
         value,
+        start: ClaimStart::FIRST,
+    }
+}
+
+// A SET whose claims begin at this small buffer.
+fn setting<'a>(call: u32, key: &'a [u8], value: &'a [u8], small: u32) -> Ask<'a> {
+    Ask {
+        start: ClaimStart { small, large: 0 },
+        ..asking(call, 0, PartOp::Set, key, value)
     }
 }
 
@@ -387,7 +375,7 @@ fn parts_of_a_session(rt: HostRuntime) -> Result<(), Fail> {
 /// Where the first small buffer begins.
 const SMALL: u64 = 1_048_576;
 
-/// Four keys' shards are 4, 5, 0 and 4 of eight: where the values lie.
+/// Where the values of four SETs lie.
 static PLACES: [Option<u64>; 4] = [
     Some(SMALL + 6 * 512),
     Some(SMALL + 7 * 512),
@@ -403,21 +391,16 @@ fn place(seen: &Seen) -> Option<u64> {
     }
 }
 
-// Shard 0 claims from the third small buffer on, and each other from the next one. The value that comes last finds the
-// two behind its shard's start held, and the first one free.
+// The value that comes last finds the two buffers from its start on held, and the first one free.
 #[test]
-fn claims_begin_where_the_spread_says(rt: HostRuntime) -> Result<(), Fail> {
+fn claims_begin_where_a_part_says(rt: HostRuntime) -> Result<(), Fail> {
     let asks = [
-        asking(0, 0, PartOp::Set, b"a", b"1"),
-        asking(1, 0, PartOp::Set, b"b", b"2"),
-        asking(2, 0, PartOp::Set, b"e", b"3"),
-        asking(3, 0, PartOp::Set, b"a", b"4"),
+        setting(0, b"a", b"1", 6),
+        setting(1, b"b", b"2", 7),
+        setting(2, b"e", b"3", 2),
+        setting(3, b"a", b"4", 6),
     ];
-    let spread = ClaimSpread {
-        first: ClaimStart { small: 2, large: 0 },
-        step: ClaimStart { small: 1, large: 0 },
-    };
-    let outcome = run_spread(&rt, rt.alloc(), 8, 1, spread, &asks, &[])?;
+    let outcome = run_over(&rt, rt.alloc(), 8, 1, &asks, &[])?;
     equal(&rt, "answers", outcome.first.len(), PLACES.len());
     for (seen, wanted) in outcome.first.iter().zip(&PLACES) {
         equal(&rt, "where it lies", place(seen), *wanted);

@@ -3,17 +3,15 @@ ghost use Rattle.std.specs.Prelude.{◌≡◌, ◌+◌, ◌<◌, ◌≤◌};
 
 use flake_base::{Entry, Journal, Memory, Seg, Segs, Sequence};
 use order_book::{Book, BookBlank, BookName, SessionSeat};
-use pinned_pool::{Held, Pool, PoolBlank, PoolName, PoolSeat};
+use pinned_pool::{ClaimStart, Held, Pool, PoolBlank, PoolName, PoolSeat};
 use shard_part::VALUE_LIMIT;
-use shard_store::{
-    AskedPart, ClaimSpread, Commons, Part, PartAnswer, PartOp, Parts, Store, open_seats,
-};
+use shard_store::{AskedPart, Commons, Part, PartAnswer, PartOp, Parts, Store, open_seats};
 use std::alloc::Global;
 use std::sync::Wait;
 use std::thread::{Threads, join};
 use test_support::copier::Copier;
 
-/// A part that a session asks for, by its call's number and its own.
+/// A part that a session asks for, by its call's number and its own, and where its claims begin.
 #[derive(Clone, Copy, Drop)]
 pub struct Ask<'a> {
     pub call: u32,
@@ -21,6 +19,7 @@ pub struct Ask<'a> {
     pub op: PartOp,
     pub key: &'a [u8],
     pub value: &'a [u8],
+    pub start: ClaimStart,
 }
 
 /// What one part did: its answer, the bytes that the taker got, and the segments that it stored.
@@ -80,7 +79,11 @@ fn run_one<N: BookName, P: PoolName, R: Wait>(
         &commons,
         &mut session.seat,
         &mut session.mine,
-        &AskedPart { at, part },
+        &AskedPart {
+            at,
+            part,
+            start: asked.start,
+        },
         &mut copier,
         &mut stored,
     )?;
@@ -181,7 +184,6 @@ pub fn run_named<N: BookName + Send + Sync, P: PoolName + Send + Sync, R: Thread
     alloc: Global,
     pool: PoolBlank,
     book: BookBlank,
-    spread: ClaimSpread,
     first: &[Ask<'_>],
     second: &[Ask<'_>],
 ) -> Result<Outcome, Memory>
@@ -197,7 +199,7 @@ pub fn run_named<N: BookName + Send + Sync, P: PoolName + Send + Sync, R: Thread
     };
     let shard_maps = open_seats(alloc, &pool, &mut seat, books.len())?;
     let second_seat = pool.split(&mut seat, (), 2);
-    let Ok(store) = Store::open_spread(alloc, shard_maps, books, spread) else {
+    let Ok(store) = Store::open(alloc, shard_maps, books) else {
         return Err(Memory);
     };
     let one = Session { seat, mine };

@@ -11,7 +11,7 @@ use Rattle.shard_core.specs.declared.answer.PartAnswer.TheVariants as say
 use Rattle.shard_part.specs.Parts.{operation_of}
 use Rattle.shard_core.specs.Outcomes.{PartOutcome}
 use Rattle.shard_store.specs.Shards.{IsShard, answer_after, found_after, first_after}
-use Rattle.shard_store.proofs.Histories.{grows, stored_are, entered_shard, entered_session, pieces-found, stays}
+use Rattle.shard_store.proofs.Histories.{as_was, grows, stored_are, entered_shard, entered_session, pieces-found, stays}
 use Rattle.shard_store.proofs.Histories.{may_miss, key-part, refused, needed, wanting, paid_part, seat_kept, on_err}
 use Rattle.shard_store.proofs.Reached.{reaches}
 use Rattle.shard_store.proofs.Stored.{in_buffers}
@@ -28,9 +28,11 @@ returns-in_err-reserve-clause-part g c = record {
 
 pub invariant_of-self-in-Ok : goal.invariant_of-self-in-Ok
 invariant_of-self-in-Ok g c =
+    let stands = as_was g.P.PoolName.sizes g.row.I _ _ c.self.inside.seat c.self.inside.journal.items
+    c.claim_from.ensures c.self.invariant in
     let z = g.P.PoolName.sizes in
     let was : ShardState = record {
-      shard = c.self.inside.shard_map;
+      shard = c.claim_from.new.self;
       payer = c.args.payer.now;
       stored = c.args.stored.now.items;
       taken = g.T.Taker.taken c.args.taker.now;
@@ -44,7 +46,7 @@ invariant_of-self-in-Ok g c =
     let inside = c.self.inside in
     let list : ShardList = inside.seat in
     let op = operation_of c.args.asked.now.part in
-    let d = c.in-Ok.ensures.part.done (final_store list.told) (final_places list.told) c.self.invariant.agrees in
+    let d = c.in-Ok.ensures.part.done (final_store list.told) (final_places list.told) stands.agrees in
     let all = stored_are c.args.stored.now.items c.apply.new.stored.items c.as_slice.result.now c.len-from.result _
     d.stored c.as_slice.ensures c.len-from.ensures d.segs_are in
     subst (λ (y : ShardList × List Entry). IsShard z g.row.I c.apply.new.self y.0 y.1)
@@ -53,11 +55,13 @@ invariant_of-self-in-Ok g c =
           all) i,
       sym (c.push_reserved.ensures.items ∙ ap (λ l. l ++ c.args.asked.now.at ∷ []) c.in_ok-reserve.ensures.items) i,
     ))
-    (grows z g.row.I list inside.journal.items c.args.asked.now.at op c.in-Ok.answer was is c.self.invariant d
+    (grows z g.row.I list inside.journal.items c.args.asked.now.at op c.in-Ok.answer was is stands d
     c.is_shard_map-in-Ok.ensures.kept c.is_shard_map-in-Ok.ensures.seat)
 
 pub returns-in-Ok-clause-part : goal.returns-in-Ok-clause-part
 returns-in-Ok-clause-part g c =
+    let stands = as_was g.P.PoolName.sizes g.row.I _ _ c.self.inside.seat c.self.inside.journal.items
+    c.claim_from.ensures c.self.invariant in
     let z = g.P.PoolName.sizes in
     let shards = g.N.BookName.sizes.shards in
     let inside = c.self.inside in
@@ -66,7 +70,7 @@ returns-in-Ok-clause-part g c =
     let op = operation_of part in
     let s = final_store list.told in
     let p = final_places list.told in
-    let d = c.in-Ok.ensures.part.done s p c.self.invariant.agrees in
+    let d = c.in-Ok.ensures.part.done s p stands.agrees in
     let all = stored_are c.args.stored.now.items c.apply.new.stored.items c.as_slice.result.now c.len-from.result _
     d.stored c.as_slice.ensures c.len-from.ensures d.segs_are in
     let here = c.self.invariant.number_is ∙ sym c.requires.here
@@ -87,7 +91,7 @@ returns-in-Ok-clause-part g c =
           told = ap (λ (l : SessionList). l.told) met;
           sought = paid_part z op (Some outcome) c.args.payer.now c.apply.new.payer c.in-Ok.ensures.part.paid;
           free = λ none.
-              let pays = c.in-Ok.ensures.part.pays s p c.self.invariant.agrees (none (finite.get s (key_of op)) refl) in
+              let pays = c.in-Ok.ensures.part.pays s p stands.agrees (none (finite.get s (key_of op)) refl) in
               (pays.claims, pays.looks);
           missed = tt;
         };
@@ -117,40 +121,48 @@ returns-in_err-reserve-clause-free g c = λ none. (search rules, refl, refl)
 
 pub returns-in-Ok-clause-free : goal.returns-in-Ok-clause-free
 returns-in-Ok-clause-free g c = λ seen.
+    let stands = as_was g.P.PoolName.sizes g.row.I _ _ c.self.inside.seat c.self.inside.journal.items
+    c.claim_from.ensures c.self.invariant in
     let list : ShardList = c.self.inside.seat in
     let op = operation_of c.args.asked.now.part in
     let none = subst (λ (l : ShardList). stored_value (final_store l.told) op ≡ None) (sym c.self.view_is) seen in
     let s = final_store list.told in
     let p = final_places list.told in
-    let pays = c.in-Ok.ensures.part.pays s p c.self.invariant.agrees none in
-    let d = c.in-Ok.ensures.part.done s p c.self.invariant.agrees in
+    let pays = c.in-Ok.ensures.part.pays s p stands.agrees none in
+    let d = c.in-Ok.ensures.part.done s p stands.agrees in
     (shown_answer _ _ d.says, pays.claims, pays.looks)
 
 pub returns-in-Err-NoBuffer-clause-free : goal.returns-in-Err-NoBuffer-clause-free
 returns-in-Err-NoBuffer-clause-free g c = λ seen.
+    let stands = as_was g.P.PoolName.sizes g.row.I _ _ c.self.inside.seat c.self.inside.journal.items
+    c.claim_from.ensures c.self.invariant in
     let list : ShardList = c.self.inside.seat in
     let op = operation_of c.args.asked.now.part in
     let none = subst (λ (l : ShardList). stored_value (final_store l.told) op ≡ None) (sym c.self.view_is) seen in
     let pays = c.in-Err-NoBuffer.ensures.part.pays (final_store list.told) (final_places list.told)
-    c.self.invariant.agrees none in
+    stands.agrees none in
     let wrong : false ≡ true = pays.answered in
     absurd (cc)
 
 pub returns-in-Err-Memory-clause-free : goal.returns-in-Err-Memory-clause-free
 returns-in-Err-Memory-clause-free g c = λ seen.
+    let stands = as_was g.P.PoolName.sizes g.row.I _ _ c.self.inside.seat c.self.inside.journal.items
+    c.claim_from.ensures c.self.invariant in
     let list : ShardList = c.self.inside.seat in
     let op = operation_of c.args.asked.now.part in
     let none = subst (λ (l : ShardList). stored_value (final_store l.told) op ≡ None) (sym c.self.view_is) seen in
     let pays = c.in-Err-Memory.ensures.part.pays (final_store list.told) (final_places list.told)
-    c.self.invariant.agrees none in
+    stands.agrees none in
     let wrong : false ≡ true = pays.answered in
     absurd (cc)
 
 pub returns-in-Err-NoBuffer-clause-part : goal.returns-in-Err-NoBuffer-clause-part
 returns-in-Err-NoBuffer-clause-part g c =
+    let stands = as_was g.P.PoolName.sizes g.row.I _ _ c.self.inside.seat c.self.inside.journal.items
+    c.claim_from.ensures c.self.invariant in
     let z = g.P.PoolName.sizes in
     let was : ShardState = record {
-      shard = c.self.inside.shard_map;
+      shard = c.claim_from.new.self;
       payer = c.args.payer.now;
       stored = c.args.stored.now.items;
       taken = g.T.Taker.taken c.args.taker.now;
@@ -176,7 +188,7 @@ returns-in-Err-NoBuffer-clause-part g c =
           sought = paid_part z op None c.args.payer.now c.apply.new.payer none.0;
           free = absurd;
           missed = would_put s op (λ none.
-              let pays = here.ensures.part.pays s (final_places list.told) c.self.invariant.agrees none in
+              let pays = here.ensures.part.pays s (final_places list.told) stands.agrees none in
               let wrong : false ≡ true = pays.answered in
               absurd (cc));
         };
@@ -189,7 +201,7 @@ returns-in-Err-NoBuffer-clause-part g c =
           (
             finite.get s (key_of op),
             needed z op here.field-0 here.none was is here.field-0-is here.ensures.part.needs s
-                (final_places list.told) c.self.invariant.agrees,
+                (final_places list.told) stands.agrees,
           ),
         );
         pieces = here.ensures.part.untaken ∙ sym (append-nil (g.T.Taker.taken c.args.taker.now));

@@ -19,8 +19,8 @@ split-second_seat-requires-clause-credits g c =
     ap (λ (v : View). v.credits) c.name-pool.ensures in
     (omega arith, omega (arith, count, all, c.requires.credits, c.in_ok-shard_maps.ensures.credits))
 
-pub open_spread-requires-clause-seats : goal.open_spread-requires-clause-seats
-open_spread-requires-clause-seats g c =
+pub open-requires-clause-seats : goal.open-requires-clause-seats
+open-requires-clause-seats g c =
     let seats = c.in_ok-shard_maps.ensures.seats in
     (seats.0 ∙ c.len.ensures ∙ ap length c.name-book.ensures.shards ∙ length-new 0 g.N.BookName.sizes.shards, seats.1)
 

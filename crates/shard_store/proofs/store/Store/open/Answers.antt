@@ -1,7 +1,7 @@
 use Rattle.std.proofs.Common.{◌≡◌, min, length, sym, ◌∙◌, ap, arith}
 use Rattle.order_book.specs.Pages.{new_shards}
 use Rattle.shard_store.proofs.Gathering.{length-new}
-use Rattle.shard_store.proofs.store.Store.open_spread.Goals as goal
+use Rattle.shard_store.proofs.store.Store.open.Goals as goal
 
 pub overflow_cast-shards : goal.overflow_cast-shards
 overflow_cast-shards g c =
