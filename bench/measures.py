@@ -53,13 +53,13 @@ def write(folder, name, requests):
 class Load:
     """Requests of one command for values of one length, in a file for each session. A session has keys of its own and
     first sets all of them, to values that fit together into a pool of the usual size; then it asks for each in turn.
-    Where sessions are `apart`, no two have keys in the same of the eight shards."""
+    Where sessions are `apart`, no two have keys in the same of so many shards."""
 
     KEYS = 10
 
-    def __init__(self, folder, command, length, sessions=1, requests=None, apart=False):
+    def __init__(self, folder, command, length, sessions=1, requests=None, apart=None):
         self.folder, self.command, self.length = folder, command, length
-        self.shards = SHARDS // sessions if apart else None
+        self.sessions, self.apart = sessions, apart
         self.turns = max(1, (requests or min(REQUESTS, BYTES // length)) // self.KEYS)
         self.files = [write(folder, f"in{session}.resp", self.requests(session)) for session in range(sessions)]
         self.count = sessions * self.KEYS * (1 + self.turns)
@@ -71,8 +71,8 @@ class Load:
     def of(self, session):
         """The requests that set a session's keys, and those of one turn."""
         keys = (b"s%dk%d" % (session, number) for number in itertools.count())
-        if self.shards:
-            keys = (key for key in keys if shard_of(key, SHARDS) // self.shards == session)
+        if self.apart:
+            keys = (key for key in keys if shard_of(key, self.apart) // (self.apart // self.sessions) == session)
         keys = list(itertools.islice(keys, self.KEYS))
         first = b"".join(request(b"SET", key, self.length * b"v") for key in keys)
         return first, first if self.command == "SET" else b"".join(request(b"GET", key) for key in keys)

@@ -27,14 +27,15 @@ use std::snapshot::Snapshot;
 
 /// A shard map of values, and the history that led to them. Contracts see the shard's number and its deeds.
 ///
-/// What every part writes lies in front, beside the lock. The line behind the values keeps the next shard's lock apart
-/// from them: processors take a written line of 64 bytes from one another.
+/// Processors take a written line of 64 bytes from one another. So what every part writes, the journal's length, stands
+/// beside the lock, and the words behind the values make a shard with its lock four lines long: no line has words of two
+/// shards that parts write, and each shard's lock and length lie in one line where the first shard's do.
 #[derive(Drop)]
 pub(crate) struct Shard<N: BookName, P: PoolName, const I: u16> {
     pub(crate) journal: Vec<Entry>,
     pub(crate) seat: ShardSeat<N>,
     pub(crate) shard_map: ShardMap<P>,
-    pub(crate) apart: [u64; 8],
+    pub(crate) apart: [u64; 11],
 }
 
 impl<N: BookName, P: PoolName, const I: u16> Model for Shard<N, P, I> {
@@ -48,6 +49,16 @@ impl<N: BookName, P: PoolName, const I: u16> Model for Shard<N, P, I> {
     ghost invariant = { λ s. IsShard P.sizes I s.shard_map s.seat s.journal.items };
 }
 
+// Where a part may store a value, its claims begin where it says. One that reads writes no word of the map.
+#[inline(always)]
+fn claim_for<P: PoolName>(shard_map: &mut ShardMap<P>, asked: &AskedPart<'_>)
+    ensures { shard_map.new ≡ shard_map.old }
+{
+    if asked.part.op.takes_value() {
+        shard_map.claim_from(asked.start);
+    }
+}
+
 impl<N: BookName, P: PoolName, const I: u16> Shard<N, P, I> {
     pub(crate) fn new(alloc: Global, own: PoolSeat<P>, seat: ShardSeat<N>) -> Self
         requires bare { IsBare own }
@@ -58,7 +69,7 @@ impl<N: BookName, P: PoolName, const I: u16> Shard<N, P, I> {
             shard_map: ShardMap::new(alloc, own),
             seat,
             journal: Vec::new(alloc),
-            apart: [0; 8],
+            apart: [0; 11],
         }
     }
 
@@ -89,7 +100,7 @@ impl<N: BookName, P: PoolName, const I: u16> Shard<N, P, I> {
     {
         self.journal.reserve(1)?;
         self.shard_map.is_shard_map();
-        self.shard_map.claim_from(asked.start);
+        claim_for(&mut self.shard_map, asked);
         let from = stored.len();
         match self
             .shard_map

@@ -11,8 +11,8 @@ use Rattle.shard_core.specs.declared.answer.PartAnswer.TheVariants as say
 use Rattle.shard_part.specs.Parts.{operation_of}
 use Rattle.shard_core.specs.Outcomes.{PartOutcome}
 use Rattle.shard_store.specs.Shards.{IsShard, answer_after, found_after, first_after}
-use Rattle.shard_store.proofs.Histories.{as_was, grows, stored_are, entered_shard, entered_session, pieces-found, stays}
-use Rattle.shard_store.proofs.Histories.{may_miss, key-part, refused, needed, wanting, paid_part, seat_kept, on_err}
+use Rattle.shard_store.proofs.Histories.{as_was, grows, stored_are, entered_shard, entered_session, pieces-found}
+use Rattle.shard_store.proofs.Histories.{stays, may_miss, key-part, refused, needed, wanting, paid_part, seat_kept, on_err}
 use Rattle.shard_store.proofs.Reached.{reaches}
 use Rattle.shard_store.proofs.Stored.{in_buffers}
 use Rattle.shard_store.proofs.Unstored.{unstored, would_put, shown_answer}
@@ -29,10 +29,10 @@ returns-in_err-reserve-clause-part g c = record {
 pub invariant_of-self-in-Ok : goal.invariant_of-self-in-Ok
 invariant_of-self-in-Ok g c =
     let stands = as_was g.P.PoolName.sizes g.row.I _ _ c.self.inside.seat c.self.inside.journal.items
-    c.claim_from.ensures c.self.invariant in
+    c.claim_for.ensures c.self.invariant in
     let z = g.P.PoolName.sizes in
     let was : ShardState = record {
-      shard = c.claim_from.new.self;
+      shard = c.claim_for.new.shard_map;
       payer = c.args.payer.now;
       stored = c.args.stored.now.items;
       taken = g.T.Taker.taken c.args.taker.now;
@@ -61,7 +61,7 @@ invariant_of-self-in-Ok g c =
 pub returns-in-Ok-clause-part : goal.returns-in-Ok-clause-part
 returns-in-Ok-clause-part g c =
     let stands = as_was g.P.PoolName.sizes g.row.I _ _ c.self.inside.seat c.self.inside.journal.items
-    c.claim_from.ensures c.self.invariant in
+    c.claim_for.ensures c.self.invariant in
     let z = g.P.PoolName.sizes in
     let shards = g.N.BookName.sizes.shards in
     let inside = c.self.inside in
@@ -122,7 +122,7 @@ returns-in_err-reserve-clause-free g c = λ none. (search rules, refl, refl)
 pub returns-in-Ok-clause-free : goal.returns-in-Ok-clause-free
 returns-in-Ok-clause-free g c = λ seen.
     let stands = as_was g.P.PoolName.sizes g.row.I _ _ c.self.inside.seat c.self.inside.journal.items
-    c.claim_from.ensures c.self.invariant in
+    c.claim_for.ensures c.self.invariant in
     let list : ShardList = c.self.inside.seat in
     let op = operation_of c.args.asked.now.part in
     let none = subst (λ (l : ShardList). stored_value (final_store l.told) op ≡ None) (sym c.self.view_is) seen in
@@ -135,7 +135,7 @@ returns-in-Ok-clause-free g c = λ seen.
 pub returns-in-Err-NoBuffer-clause-free : goal.returns-in-Err-NoBuffer-clause-free
 returns-in-Err-NoBuffer-clause-free g c = λ seen.
     let stands = as_was g.P.PoolName.sizes g.row.I _ _ c.self.inside.seat c.self.inside.journal.items
-    c.claim_from.ensures c.self.invariant in
+    c.claim_for.ensures c.self.invariant in
     let list : ShardList = c.self.inside.seat in
     let op = operation_of c.args.asked.now.part in
     let none = subst (λ (l : ShardList). stored_value (final_store l.told) op ≡ None) (sym c.self.view_is) seen in
@@ -147,7 +147,7 @@ returns-in-Err-NoBuffer-clause-free g c = λ seen.
 pub returns-in-Err-Memory-clause-free : goal.returns-in-Err-Memory-clause-free
 returns-in-Err-Memory-clause-free g c = λ seen.
     let stands = as_was g.P.PoolName.sizes g.row.I _ _ c.self.inside.seat c.self.inside.journal.items
-    c.claim_from.ensures c.self.invariant in
+    c.claim_for.ensures c.self.invariant in
     let list : ShardList = c.self.inside.seat in
     let op = operation_of c.args.asked.now.part in
     let none = subst (λ (l : ShardList). stored_value (final_store l.told) op ≡ None) (sym c.self.view_is) seen in
@@ -159,10 +159,10 @@ returns-in-Err-Memory-clause-free g c = λ seen.
 pub returns-in-Err-NoBuffer-clause-part : goal.returns-in-Err-NoBuffer-clause-part
 returns-in-Err-NoBuffer-clause-part g c =
     let stands = as_was g.P.PoolName.sizes g.row.I _ _ c.self.inside.seat c.self.inside.journal.items
-    c.claim_from.ensures c.self.invariant in
+    c.claim_for.ensures c.self.invariant in
     let z = g.P.PoolName.sizes in
     let was : ShardState = record {
-      shard = c.claim_from.new.self;
+      shard = c.claim_for.new.shard_map;
       payer = c.args.payer.now;
       stored = c.args.stored.now.items;
       taken = g.T.Taker.taken c.args.taker.now;
