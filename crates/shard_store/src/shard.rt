@@ -28,8 +28,8 @@ use std::snapshot::Snapshot;
 /// A shard map of values, and the history that led to them. Contracts see the shard's number and its deeds.
 ///
 /// Processors take a written line of 64 bytes from one another. So what every part writes, the journal's length, stands
-/// beside the lock, and the words behind the values make a shard with its lock four lines long: no line has words of two
-/// shards that parts write, and each shard's lock and length lie in one line where the first shard's do.
+/// beside the lock, and the words behind the values make a shard with its lock four lines long: no two shards have a
+/// line in common that parts write, and all locks are at one place of their lines.
 #[derive(Drop)]
 pub(crate) struct Shard<N: BookName, P: PoolName, const I: u16> {
     pub(crate) journal: Vec<Entry>,
