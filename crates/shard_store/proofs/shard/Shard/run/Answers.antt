@@ -12,7 +12,8 @@ use Rattle.shard_part.specs.Parts.{operation_of}
 use Rattle.shard_core.specs.Outcomes.{PartOutcome}
 use Rattle.shard_store.specs.Shards.{IsShard, answer_after, found_after, first_after}
 use Rattle.shard_store.proofs.Histories.{as_was, grows, stored_are, entered_shard, entered_session, pieces-found}
-use Rattle.shard_store.proofs.Histories.{stays, may_miss, key-part, refused, needed, wanting, paid_part, seat_kept, on_err}
+use Rattle.shard_store.proofs.Histories.{stays, may_miss, key-part, refused, needed, wanting}
+use Rattle.shard_store.proofs.Histories.{paid_part, seat_kept, on_err}
 use Rattle.shard_store.proofs.Reached.{reaches}
 use Rattle.shard_store.proofs.Stored.{in_buffers}
 use Rattle.shard_store.proofs.Unstored.{unstored, would_put, shown_answer}
