@@ -21,6 +21,7 @@ use Rattle.serve_inputs.specs.contracts.job.Waiting as waiting
 use Rattle.order_book.proofs.seat.BookSeat.TheSendSync as mine
 use Rattle.pin_dump.proofs.dump.Dump.TheSendSync as dumped
 use Rattle.pinned_pool.proofs.seat.PoolSeat.TheSendSync as seat
+use Rattle.pinned_pool.proofs.start.ClaimStart.TheSendSync as start
 use Rattle.reply_planner.proofs.stage.Stage.TheSendSync as stage
 use Rattle.tx_ring.proofs.driver.Driver.TheSendSync as driver
 use Rattle.reply_planner.proofs.parcel.Parcel.TheSendSync as parcel
@@ -46,7 +47,7 @@ module _ (N P : RattleType) (book : Book N.Denot) (pool : Pool P.Denot) (n : IsS
             search (sendable, crosses, stage.the_send),
             (
               search (sendable, crosses, stage.the_send),
-              (search (sendable, crosses), tt),
+              (search (sendable, crosses), (search (sendable, crosses, start.the_send), tt)),
             ),
           ),
         ),
