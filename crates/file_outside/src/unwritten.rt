@@ -1,5 +1,5 @@
 // Bytes that wait to be written.
-ghost use Rattle.std.specs.Prelude.{◌≡◌, ◌≤◌, ◌==◌, [], length, IfOk, OnOk, OnErr};
+ghost use Rattle.std.specs.Prelude.{◌≡◌, ◌<◌, ◌≤◌, ◌==◌, [], length, IfOk, OnOk, OnErr, MatchBool};
 ghost use Rattle.file_outside.specs.Unwritten.{Puts, PutsFront, and_waits};
 
 use crate::again::write_front;
@@ -60,8 +60,7 @@ impl Unwritten {
         ensures failed { OnErr result
             (PutsFront piece.now (F.contents writer.old) self.old (F.contents writer.new) self.new) }
     {
-        if piece.len() <= self.free() {
-            self.keep(piece);
+        if self.wait(piece) {
             return Ok(());
         }
         self.write_out(writer)?;
@@ -70,6 +69,18 @@ impl Unwritten {
         }
         self.keep(piece);
         Ok(())
+    }
+
+    /// Takes a piece that there is room for, and answers whether there was.
+    pub fn wait(&mut self, piece: &[u8]) -> bool
+        ensures { MatchBool result (self.new ≡ and_waits self.old piece.now)
+            ((self.new ≡ self.old) × (self.old.free < length piece.now)) }
+    {
+        if piece.len() > self.free() {
+            return false;
+        }
+        self.keep(piece);
+        true
     }
 
     fn free(&self) -> usize

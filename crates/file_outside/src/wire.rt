@@ -77,6 +77,22 @@ impl<R: Files + Drop> FileWire<R> {
         done
     }
 
+    // A put for which the file is made, or what waits is written. It stands apart, so that the others take few steps.
+    #[inline(never)]
+    fn put_further(&mut self, piece: &[u8]) -> Result<(), Failed>
+        ensures ok { OnOk result
+            (Grew false piece.now (put_of self.old.unwritten) (put_of self.new.unwritten)) }
+        ensures failed { OnErr result
+            (Grew true piece.now (put_of self.old.unwritten) (put_of self.new.unwritten)) }
+        ensures kept { length self.new.unwritten.waiting ≤ length self.old.unwritten.waiting + length piece.now }
+        ensures cause { HasCause self.old.put_faults self.new.put_faults result }
+        ensures flush_faults { self.new.flush_faults ≡ self.old.flush_faults }
+    {
+        let done = self.keep(piece);
+        self.put_faults = faults_after(self.put_faults, &done);
+        done
+    }
+
     // A wire that keeps nothing back makes no file.
     fn write_out(&mut self) -> Result<(), Failed>
         ensures ok { OnOk result (self.new.unwritten.waiting ≡ []) }
@@ -119,9 +135,10 @@ where
     } };
 
     fn put(&mut self, piece: &[u8]) -> Result<(), Failed> {
-        let done = self.keep(piece);
-        self.put_faults = faults_after(self.put_faults, &done);
-        done
+        if self.file.is_some() && self.unwritten.wait(piece) {
+            return Ok(());
+        }
+        self.put_further(piece)
     }
 
     fn flush(&mut self) -> Result<(), Failed> {
