@@ -4,13 +4,13 @@ ghost use Rattle.indexmap.specs.IndexMap.{keys, spare, index_of_by, set_value_at
 ghost use Rattle.shard_core.specs.Keys.{same_bytes, key_eq, is_key};
 ghost use Rattle.shard_core.specs.Kept.{value_at};
 
+use crate::slot::Slot;
 use frag_value::Value;
 use indexmap::IndexMap;
 use pinned_pool::{ClaimStart, PoolName, PoolSeat};
 use std::alloc::Global;
-use std::mem::replace;
 
-pub(crate) type Values<P> = IndexMap<Vec<u8>, Value<P>>;
+pub(crate) type Values<P> = IndexMap<Vec<u8>, Slot<P>>;
 
 /// Where the claims of the part begin that is done; a shard's values, the seat that holds their fragments, and what
 /// memory is taken from.
@@ -32,10 +32,10 @@ pub(crate) fn value_in<'a, P: PoolName>(
     ensures { value_at key.now values.now.entries ≡ Some result.now }
 {
     let _ = key;
-    let Some((_, value)) = values.get_index(index) else {
+    let Some((_, slot)) = values.get_index(index) else {
         unreachable!()
     };
-    value
+    slot.value()
 }
 
 /// The key and the value at this index.
@@ -43,10 +43,10 @@ pub(crate) fn entry_at<P: PoolName>(values: &Values<P>, index: usize) -> (&Vec<u
     requires { index < length values.now.entries }
     ensures { slice_get values.now.entries index ≡ Some (result.0.now, result.1.now) }
 {
-    let Some(entry) = values.get_index(index) else {
+    let Some((key, slot)) = values.get_index(index) else {
         unreachable!()
     };
-    entry
+    (key, slot.value())
 }
 
 /// Puts a value in the place of the one that the key has at this index.
@@ -67,7 +67,7 @@ pub(crate) fn exchange<P: PoolName>(
     let Some(slot) = values.get_index_mut(index) else {
         unreachable!()
     };
-    replace(slot, value)
+    slot.exchange(value)
 }
 
 /// Puts a value at a key, for which there is room.
@@ -77,7 +77,7 @@ pub(crate) fn insert<P: PoolName>(values: &mut Values<P>, name: Vec<u8>, value: 
     ensures changed { (c : List ℕ) → value_at c values.new.entries
         ≡ (if same_bytes name.items c then Some value else value_at c values.old.entries) }
 {
-    let Ok(_) = values.insert(name, value) else {
+    let Ok(_) = values.insert(name, Slot::new(value)) else {
         unreachable!()
     };
 }

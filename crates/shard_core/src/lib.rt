@@ -14,6 +14,7 @@ mod reading;
 mod setting;
 mod shard_map;
 mod showing;
+mod slot;
 
 pub use answer::PartAnswer;
 pub use shard_map::ShardMap;

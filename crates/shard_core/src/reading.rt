@@ -73,7 +73,8 @@ pub(crate) fn get_range<P: PoolName, T: Taker<P>>(
     ensures taker { KeepsTaker true (taking T.Taker taker.old) (taking T.Taker taker.new) }
 {
     match kept.values.get(key) {
-        Some(value) => {
+        Some(slot) => {
+            let value = slot.value();
             value.is_value();
             let Span { from, len } = span(value.len(), start, end);
             hand_range(pool, &mut kept.own, value, from, len, taker);
@@ -102,7 +103,7 @@ pub(crate) fn size<P: PoolName>(kept: &Kept<P>, key: &[u8]) -> u64
         → result ≡ length (bytes_at s key.now) }
 {
     match kept.values.get(key) {
-        Some(value) => value.len(),
+        Some(slot) => slot.value().len(),
         None => 0,
     }
 }

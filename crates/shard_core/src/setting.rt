@@ -77,7 +77,7 @@ pub(crate) fn del<P: PoolName>(pool: &Pool<P>, kept: &mut Kept<P>, key: &[u8]) -
     kept.own.is_seat();
     match kept.values.swap_remove(key) {
         Some(old) => {
-            release(pool, &mut kept.own, old);
+            release(pool, &mut kept.own, old.into_value());
             true
         }
         None => false,

@@ -17,7 +17,7 @@ use Rattle.shard_core.proofs.reading.get_range.Goals as goal
 
 pub hand_range-requires-clause-value : goal.hand_range-requires-clause-value
 hand_range-requires-clause-value g c = has_found g.P.PoolName.sizes _ _ _ c.requires.kept.held c.args.key.now
-    c.in-Some.value.now (sym c.in-Some.ensures.value)
+    c.value-value.result.now (sym c.in-Some.ensures.value ∙ ap Some (sym c.value-value.ensures))
 
 pub returns-in-Some-clause-kept : goal.returns-in-Some-clause-kept
 returns-in-Some-clause-kept g c = record {
@@ -36,8 +36,8 @@ returns-in-Some-clause-taken g c = λ s p a.
     let es = c.args.kept.now.values.entries in
     let hs = c.args.kept.now.own.holds in
     let key = c.args.key.now in
-    let v = c.in-Some.value.now in
-    let there : value_at key es ≡ Some v = sym c.in-Some.ensures.value in
+    let v = c.value-value.result.now in
+    let there : value_at key es ≡ Some v = sym c.in-Some.ensures.value ∙ ap Some (sym c.value-value.ensures) in
     let filled = (has_found z es _ hs c.requires.kept.held key v there).filled in
     let size = size-text z hs v c.is_value.ensures filled in
     let same : Some (value_bytes hs v) ≡ finite.get s key = sym (ap (option_map (value_bytes hs)) there)

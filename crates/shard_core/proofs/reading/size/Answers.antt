@@ -14,8 +14,8 @@ returns-in-Some g c = λ s p a.
     let es = c.args.kept.now.values.entries in
     let hs = c.args.kept.now.own.holds in
     let key = c.args.key.now in
-    let v = c.in-Some.value.now in
-    let there : value_at key es ≡ Some v = sym c.in-Some.ensures.value in
+    let v = c.value.result.now in
+    let there : value_at key es ≡ Some v = sym c.in-Some.ensures.value ∙ ap Some (sym c.value.ensures) in
     let bytes : Some (value_bytes hs v) ≡ finite.get s key = sym (ap (option_map (value_bytes hs)) there)
     ∙ a.bytes key in
     c.len.ensures.size ∙ size-text z hs v c.len.ensures.value

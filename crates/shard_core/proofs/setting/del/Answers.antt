@@ -1,4 +1,4 @@
-use Rattle.std.proofs.Common.{◌≡◌, None, Some, sym, ◌∙◌, subst}
+use Rattle.std.proofs.Common.{◌≡◌, None, Some, sym, ap, ◌∙◌, subst}
 use Rattle.std.specs.FinMap as finite
 use Rattle.shard_core.specs.Kept.{frags_of, value_at, AreHeld}
 use Rattle.shard_core.proofs.Entries.{updated}
@@ -7,8 +7,8 @@ use Rattle.shard_core.proofs.Holds.{has_found, cut_held, cut_agrees, gone_held, 
 use Rattle.shard_core.proofs.setting.del.Goals as goal
 
 pub release-requires : goal.release-requires
-release-requires g c = has_found g.P.PoolName.sizes _ _ _ c.requires.kept.held c.args.key.now c.in-Some.old
-    (sym c.in-Some.ensures.value)
+release-requires g c = has_found g.P.PoolName.sizes _ _ _ c.requires.kept.held c.args.key.now
+    c.into_value.result (sym c.in-Some.ensures.value ∙ ap Some (sym c.into_value.ensures))
 
 pub returns-in-Some-clause-kept : goal.returns-in-Some-clause-kept
 returns-in-Some-clause-kept g c =
@@ -17,10 +17,11 @@ returns-in-Some-clause-kept g c =
     let now = c.swap_remove.new.self.entries in
     let hs = c.args.kept.now.own.holds in
     let key = c.args.key.now in
-    let there : value_at key es ≡ Some c.in-Some.old = sym c.in-Some.ensures.value in
-    let gone = cut-swap es now key c.in-Some.old there c.in-Some.ensures.entries
+    let old = c.into_value.result in
+    let there : value_at key es ≡ Some old = sym c.in-Some.ensures.value ∙ ap Some (sym c.into_value.ensures) in
+    let gone = cut-swap es now key old there c.in-Some.ensures.entries
     (updated key c.args.kept.now.values c.swap_remove.new.self None c.in-Some.ensures.updates) in
-    let cut : AreHeld z now c.in-Some.old hs = subst (λ o. AreHeld z now (frags_of o) hs) there
+    let cut : AreHeld z now old hs = subst (λ o. AreHeld z now (frags_of o) hs) there
     (cut_held z es now key hs gone c.requires.kept.held) in
     let r = c.release.ensures in
     record {
@@ -29,7 +30,7 @@ returns-in-Some-clause-kept g c =
         claims = r.claims ∙ c.requires.kept.poor.claims;
         looks = r.looks ∙ c.requires.kept.poor.looks;
       };
-      held = gone_held z now hs c.release.new.seat.holds c.in-Some.old c.is_seat.ensures.fronts.0
+      held = gone_held z now hs c.release.new.seat.holds old c.is_seat.ensures.fronts.0
           c.is_seat.ensures.fronts.1 r.holds cut;
     }
 
@@ -40,12 +41,13 @@ returns-in-Some-clause-agrees g c = λ s p a.
     let now = c.swap_remove.new.self.entries in
     let hs = c.args.kept.now.own.holds in
     let key = c.args.key.now in
-    let there : value_at key es ≡ Some c.in-Some.old = sym c.in-Some.ensures.value in
+    let old = c.into_value.result in
+    let there : value_at key es ≡ Some old = sym c.in-Some.ensures.value ∙ ap Some (sym c.into_value.ensures) in
     let changed = updated key c.args.kept.now.values c.swap_remove.new.self None c.in-Some.ensures.updates in
-    let gone = cut-swap es now key c.in-Some.old there c.in-Some.ensures.entries changed in
-    let cut : AreHeld z now c.in-Some.old hs = subst (λ o. AreHeld z now (frags_of o) hs) there
+    let gone = cut-swap es now key old there c.in-Some.ensures.entries changed in
+    let cut : AreHeld z now old hs = subst (λ o. AreHeld z now (frags_of o) hs) there
     (cut_held z es now key hs gone c.requires.kept.held) in
-    gone_agrees z now hs c.release.new.seat.holds c.in-Some.old c.is_seat.ensures.fronts.0 c.is_seat.ensures.fronts.1
+    gone_agrees z now hs c.release.new.seat.holds old c.is_seat.ensures.fronts.0 c.is_seat.ensures.fronts.1
     c.release.ensures.holds cut (finite.remove s key) (finite.remove p key)
     (cut_agrees z es now key hs changed s p a)
 
