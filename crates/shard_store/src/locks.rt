@@ -22,6 +22,7 @@ use order_book::{Book, BookName, SessionSeat, ShardSeats};
 use pinned_pool::{Pool, PoolName, PoolSeat, PoolSeats};
 use shard_core::PartAnswer;
 use std::alloc::Global;
+use std::hint::spin_loop;
 use std::sync::{Mutex, MutexGuard, Wait};
 
 /// The last seats go behind a lock, if the shard is one of the store's.
@@ -49,6 +50,34 @@ pub(crate) fn open_lock<N: BookName, P: PoolName, const I: u16>(
     Some(Mutex::new(Shard::new(alloc, own, seat)))
 }
 
+// How often a thread tries a lock that another one holds before it may sleep. A part is done in less time than a thread
+// takes to fall asleep and to wake.
+const TRIES: u32 = 50;
+
+// How long it pauses between two tries.
+const PAUSES: u32 = 8;
+
+fn pause() {
+    for _ in 0..PAUSES {
+        spin_loop();
+    }
+}
+
+// The shard behind a lock that another thread held.
+#[inline(never)]
+fn locked_later<'a, R: Wait, N: BookName, P: PoolName, const I: u16>(
+    rt: &R,
+    lock: &'a Mutex<Shard<N, P, I>>,
+) -> MutexGuard<'a, Shard<N, P, I>> {
+    for _ in 0..TRIES {
+        pause();
+        if let Some(guard) = lock.try_lock() {
+            return guard;
+        }
+    }
+    lock.lock(rt)
+}
+
 // The shard behind the lock. All that is known of it is its type.
 #[inline(always)]
 fn locked<'a, R: Wait, N: BookName, P: PoolName, const I: u16>(
@@ -58,7 +87,10 @@ fn locked<'a, R: Wait, N: BookName, P: PoolName, const I: u16>(
     requires { is_some lock.now ≡ true }
 {
     let Some(lock) = lock else { unreachable!() };
-    lock.lock(rt)
+    match lock.try_lock() {
+        Some(guard) => guard,
+        None => locked_later(rt, lock),
+    }
 }
 
 /// Does a part in the shard behind a lock, as `Shard::run` does.
