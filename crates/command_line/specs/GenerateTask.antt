@@ -1,9 +1,9 @@
 -- What the words of the command line ask for.
-use Rattle.std.specs.Prelude.{ℕ, ◌≤◌, ◌-◌, ◌^◌, Bool, false, List, [], ◌∷◌, Option, Some, None, codes, if◌then◌else◌}
+use Rattle.std.specs.Prelude.{ℕ, ◌≤◌, ◌-◌, ◌^◌, List, Option, Some, None, codes, if◌then◌else◌}
 use Rattle.std.specs.Option.{option_and_then}
-use Rattle.std.specs.Str.{bytes_eq}
 use Rattle.clap.specs.Walk.{Row}
 use Rattle.command_line.specs.GenerateCommand.{rows_in}
+use Rattle.command_line.specs.Named.{begins_with}
 use Rattle.command_line.specs.Numbers.{number_in, number_or}
 use Rattle.command_line.specs.declared.generate_task.GenTask.{GenTask}
 
@@ -20,14 +20,10 @@ generated_task_in rows = option_and_then
     (number_or (codes "requests") 4000 1000 rows) (number_or (codes "workers") 16 sessions rows))
     (number_or (codes "sessions") 16 4 rows)
 
--- the first word is `gen`
-abbrev pub is_gen : List (List ℕ) → Bool
-is_gen [] = false
-is_gen (command ∷ words) = bytes_eq command (codes "gen")
-
 -- the task that the words ask for; none where they are bad words
 abbrev pub generated_task_of : List (List ℕ) → Option GenTask
-generated_task_of words = if is_gen words then option_and_then generated_task_in (rows_in words) else None
+generated_task_of words =
+    if begins_with (codes "gen") words then option_and_then generated_task_in (rows_in words) else None
 
 -- a task that a run can be given
 pub record IsAllowedGenerated (task : GenTask) : Type 0 where

@@ -1,9 +1,10 @@
 ghost use Rattle.std.specs.Prelude.{◌≡◌, IfOk, IfSome};
 ghost use Rattle.command_line.specs.Task.{word_texts};
-ghost use Rattle.command_line.specs.GenerateTask.{IsAllowedGenerated, is_gen, generated_task_of};
+ghost use Rattle.command_line.specs.GenerateTask.{IsAllowedGenerated, generated_task_of};
 
 use crate::generate_command::matches_of_words;
 use crate::generate_task::{GenTask, task_in};
+use crate::named::begins_with;
 use flake_base::Memory;
 use std::alloc::Global;
 
@@ -13,20 +14,11 @@ pub fn gen_task(alloc: Global, words: &[String]) -> Result<Option<GenTask>, Memo
     ensures value { IfOk result (λ task. task ≡ generated_task_of (word_texts words.now)) }
     ensures allowed { IfOk result (λ task. IfSome task IsAllowedGenerated) }
 {
-    if !is_gen(words) {
+    if !begins_with(words, "gen") {
         return Ok(None);
     }
     match matches_of_words(alloc, words)? {
         Some(matches) => Ok(task_in(&matches)),
         None => Ok(None),
-    }
-}
-
-fn is_gen(words: &[String]) -> bool
-    ensures { result ≡ is_gen (word_texts words.now) }
-{
-    match words {
-        [command, ..] => command.as_str() == "gen",
-        [] => false,
     }
 }
