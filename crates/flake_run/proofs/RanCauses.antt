@@ -1,5 +1,5 @@
 -- The causes of what a run answers that served its files.
-use Rattle.std.proofs.Common.{◌≡◌, ◌≢◌, ◌⊎◌, ◌<◌, inl, inr, ℕ, Bool, false, true, List, Some, length, map}
+use Rattle.std.proofs.Common.{◌≡◌, ◌≢◌, ◌⊎◌, ◌<◌, inl, inr, ℕ, Bool, true, List, Some, length, map}
 use Rattle.std.proofs.Common.{slice_index_or, arith}
 use Rattle.std.proofs.Common.{ap, sym, ◌∙◌, subst}
 use Rattle.std.specs.List.{list_any, range_with_len}

@@ -4,14 +4,12 @@ ghost use Rattle.schedule_text.specs.Text.{line_session};
 ghost use Rattle.run_resources.specs.Opened.{HasRunSizes, pool_sizes};
 ghost use Rattle.session_serve.specs.Ran.{AreReads};
 ghost use Rattle.flake_base.specs.Histories.{histories};
-ghost use Rattle.any_wire.specs.Sent.{FlushIs, PutIs};
 ghost use Rattle.flake_run.specs.Driven.{IsDrivenBy, IsDrivenRun};
 ghost use Rattle.flake_run.specs.Schedule.{IsUndriven};
 
+use crate::boxed::Boxed;
 use crate::finding::Finding;
 use crate::schedule::schedule_in;
-use crate::source::{flush, put};
-use any_wire::Calls;
 use drive_inputs::{DrivenRun, drive_inputs};
 use flake_base::{Host, Source, Wire};
 use run_resources::RunSizes;
@@ -46,27 +44,7 @@ fn drive_sources<R: Wait, S: Source + Drop, H: Host>(
     ensures back { IfErr result (λ e. (e.0.items ≡ sources.items) × (e.1.items ≡ wires.items)) }
     ensures silent { OnErr result (H.host_told host.new ≡ H.host_told host.old) }
 {
-    let driven = drive_inputs(
-        rt,
-        alloc,
-        sizes,
-        schedule,
-        sources,
-        wires,
-        host,
-        &Calls {
-            put: |w: Box<dyn Wire>, piece: &[u8]| -> (Box<dyn Wire>, bool)
-                ensures { 0 < length piece.now → PutIs result.1 piece.now (wire_told w) (wire_told result.0) }
-            { put(w, piece) },
-            flush: |w: Box<dyn Wire>| -> (Box<dyn Wire>, bool)
-                ensures { FlushIs result.1 (wire_told w) (wire_told result.0) }
-            { flush(w) },
-        },
-    );
-    match driven {
-        Ok(driven) => Ok(driven),
-        Err(back) => Err(back),
-    }
+    drive_inputs(rt, alloc, sizes, schedule, sources, wires, host, &Boxed)
 }
 
 /// Reads the schedule of a source, and drives the others by it; or says why that is not done, and all comes back.

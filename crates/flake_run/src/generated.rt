@@ -4,17 +4,15 @@ ghost use Rattle.flake_base.specs.Histories.{histories};
 ghost use Rattle.command_line.specs.Task.{word_texts};
 ghost use Rattle.command_line.specs.GenerateTask.{IsAllowedGenerated, generated_task_of};
 ghost use Rattle.serve_generated.specs.Generated.{IsTooMuch};
-ghost use Rattle.any_wire.specs.Sent.{PutIs, FlushIs};
 ghost use Rattle.serve_inputs.specs.Dumped.{dump_told, no_dump};
 ghost use Rattle.flake_run.specs.Outside.{outside};
 ghost use Rattle.flake_run.specs.Outcome.{done, opened_told, source_told};
 ghost use Rattle.flake_run.specs.Generated.{Generated, IsGeneratedRun};
 
+use crate::boxed::Boxed;
 use crate::outcome::{Detail, Outcome, Refusal};
-use crate::source::{flush, put};
 use crate::tell::{refuse, report_total};
 use crate::total::sum_of;
-use any_wire::Calls;
 use command_line::{GenTask, gen_task};
 use flake_base::{Host, Memory, Wire};
 use report_text::REPORT_ROOM;
@@ -44,25 +42,7 @@ fn serve_requests<R: Threads + Wait + Sync, G: Gate>(
     ensures too_much { IfErr result (λ e. e.0 ≡ GeneratedRefusal.TooMuch → IsTooMuch task.now) }
     ensures back { IfErr result (λ e. e.1.items ≡ wires.items) }
 {
-    let served = serve_generated(
-        rt,
-        alloc,
-        task,
-        wires,
-        gate,
-        &Calls {
-            put: |w: Box<dyn Wire>, piece: &[u8]| -> (Box<dyn Wire>, bool)
-                ensures { 0 < length piece.now → PutIs result.1 piece.now (wire_told w) (wire_told result.0) }
-            { put(w, piece) },
-            flush: |w: Box<dyn Wire>| -> (Box<dyn Wire>, bool)
-                ensures { FlushIs result.1 (wire_told w) (wire_told result.0) }
-            { flush(w) },
-        },
-    );
-    match served {
-        Ok(served) => Ok(served),
-        Err(back) => Err(back),
-    }
+    serve_generated(rt, alloc, task, wires, gate, &Boxed)
 }
 
 /// Serves the requests that the words ask for, and says how many replies they got, of how many bytes, and what is held.

@@ -1,6 +1,7 @@
 //! A key-value server over files: requests from a file, replies to a wire; over any host, any wires and any runtime.
 #![tactic(auto)]
 
+mod boxed;
 mod check;
 mod drive;
 mod driving;

@@ -5,36 +5,14 @@ ghost use Rattle.flake_run.specs.Serving.{IsDumpingRun};
 ghost use Rattle.run_resources.specs.Opened.{HasRunSizes, dump_wires, pool_sizes};
 ghost use Rattle.session_serve.specs.Ran.{AreReads};
 ghost use Rattle.serve_inputs.specs.Dumped.{dump_told};
-ghost use Rattle.any_wire.specs.Sent.{PutIs, FlushIs};
 
-use any_wire::Calls;
+use crate::boxed::Boxed;
 use flake_base::{End, Source, Wire};
 use serve_inputs::{RunSizes, Served, serve_inputs};
 use session_pass::Gate;
 use std::alloc::Global;
 use std::sync::Wait;
 use std::thread::Threads;
-
-/// Puts a piece that has bytes; answers whether that failed.
-pub(crate) fn put(wire: Box<dyn Wire>, piece: &[u8]) -> (Box<dyn Wire>, bool)
-    ensures { 0 < length piece.now → PutIs result.1 piece.now (wire_told wire) (wire_told result.0) }
-{
-    let mut wire = wire;
-    if piece.is_empty() {
-        return (wire, false);
-    }
-    let failed = wire.put(piece).is_err();
-    (wire, failed)
-}
-
-/// Flushes; answers whether that failed.
-pub(crate) fn flush(wire: Box<dyn Wire>) -> (Box<dyn Wire>, bool)
-    ensures { FlushIs result.1 (wire_told wire) (wire_told result.0) }
-{
-    let mut wire = wire;
-    let failed = wire.flush().is_err();
-    (wire, failed)
-}
 
 /// Serves the requests of each source, to its end or until memory is wanting; the replies go to the wire at its place,
 /// and a dump to the wire behind these.
@@ -66,25 +44,5 @@ pub fn serve_sources<R: Threads + Wait + Sync, S: Source + Send + Drop, G: Gate>
     ensures ends { IfOk result (λ r. length r.ends.items ≡ length sources.items) }
     ensures back { IfErr result (λ e. (e.0.items ≡ sources.items) × (e.1.items ≡ wires.items)) }
 {
-    let served = serve_inputs(
-        rt,
-        alloc,
-        sizes,
-        workers,
-        sources,
-        wires,
-        gate,
-        &Calls {
-            put: |w: Box<dyn Wire>, piece: &[u8]| -> (Box<dyn Wire>, bool)
-                ensures { 0 < length piece.now → PutIs result.1 piece.now (wire_told w) (wire_told result.0) }
-            { put(w, piece) },
-            flush: |w: Box<dyn Wire>| -> (Box<dyn Wire>, bool)
-                ensures { FlushIs result.1 (wire_told w) (wire_told result.0) }
-            { flush(w) },
-        },
-    );
-    match served {
-        Ok(served) => Ok(served),
-        Err(back) => Err(back),
-    }
+    serve_inputs(rt, alloc, sizes, workers, sources, wires, gate, &Boxed)
 }

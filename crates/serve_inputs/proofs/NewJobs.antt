@@ -1,5 +1,5 @@
 -- Sessions that wait for a worker.
-use Rattle.std.proofs.Common.{◌≡◌, ℕ, Bool, [], Option, Some, None, Result, refl, sym, subst}
+use Rattle.std.proofs.Common.{◌≡◌, ℕ, Bool, [], Option, Some, None, Result, sym, subst}
 use Rattle.pin_core.specs.declared.sizes.Sizes.{Sizes}
 use Rattle.pinned_pool.specs.declared.view.View.{View}
 use Rattle.reply_planner.specs.Parcels.{Sent}

@@ -1,15 +1,14 @@
--- What is taken out of a list and goes back, and seats that become one.
+-- What takes a place in a list, and seats that become one.
 use Rattle.std.proofs.Common.{◌≡◌, ℕ, ◌+◌, ◌*◌, ◌<◌, List, [], ◌∷◌, ◌++◌, Option, Some, None, All}
-use Rattle.std.proofs.Common.{map, length, suc, zero, IfSome, IfNone, refl, ap, sym, ◌∙◌, subst, arith, length-append}
-use Rattle.std.specs.Prelude.{slice_index_or, take, drop}
-use Rattle.std.specs.List.{AllZip, insert, remove}
+use Rattle.std.proofs.Common.{map, length, IfSome, refl, ap, sym, ◌∙◌, subst, arith, length-append}
+use Rattle.std.specs.Prelude.{slice_index_or, slice_set}
+use Rattle.std.specs.List.{insert}
 use Rattle.std.proofs.lemmas.List.Elements.{All-head, All-tail, All-cons}
-use Rattle.view_sums.specs.Total.{total, same, Each}
+use Rattle.view_sums.specs.Total.{same, Each}
 use Rattle.view_sums.proofs.Sums.{total-append}
 use Rattle.std.proofs.lemmas.List.{length-map}
 use Rattle.pin_core.specs.declared.sizes.Sizes as pool
 use Rattle.pinned_pool.specs.Moves.{joined_views}
-use Rattle.pinned_pool.specs.Views.{looked_at}
 use Rattle.pinned_pool.specs.declared.view.View.{View}
 use Rattle.serve_model.specs.Seats.{HasAll, IsSpare}
 use Rattle.serve_model.proofs.Seats.{joins_add}
@@ -20,24 +19,16 @@ use Rattle.serve_inputs.specs.Orders.{DumpRequest, IsUnasked, IsFirstAsked}
 use Rattle.serve_inputs.specs.declared.orders.Order.{Order}
 
 module _ {X : Type 0} where
-  -- what was taken out goes back
-  pub back_again : (xs : List X) (i : ℕ) (x : X) → i < length xs → x ≡ slice_index_or xs i x
-      → xs ≡ insert (remove xs i) i x
-  back_again [] i x less is = absurd (omega (arith, less))
-  back_again (y ∷ ys) zero x less is = ap (λ (z : X). z ∷ ys) (sym is)
-  back_again (y ∷ ys) (suc i) x less is = ap (λ (l : List X). y ∷ l) (back_again ys i x (omega (arith, less)) is)
-
   pub insert_behind : (xs ys : List X) (x : X) → insert (xs ++ ys) (length xs) x ≡ xs ++ x ∷ ys
   insert_behind [] ys x = refl
   insert_behind (y ∷ xs) ys x = ap (λ (l : List X). y ∷ l) (insert_behind xs ys x)
 
-  -- what holds of all holds still, where it holds of the one that went in
-  pub first_all : (xs ys zs : List X) (x z : X) (Q : X → Type 0) → 0 < length xs → x ≡ slice_index_or xs 0 x
-      → ys ≡ remove xs 0 → zs ≡ insert ys 0 z → All Q xs → (Q x → Q z) → All Q zs
-  first_all [] ys zs x z Q less is out back all each = absurd (omega (arith, less))
-  first_all (y ∷ xs) ys zs x z Q less is out back all each =
-      subst (All Q) (sym (back ∙ ap (λ (l : List X). insert l 0 z) out))
-      (All-cons Q z xs (each (subst Q (sym is) (All-head Q y xs all))) (All-tail Q y xs all))
+  -- what holds of all holds still, where it holds of the one that is put in the first's place
+  pub first_all : (xs : List X) (x z : X) (Q : X → Type 0) → 0 < length xs → x ≡ slice_index_or xs 0 x → All Q xs
+      → (Q x → Q z) → All Q (slice_set xs 0 z)
+  first_all [] x z Q less is all each = absurd (omega (arith, less))
+  first_all (y ∷ xs) x z Q less is all each =
+      All-cons Q z xs (each (subst Q (sym is) (All-head Q y xs all))) (All-tail Q y xs all)
 
   module _ {P W : Type 0} (f : X → DumpRequest P W) where
     each_unasked : (xs : List X) → All (λ (x : X). (f x).0 ≡ None) xs → Each IsUnasked (map f xs)
@@ -52,13 +43,12 @@ module _ {X : Type 0} where
     none_asked order xs none all =
         subst (λ (o : Option (Order P W)). IsFirstAsked o (map f xs)) (sym none) (each_unasked xs all)
 
-    pub first_asked : (order : Option (Order P W)) (own : Order P W) (xs ys zs : List X) (z : X) → order ≡ Some own
-        → 0 < length xs → ys ≡ remove xs 0 → zs ≡ insert ys 0 z → All (λ (x : X). (f x).0 ≡ None) xs
-        → f z ≡ (Some own.plan, Some own.wire) → IsFirstAsked order (map f zs)
-    first_asked order own [] ys zs z order_is less out back all asked = absurd (omega (arith, less))
-    first_asked order own (y ∷ xs) ys zs z order_is less out back all asked =
-        subst (λ (q : Option (Order P W) × List X). IsFirstAsked q.0 (map f q.1))
-        (λ i. (sym order_is i, sym (back ∙ ap (λ (l : List X). insert l 0 z) out) i))
+    pub first_asked : (order : Option (Order P W)) (own : Order P W) (xs : List X) (z : X) → order ≡ Some own
+        → 0 < length xs → All (λ (x : X). (f x).0 ≡ None) xs → f z ≡ (Some own.plan, Some own.wire)
+        → IsFirstAsked order (map f (slice_set xs 0 z))
+    first_asked order own [] z order_is less all asked = absurd (omega (arith, less))
+    first_asked order own (y ∷ xs) z order_is less all asked =
+        subst (λ (o : Option (Order P W)). IsFirstAsked o (map f (z ∷ xs))) (sym order_is)
         (asked, each_unasked xs (All-tail (λ (x : X). (f x).0 ≡ None) y xs all))
 
   module _ {Y : Type 0} where
@@ -70,13 +60,6 @@ module _ {X : Type 0} where
     pub stays : {Z : Type 0} (xs ys : List X) (h : X → Y) (f : Y → Z) → map h xs ≡ map h ys
         → map (λ (x : X). f (h x)) xs ≡ map (λ (x : X). f (h x)) ys
     stays xs ys h f is = through h f xs ∙ ap (map f) is ∙ sym (through h f ys)
-
-    -- the first item was taken out, and one that has the same part went in
-    pub first_again : (xs ys : List X) (x z : X) (h : X → Y) → 0 < length xs → x ≡ slice_index_or xs 0 x
-        → ys ≡ insert (remove xs 0) 0 z → h z ≡ h x → map h ys ≡ map h xs
-    first_again [] ys x z h less is went same_part = absurd (omega (arith, less))
-    first_again (y ∷ xs) ys x z h less is went same_part =
-        ap (map h) went ∙ ap (λ (v : Y). v ∷ map h xs) (same_part ∙ ap h is)
 
 -- a seat that was split off for a dump can keep the values of a pool of these sizes
 pub can_keep : {P W : Type 0} (order : Option (Order P W)) (count : ℕ) (sizes : RunSizes) (z : pool.Sizes) (shards : ℕ)

@@ -75,12 +75,9 @@ pub(crate) fn ask_first<N: BookName, P: PoolName + Send, S: Source + Drop, W: Dr
         return;
     };
     let Order { plan, wire } = order;
-    let mut job = jobs.remove(0);
+    let job = &mut jobs[0];
     job.link.dump = DumpTurn::new(alloc, Some(plan));
     job.dump_wire = Some(wire);
-    let Ok(()) = jobs.insert(0, job) else {
-        unreachable!()
-    };
 }
 
 /// What came of the first session's dump.
@@ -91,15 +88,8 @@ pub(crate) fn first_dumped<N: BookName, P: PoolName, S: Source + Drop, W: Drop>(
     ensures accounts { map (λ d. d.account) dones.new.items ≡ map (λ d. d.account) dones.old.items }
     ensures wires { map (λ d. d.wire) dones.new.items ≡ map (λ d. d.wire) dones.old.items }
 {
-    if dones.is_empty() {
-        return None;
-    }
-    let mut done = dones.remove(0);
-    let dumped = done.dump.take();
-    let Ok(()) = dones.insert(0, done) else {
-        unreachable!()
-    };
-    dumped
+    let done = dones.first_mut()?;
+    done.dump.take()
 }
 
 /// The seat goes back into the main one, and the wire behind those of so many sessions.

@@ -45,7 +45,7 @@ pub fn serve_all<
         done.account.pump done.wire done.dump) jobs.items dones.items) }
     ensures back { IfErr result (λ back. back ≡ jobs) }
 {
-    let served = jobs_in_workers(
+    jobs_in_workers(
         rt,
         alloc,
         jobs,
@@ -59,11 +59,7 @@ pub fn serve_all<
                 job.link.dump.plan job.wire job.dump_wire result.account.end result.account.sent result.account.mine
                 result.account.seat result.account.pump result.wire result.dump }
         { serve_job(rt, alloc, shop, job, gate, calls) },
-    );
-    match served {
-        Ok(dones) => Ok(dones),
-        Err(back) => Err(back),
-    }
+    )
 }
 
 // Puts a dump that was taken on its wire, and gives its holds back.

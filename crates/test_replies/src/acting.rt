@@ -1,9 +1,8 @@
 //! Acts of a session and its device, each told as a line.
 ghost use Rattle.std.specs.Prelude.{◌≡◌, ◌+◌, ◌<◌, ◌≤◌};
 
-use super::putting::{Counted, flush, put};
+use super::putting::{Counted, Counting};
 use super::resources::{RunResources, close, open_resources};
-use any_wire::Calls;
 use command_exec::Shop;
 use command_parts::Command;
 use device_model::{Device, Gathered};
@@ -174,7 +173,7 @@ fn reap_next<N: BookName, P: PoolName + Send>(
 // The only gather. It has no clauses.
 fn gather_next<P: PoolName + Send>(pool: &Pool<P>, far: Far<P>) -> (Far<P>, Gathered) {
     let Far { mut device, wire } = far;
-    let (wire, gathered) = device.gather(pool, wire, &Calls { put, flush });
+    let (wire, gathered) = device.gather(pool, wire, &Counting);
     (Far { device, wire }, gathered)
 }
 

@@ -1,4 +1,7 @@
 //! A wire in memory that counts its flushes, and bytes for it.
+ghost use Rattle.std.specs.Prelude.{⊤};
+
+use any_wire::WireCalls;
 use flake_base::{Fails, Memory, MemoryWire, Wire};
 use std::alloc::Global;
 
@@ -32,20 +35,34 @@ impl Counted {
     }
 }
 
-pub fn put(counted: Counted, piece: &[u8]) -> (Counted, bool) {
-    let mut counted = counted;
-    if piece.is_empty() {
-        return (counted, false);
-    }
-    let failed = counted.wire.put(piece).is_err();
-    (counted, failed)
-}
+/// How bytes come onto a counted wire; nothing is said of it.
+#[derive(Drop)]
+pub struct Counting;
 
-pub fn flush(counted: Counted) -> (Counted, bool) {
-    let mut counted = counted;
-    counted.flushes = counted.flushes.saturating_add(1);
-    let failed = counted.wire.flush().is_err() || counted.holds_back;
-    (counted, failed)
+impl WireCalls<Counted> for Counting {
+    ghost can_put = { λ _. ⊤ };
+
+    ghost can_flush = { λ _. ⊤ };
+
+    ghost put_may = { λ _ _ _ _. ⊤ };
+
+    ghost flush_may = { λ _ _ _. ⊤ };
+
+    fn put(&self, counted: Counted, piece: &[u8]) -> (Counted, bool) {
+        let mut counted = counted;
+        if piece.is_empty() {
+            return (counted, false);
+        }
+        let failed = counted.wire.put(piece).is_err();
+        (counted, failed)
+    }
+
+    fn flush(&self, counted: Counted) -> (Counted, bool) {
+        let mut counted = counted;
+        counted.flushes = counted.flushes.saturating_add(1);
+        let failed = counted.wire.flush().is_err() || counted.holds_back;
+        (counted, failed)
+    }
 }
 
 /// So many bytes, which repeat after 251.

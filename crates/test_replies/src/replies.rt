@@ -3,8 +3,7 @@ ghost use Rattle.std.specs.Prelude.{◌≡◌, ◌<◌, ◌≤◌, IfOk};
 ghost use Rattle.frag_value.specs.Values.{HasValue};
 
 use super::making::{Made, SessionSlot, make_line, make_range, open_session_slot};
-use super::putting::{Counted, flush, put, sample};
-use any_wire::Calls;
+use super::putting::{Counted, Counting, sample};
 use device_model::{Device, Gathered};
 use flake_base::Memory;
 use frag_value::{VALUE_LIMIT, Value, release, write};
@@ -113,7 +112,7 @@ fn gather_replaced<N: PoolName + Send>(
         return Err(Memory);
     };
     let mut device = Device::open(end);
-    let (wire, found) = device.gather(pool, wire, &Calls { put, flush });
+    let (wire, found) = device.gather(pool, wire, &Counting);
     let Some(parcel) = driver.reap() else {
         return Err(Memory);
     };
@@ -146,15 +145,15 @@ fn gather_rest<N: PoolName + Send>(
     let Ok(()) = driver.post(line) else {
         return Err(Memory);
     };
-    let (wire, second) = device.gather(pool, wire, &Calls { put, flush });
-    let (wire, third) = device.gather(pool, wire, &Calls { put, flush });
+    let (wire, second) = device.gather(pool, wire, &Counting);
+    let (wire, third) = device.gather(pool, wire, &Counting);
     let Some(_) = driver.reap() else {
         return Err(Memory);
     };
     let Ok(_) = driver.close() else {
         return Err(Memory);
     };
-    let (wire, fourth) = device.gather(pool, wire, &Calls { put, flush });
+    let (wire, fourth) = device.gather(pool, wire, &Counting);
     Ok(([second, third, fourth], device.failed(), wire))
 }
 

@@ -2,8 +2,7 @@
 ghost use Rattle.std.specs.Prelude.{◌≡◌, ◌≤◌};
 
 use super::making::{SessionSlot, make_line, open_session_slot};
-use super::putting::{Counted, flush, put};
-use any_wire::Calls;
+use super::putting::{Counted, Counting};
 use device_model::{Device, Gathered};
 use flake_base::Memory;
 use pinned_pool::{Pool, PoolBlank, PoolName};
@@ -66,7 +65,7 @@ fn gather_all<N: PoolName + Send>(
     mut wire: Counted,
 ) -> Counted {
     for _ in 0..1u64 << 40 {
-        let (after, found) = device.gather(pool, wire, &Calls { put, flush });
+        let (after, found) = device.gather(pool, wire, &Counting);
         wire = after;
         if found == Gathered::Closed {
             break;

@@ -2,9 +2,8 @@
 ghost use Rattle.std.specs.Prelude.{◌≡◌, ◌+◌, []};
 ghost use Rattle.run_resources.specs.Opened.{HasRunSizes, IsPool, IsBook};
 
-use super::common::{Watched, flush, put, source, tell, wires_of};
+use super::common::{Watched, Watching, source, tell, wires_of};
 use crate::checks::equal;
-use any_wire::Calls;
 use command_exec::Shop;
 use command_pump::Pump;
 use flake_base::MemorySource;
@@ -90,15 +89,7 @@ fn serve_named<R: Threads + Wait + Sync, N: BookName, P: PoolName + Send + Sync>
         dump: DumpTurn::new(alloc, None),
         mtu: None,
     };
-    let (wire, account) = serve_beside(
-        rt,
-        alloc,
-        &shop,
-        link,
-        &NoGate,
-        wire,
-        &Calls { put, flush },
-    );
+    let (wire, account) = serve_beside(rt, alloc, &shop, link, &NoGate, wire, &Watching);
     close_one(alloc, pool, book, store, main, account, wire)
 }
 

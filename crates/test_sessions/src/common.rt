@@ -1,6 +1,7 @@
 //! Sources of requests, wires that are watched, and what is left of sessions as text.
-ghost use Rattle.std.specs.Prelude.{◌≡◌, [], IfOk};
+ghost use Rattle.std.specs.Prelude.{◌≡◌, [], IfOk, ⊤};
 
+use any_wire::WireCalls;
 use flake_base::{Bytes, End, Fails, Journal, MemorySource, MemoryWire, SessionEnd, Wire};
 use pinned_pool::Held;
 use std::alloc::Global;
@@ -48,21 +49,35 @@ pub fn wires_of(alloc: Global, count: usize, fails: Option<u64>) -> Result<Vec<W
     Ok(wires)
 }
 
-pub fn put(watched: Watched, piece: &[u8]) -> (Watched, bool) {
-    let mut watched = watched;
-    if piece.is_empty() {
-        return (watched, false);
-    }
-    watched.flushed = false;
-    let failed = watched.wire.put(piece).is_err();
-    (watched, failed)
-}
+/// How bytes come onto a watched wire; nothing is said of it.
+#[derive(Drop)]
+pub struct Watching;
 
-pub fn flush(watched: Watched) -> (Watched, bool) {
-    let mut watched = watched;
-    watched.flushed = true;
-    let failed = watched.wire.flush().is_err();
-    (watched, failed)
+impl WireCalls<Watched> for Watching {
+    ghost can_put = { λ _. ⊤ };
+
+    ghost can_flush = { λ _. ⊤ };
+
+    ghost put_may = { λ _ _ _ _. ⊤ };
+
+    ghost flush_may = { λ _ _ _. ⊤ };
+
+    fn put(&self, watched: Watched, piece: &[u8]) -> (Watched, bool) {
+        let mut watched = watched;
+        if piece.is_empty() {
+            return (watched, false);
+        }
+        watched.flushed = false;
+        let failed = watched.wire.put(piece).is_err();
+        (watched, failed)
+    }
+
+    fn flush(&self, watched: Watched) -> (Watched, bool) {
+        let mut watched = watched;
+        watched.flushed = true;
+        let failed = watched.wire.flush().is_err();
+        (watched, failed)
+    }
 }
 
 fn tell_end(text: &mut String, end: End) -> Result<(), Fail> {

@@ -1,9 +1,8 @@
 //! Sources that are driven by a schedule, and lines of a transcript.
 ghost use Rattle.std.specs.Prelude.{◌≡◌, []};
 
-use super::common::{Watched, flush, put, source, tell, wires_of};
+use super::common::{Watched, Watching, source, tell, wires_of};
 use crate::checks::{equal, holds};
-use any_wire::Calls;
 use drive_inputs::{drive_inputs, held_line};
 use drive_script::LineRoom;
 use flake_base::{Fails, Files, MemoryHost, MemorySource};
@@ -44,16 +43,7 @@ fn driven<R: Wait>(
     };
     let schedule = read_schedule(alloc, schedule.as_bytes(), count as u16)?;
     let lines = schedule.as_slice();
-    let Ok(driven) = drive_inputs(
-        rt,
-        alloc,
-        &sizes,
-        lines,
-        sources,
-        wires,
-        host,
-        &Calls { put, flush },
-    ) else {
+    let Ok(driven) = drive_inputs(rt, alloc, &sizes, lines, sources, wires, host, &Watching) else {
         return Err(Fail::from("memory is wanting"));
     };
     let (ends, wires) = (driven.ends.as_slice(), driven.wires.as_slice());

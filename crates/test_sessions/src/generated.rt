@@ -1,7 +1,6 @@
 //! Requests that are generated from a number.
-use super::common::{flush, put, wires_of};
+use super::common::{Watching, wires_of};
 use crate::checks::equal;
-use any_wire::Calls;
 use command_line::GenTask;
 use flake_base::{Bytes, Source};
 use serve_generated::{InputSource, serve_generated};
@@ -31,7 +30,7 @@ fn generated<R: Threads + Wait + Sync>(
     {
         return Err(Fail::from("too few or too many"));
     }
-    let Ok(served) = serve_generated(rt, alloc, task, wires, &NoGate, &Calls { put, flush }) else {
+    let Ok(served) = serve_generated(rt, alloc, task, wires, &NoGate, &Watching) else {
         return Err(Fail::from("it is refused"));
     };
     let (mut replies, mut bytes, mut on_wires) = (0u64, 0u64, 0usize);

@@ -1,9 +1,8 @@
 //! Several sources, from nothing to nothing.
 ghost use Rattle.std.specs.Prelude.{◌≡◌, []};
 
-use super::common::{Watched, flush, put, source, tell, wires_of};
+use super::common::{Watched, Watching, source, tell, wires_of};
 use crate::checks::equal;
-use any_wire::Calls;
 use flake_base::MemorySource;
 use serve_inputs::{RunSizes, serve_inputs};
 use session_pass::NoGate;
@@ -40,14 +39,7 @@ fn served<R: Threads + Wait + Sync>(
         mtu: None,
     };
     let Ok(served) = serve_inputs(
-        rt,
-        alloc,
-        &sizes,
-        workers,
-        sources,
-        wires,
-        &NoGate,
-        &Calls { put, flush },
+        rt, alloc, &sizes, workers, sources, wires, &NoGate, &Watching,
     ) else {
         return Err(Fail::from("memory is wanting"));
     };

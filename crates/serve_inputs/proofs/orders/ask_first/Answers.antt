@@ -1,4 +1,4 @@
-use Rattle.std.proofs.Common.{◌≡◌, Some, IfSome, subst}
+use Rattle.std.proofs.Common.{Some, IfSome, subst}
 use Rattle.session_serve.specs.Dumps.{CanKeepAll}
 use Rattle.serve_inputs.specs.Jobs.{IsNewJob}
 use Rattle.serve_inputs.proofs.NewJobs.{asked_job}
@@ -15,15 +15,14 @@ returns-clause-fresh g c =
     let z = g.P.PoolName.sizes in
     let shards = g.N.BookName.sizes.shards in
     let can = subst (λ order. IfSome order (λ o. CanKeepAll z shards o.plan.seat)) c.in-Some.is c.requires.order in
-    first_all c.args.jobs.now.items c.remove-job.new.self.items c.insert.new.self.items c.remove-job.result _
+    first_all c.args.jobs.now.items c.index_mut-job.result.now _
     (λ job. IsNewJob z shards job.link.session job.link.pump job.link.device.end job.link.device.failed
-    job.link.mtu job.link.dump.plan job.link.dump.taken job.dump_wire) c.requires.one c.remove-job.ensures.value
-    c.remove-job.ensures.items c.in-Ok.ensures.items c.requires.fresh
+    job.link.mtu job.link.dump.plan job.link.dump.taken job.dump_wire) c.requires.one c.index_mut-job.ensures.value
+    c.requires.fresh
     (λ is. asked_job z shards _ _ _ _ _ _ _ _ _ _ c.in-Some.order.plan c.in-Some.order.wire is can c.new.ensures.plan
     c.new.ensures.taken)
 
 pub returns-clause-asked : goal.returns-clause-asked
 returns-clause-asked g c =
     first_asked (λ job. (job.link.dump.plan, job.dump_wire)) c.args.order c.in-Some.order c.args.jobs.now.items
-    c.remove-job.new.self.items c.insert.new.self.items _ c.in-Some.is c.requires.one c.remove-job.ensures.items
-    c.in-Ok.ensures.items c.requires.unasked (λ i. (c.new.ensures.plan i, Some c.in-Some.order.wire))
+    _ c.in-Some.is c.requires.one c.requires.unasked (λ i. (c.new.ensures.plan i, Some c.in-Some.order.wire))
